@@ -19,11 +19,11 @@ fn are_smoke(rows: &[Row], count: usize) -> bool {
 /// A change, the clock, and how many rows come and go.
 type Step = (GateChange, i64, usize, usize);
 
-/// The gate behind a step, and whether the rows came and went that were to.
-fn stepped(alloc: Global, gate: Gate, step: &Step) -> Result<(Gate, bool), NoMemory> {
-    let (gate, delta) = gate.step(alloc, &step.0, step.1)?;
+/// Whether the rows come and go that are to, where a gate takes a step.
+fn agrees(alloc: Global, gate: &mut Gate, step: &Step) -> Result<bool, NoMemory> {
+    let delta = gate.turn(alloc, &step.0, step.1)?;
     let (come, gone) = (delta.come.as_slice(), delta.gone.as_slice());
-    Ok((gate, are_smoke(come, step.2) && are_smoke(gone, step.3)))
+    Ok(are_smoke(come, step.2) && are_smoke(gone, step.3))
 }
 
 const STEPS: &[Step] = &[
@@ -36,9 +36,7 @@ const STEPS: &[Step] = &[
 fn a_fact_leaves_a_window_of_time_with_the_clock(rt: HostRuntime) -> Result<(), Fail> {
     let mut gate = Gate::new(rt.alloc(), WindowKind::Time(10));
     for step in STEPS {
-        let (next, agrees) = stepped(rt.alloc(), gate, step)?;
-        assert!(rt; agrees, "{:?}", step.0);
-        gate = next;
+        assert!(rt; agrees(rt.alloc(), &mut gate, step)?, "{:?}", step.0);
     }
     Ok(())
 }

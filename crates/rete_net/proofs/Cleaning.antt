@@ -1,5 +1,5 @@
 -- Rows that name no forgotten fact, and what conditions make of them.
-use Rattle.rete_net.proofs.Common.{◌≡◌, ◌∙◌, sym, ap, refl, subst, ℤ, ◌&&◌, not, Bool, true, false, List, [], ◌∷◌, Option, Some, None, fun_ext, and-true, and-false, and_assoc, filter, list_any, Fact, Named, Row, same_equiv, has, Condition, Plain, Negated, Existing, Folded, Program, Rule, rows, Snapshot, joins, joined, clean, cleaned, either, remembered, no_names, unvalued, splits_value, row_decides, from_unvalued, joined_clean, clean_either, gives, is_ripe, line, held, candidates_of, has_partner, filter_all, RuleChange, CountsNone, AreNotNeeded, clean_rows, AreBetween}
+use Rattle.rete_net.proofs.Common.{◌≡◌, ◌∙◌, sym, ap, refl, ℤ, ◌&&◌, not, Bool, true, false, List, [], ◌∷◌, Option, Some, None, fun_ext, and-false, and_assoc, filter, list_any, Named, Row, same_equiv, has, Condition, Plain, Negated, Existing, Folded, Program, rows, Snapshot, joins, joined, clean, cleaned, either, remembered, no_names, unvalued, splits_value, row_decides, from_unvalued, joined_clean, clean_either, gives, is_ripe, line, held, candidates_of, has_partner, filter_all}
 use Rattle.std.proofs.lemmas.Map.Made.{is_member-filter}
 use Rattle.pair_memory.specs.Valued.{valued}
 

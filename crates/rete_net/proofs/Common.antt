@@ -1,13 +1,13 @@
 -- Names from modules that two proofs and more cite, passed on from one place. Declares nothing.
 pub use Rattle.std.proofs.Common.{◌≡◌, ◌∙◌, sym, ap, Some, slice_get, List, length, subst, ℕ, refl, true, [], ◌<◌, arith, false, Option, ◌∷◌, Bool, None, ◌++◌, take, ◌≤◌, ◌+◌, inl, inr, suc, zero, ℤ, not, ◌&&◌, ◌||◌, cond, get_or, ◌==◌, ◌-◌, ◌⊎◌, ◌^◌, ◌≤ℤ◌, map, nat_lt, length-append, pos, w64, SFits, append-nil, of_z, to_z, to_z-of_z, Err, rules, ◌<ℤ◌, drop, nat_eq, zero-add, ◌+ℤ◌, Bor, FitsSigned, IfSome, int_lt, nat_le, ◌-ℤ◌, IsTrue, Ok, Result, add-one, is_lt, negsuc, option_to_list, ◌/◌}
-pub use Rattle.std.proofs.Math.Bool.{and-false, and_assoc, or-true, and-true, or-false}
+pub use Rattle.std.proofs.Math.Bool.{and-false, and_assoc, or-true, or-false}
 pub use Rattle.std.proofs.Math.ListN.{set, length-set, drop_of_length-le}
 pub use Rattle.std.proofs.Math.Seq.{get_or-append_seam, take-append_seam}
 pub use Rattle.std.proofs.lemmas.Bool.Decides.{nat_tests, Decides-eqb, same_from_decides}
 pub use Rattle.std.proofs.lemmas.Int.{ints}
 pub use Rattle.std.proofs.lemmas.List.{take_all, take_more, get_or-take, length-take-le, take-append-le, append_assoc, get_or_append_left, length-take, length_push, take_rest}
 pub use Rattle.std.proofs.lemmas.Option.{slice_get_within, slice_get-get_or, get_or_from_slice_get}
-pub use Rattle.std.specs.BTreeMap.{get, Updates, is_at}
+pub use Rattle.std.specs.BTreeMap.{get, Updates, is_at, BTreeMap}
 pub use Rattle.std.specs.Cmp.{IsTotalOrder, eq_by_cmp_equiv, nat_cmp_is, nat_cmp_total}
 pub use Rattle.std.specs.Global.{Vec}
 pub use Rattle.std.specs.Int.{w128}
@@ -36,7 +36,7 @@ pub use Rattle.condition_rows.proofs.Naming.{rows_named}
 pub use Rattle.condition_rows.specs.Lines.{line, empty_row, gives, is_ripe, is_empty_row, is_result}
 pub use Rattle.condition_rows.specs.Looks.{HasAllOf, NameHeld, empty_snapshot}
 pub use Rattle.condition_rows.specs.Sets.{candidates_of, held, rows_of, has_partner, candidate_names}
-pub use Rattle.fan_join.specs.Fans.{AreBeside, IsEmpty, IsMemberTurned}
+pub use Rattle.fan_join.specs.Fans.{AreBeside, IsEmpty, IsMemberTurned, delta_of, IsReached}
 pub use Rattle.fan_join.specs.Turns.{AreNamesTurned}
 pub use Rattle.fx_base.specs.Lists.{In}
 pub use Rattle.fx_base.specs.declared.fact.Fact.{Fact}
@@ -68,7 +68,7 @@ pub use Rattle.pattern_gate.specs.declared.gate.PatternGate.{PatternGate}
 pub use Rattle.rete_net.specs.Answers.{answer_in, left_given, AreRuled, IsPut, some_answer, given}
 pub use Rattle.rete_net.specs.Building.{AreGrown, IsParent, HaveEnds, AreBuilt, AreDistinct, IsBehind, AreFronts}
 pub use Rattle.rete_net.specs.Dropped.{NodeForgets, AreListed, rows_for, IsForgetting, AreDue, ForgotBelow, HasNoOld, dropped_before, AreDropped, AreOld, HaveForgotten, dropped_at, with_rows}
-pub use Rattle.rete_net.specs.Fans.{AreFans, member_at, shown_nodes, Member, showing, AreRowsTurned, IsLaidAs, seat_at, IsHalf, IsLeft, half_at, with_fans, IsOf, half_of, in_fan, member_of, given_span, half_in, AreNamesTurnedAt, IsFanLike, with_member, AreEmpty, IsHalfTurned, IsInSpan, IsSeat, given_half, given_seat, shown}
+pub use Rattle.rete_net.specs.Fans.{AreFans, member_at, shown_nodes, Member, showing, AreRowsTurned, IsLaidAs, seat_at, IsHalf, IsLeft, half_at, with_fans, IsOf, half_of, in_fan, member_of, given_span, half_in, AreNamesTurnedAt, IsFanLike, with_member, AreEmpty, IsHalfTurned, IsInSpan, IsSeat, given_seat, shown, AreWoken, AreLoneFound, AreFansBelow}
 pub use Rattle.rete_net.specs.Forgetting.{AreNotNeeded, CountsNone, less_fact, IsUnmissed}
 pub use Rattle.rete_net.specs.Indexes.{is_listed, IsFound, IsIndexOf, is_timed, is_in, items_of, type_of, IsAskedWhereMeant}
 pub use Rattle.rete_net.specs.Loading.{IsLoadable, AreLadenRows, IsThere, coming}
@@ -94,6 +94,7 @@ pub use Rattle.rete_net.specs.declared.fans.Seat.{Seat}
 pub use Rattle.rete_net.specs.declared.fans.Span.{Span}
 pub use Rattle.rete_net.specs.declared.forgetting.RuleRows.{RuleRows}
 pub use Rattle.rete_net.specs.declared.index.Index.{Index}
+pub use Rattle.rete_net.specs.declared.lists.Lists.{Lists}
 pub use Rattle.rete_net.specs.declared.load.LoadFault.TheVariants.{NoRow}
 pub use Rattle.rete_net.specs.declared.net.Rete.{Rete}
 pub use Rattle.rete_net.specs.declared.node.NetNode.{NetNode}
@@ -139,7 +140,7 @@ pub use Rattle.tally_node.specs.Extras.{extra_for, rows_of_extras}
 pub use Rattle.tally_node.specs.Gathers.{gathers}
 pub use Rattle.tally_node.specs.Laws.{ForgottenStay, StandsCounted, all_passing}
 pub use Rattle.window_gate.proofs.Insides.{differ_after, inside_whole}
-pub use Rattle.window_gate.specs.Standing.{Stands, Keeps, window_kept, KeepsTime, TagsDiffer, window_of, with_tag}
+pub use Rattle.window_gate.specs.Standing.{Stands, Keeps, window_kept, KeepsTime, TagsDiffer, window_of, with_tag, Holds}
 pub use Rattle.window_gate.specs.Windows.{Arrival, rows_inside, named_of, has_tag, inside, single}
 pub use Rattle.window_gate.specs.declared.gate.Kept.{Kept}
 pub use mathlib.Core.Path.{fun_ext}

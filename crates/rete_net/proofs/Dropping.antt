@@ -1,5 +1,5 @@
 -- The nodes of a network forget, one after those before it.
-use Rattle.rete_net.proofs.Common.{◌≡◌, ◌∙◌, sym, ap, refl, subst, inl, inr, ℕ, zero, suc, ℤ, ◌<◌, ◌&&◌, not, Bool, true, false, List, [], ◌∷◌, ◌++◌, take, length, arith, Option, Some, None, slice_get, get_or-take, slice_get_within, In, Named, Row, has, Condition, Program, Rule, HaveDistinctTags, pattern_of, Snapshot, Look, clean, cleaned, either, empty_row, HasAllOf, candidates_of, rows_of, has_in, has_good_window, at_clock, condition_of, IsBefore, AreFans, shown_nodes, RuleRows, Rete, NetNode, AreOld, IsForgetting, NodeForgets, dropped_at, dropped_before, ForgotBelow, rows_for, AreDropped, Answered, some_answer, answer_in, IsIndexOf, AreOwners, HaveSame, NodesStand, NetStands, NetNodeStands, AreScheduled, before, EndsAt}
+use Rattle.rete_net.proofs.Common.{◌≡◌, ◌∙◌, sym, ap, refl, subst, inl, inr, ℕ, zero, suc, ℤ, ◌<◌, ◌&&◌, not, Bool, true, false, List, [], ◌∷◌, ◌++◌, take, length, arith, Option, Some, None, slice_get, get_or-take, slice_get_within, In, Named, Row, has, Condition, Program, Rule, HaveDistinctTags, pattern_of, Snapshot, Look, clean, cleaned, either, empty_row, HasAllOf, candidates_of, rows_of, has_in, has_good_window, at_clock, condition_of, IsBefore, AreFans, shown_nodes, RuleRows, Rete, NetNode, AreOld, IsForgetting, NodeForgets, dropped_at, dropped_before, ForgotBelow, rows_for, AreDropped, Answered, some_answer, answer_in, IsIndexOf, AreOwners, HaveSame, NodesStand, NetStands, NetNodeStands, AreScheduled, before}
 use Rattle.std.specs.List.Sorted.{IsStrictlySortedBy}
 use Rattle.rete_net.specs.Answers.{given as kept}
 use Rattle.rete_net.proofs.Advancing.{first_row, rows_made}

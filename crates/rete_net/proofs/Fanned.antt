@@ -1,7 +1,8 @@
 -- One fan of others turns: its rows, or the candidates of one member.
-use Rattle.rete_net.proofs.Common.{◌≡◌, ◌∙◌, sym, ap, refl, subst, ℕ, ◌+◌, ◌<◌, ◌≤◌, arith, List, [], ◌∷◌, length, Option, Some, None, slice_get, inl, inr, true, false, zero, suc, nat_lt, set, slice_get_within, get, is_at, Updates, nat_tests, are_none, IsDifference, Vec, option_map, nat_cmp, Delta, Named, Row, Look, Pattern, row_key, Candidates, beside, made, AreBeside, IsMemberTurned, AreNamesTurned, Fan, Fans, Seat, Span, NetNode, given_half, given_span, half_at, half_in, in_fan, member_of, AreFans, AreNamesTurnedAt, AreRowsTurned, IsFanLike, IsHalf, IsInSpan, IsLaidAs, IsLeft, Member}
+use Rattle.rete_net.proofs.Common.{◌≡◌, ◌∙◌, sym, ap, refl, subst, ℕ, ◌+◌, ◌<◌, ◌≤◌, arith, List, [], ◌∷◌, length, Option, Some, None, slice_get, inl, inr, true, false, zero, suc, nat_lt, set, slice_get_within, get, is_at, Updates, nat_tests, are_none, IsDifference, Vec, option_map, nat_cmp, Delta, Named, Row, Look, Pattern, row_key, Candidates, beside, made, AreBeside, IsMemberTurned, AreNamesTurned, Fan, Fans, Seat, Span, NetNode, given_span, half_at, half_in, in_fan, member_of, AreFans, AreNamesTurnedAt, AreRowsTurned, IsFanLike, IsHalf, IsInSpan, IsLaidAs, IsLeft, Member, Bool, BTreeMap, delta_of, IsReached, has_place, no_change, is_in, nat_eq, cond, or-true, ◌||◌}
 use Rattle.fan_join.specs.declared.fan.FanJoin.{FanJoin}
-use Rattle.fan_join.specs.Fans.{AreRowsTurned as JoinTurned}
+use Rattle.std.specs.Map.{keys_of, lookup}
+use Rattle.fan_join.specs.Fans.{given_delta, AreRowsTurned as JoinTurned}
 use Rattle.rete_net.proofs.Fanning.{laid_same, laid_then}
 use Rattle.rete_net.proofs.Growing.{both_at, has_at}
 use Rattle.rete_net.proofs.Siblings.{half_none}
@@ -28,7 +29,7 @@ module _ (list : List Fan) (f : ℕ) (old new : Fan) (at : slice_get list f ≡ 
   ]
     where
       like_itself : (x y : Fan) → x ≡ y → IsFanLike x y
-      like_itself x y same = subst (IsFanLike x) same (record { parent = refl; places = refl; key = refl; many = refl; patterns = λ m c d e g. ap (λ (z : Candidates). z.pattern) (both_at (slice_get x.join.members.items m) d c g e) })
+      like_itself x y same = subst (IsFanLike x) same (record { parent = refl; places = refl; key = refl; many = refl; patterns = λ m c d e g. ap (λ (z : Candidates). z.pattern) (both_at (slice_get x.join.members.items m) d c g e); reached = λ all. all })
 
 -- a seat is its fan and its member
 abbrev seat_of : ℕ → ℕ → Seat
@@ -37,6 +38,10 @@ seat_of f m = record { fan = f; member = m }
 same_seat : (a b : Seat) → a.fan ≡ b.fan → a.member ≡ b.member → a ≡ b
 same_seat a b e h = ap (λ (f : ℕ). seat_of f a.member) e ∙ ap (λ (m : ℕ). seat_of b.fan m) h
 
+not_so : (b : Bool) → (b ≡ true → ⊥) → b ≡ false
+not_so true h = absurd (h refl)
+not_so false h = refl
+
 -- the number of another fan
 apart : (j k : ℕ) → (k ≡ j → ⊥) → is_at (nat_cmp j) k ≡ false
 apart j k h = grind (arith, nat_tests)
@@ -44,33 +49,25 @@ apart j k h = grind (arith, nat_tests)
 -- ---- rows
 
 -- the half of each member of a fan
-pub fan_halved : (look : Look) (gone come : List Row) (old new : Fan) (deltas : List Delta) (m : ℕ) (half : Delta) → JoinTurned old.join new.join look gone come deltas → new.join.members ≡ old.join.members
-    → half ≡ given_half (slice_get deltas m) → IsHalf look gone come (in_fan m (Some old)) (in_fan m (Some new)) half
-fan_halved look gone come old new deltas m half turned same is = by (slice_get old.join.members.items m) refl (slice_get deltas m) refl
+pub fan_halved : (look : Look) (gone come : List Row) (old new : Fan) (deltas : BTreeMap ℕ Delta) (m : ℕ) (half : Delta) → JoinTurned old.join new.join look gone come deltas → new.join.members ≡ old.join.members
+    → half ≡ delta_of deltas m → IsHalf look gone come (in_fan m (Some old)) (in_fan m (Some new)) half
+fan_halved look gone come old new deltas m half turned same is = by (slice_get old.join.members.items m) refl
   where
     there_now : slice_get new.join.members.items m ≡ slice_get old.join.members.items m
     there_now = ap (λ (v : Vec Candidates). slice_get v.items m) same
 
-    claim : Option Candidates → Option Candidates → Delta → Type 0
-    claim a b d = IsHalf look gone come (option_map (λ c. record { left = old.join.left; own = c }) a) (option_map (λ c. record { left = new.join.left; own = c }) b) d
+    claim : Option Candidates → Option Candidates → Type 0
+    claim a b = IsHalf look gone come (option_map (λ c. record { left = old.join.left; own = c }) a) (option_map (λ c. record { left = new.join.left; own = c }) b) half
 
-    by : (o : Option Candidates) → slice_get old.join.members.items m ≡ o → (d : Option Delta) → slice_get deltas m ≡ d → claim (slice_get old.join.members.items m) (slice_get new.join.members.items m) half
-    by None none d e = subst (λ (a : Option Candidates). claim a (slice_get new.join.members.items m) half) (sym none) (subst (λ (b : Option Candidates). claim None b half) (sym (there_now ∙ none)) tt)
-    by (Some c) there None e =
-        let answers = turned.answers in
-        let within : m < length old.join.members.items = slice_get_within old.join.members.items m c there in
-        let h = has_at deltas m (omega (arith, answers, within)) in
-        absurd (let no : None ≡ Some h.0 = sym e ∙ h.1 in cc)
-    by (Some c) there (Some delta) e =
-        subst (λ (a : Option Candidates). claim a (slice_get new.join.members.items m) half) (sym there) (subst (λ (b : Option Candidates). claim (Some c) b half) (sym (there_now ∙ there))
-        (refl, record { kept = turned.kept m c there; difference = subst (IsDifference (made (beside old.join.left c) look) (made (beside new.join.left c) look)) (sym (is ∙ ap given_half e)) (turned.difference m c delta there e) }))
+    by : (o : Option Candidates) → slice_get old.join.members.items m ≡ o → claim (slice_get old.join.members.items m) (slice_get new.join.members.items m)
+    by None none = subst (λ (a : Option Candidates). claim a (slice_get new.join.members.items m)) (sym none) (subst (λ (b : Option Candidates). claim None b) (sym (there_now ∙ none)) tt)
+    by (Some c) there =
+        subst (λ (a : Option Candidates). claim a (slice_get new.join.members.items m)) (sym there) (subst (λ (b : Option Candidates). claim (Some c) b) (sym (there_now ∙ there))
+        (refl, record { kept = turned.kept m c there; difference = subst (IsDifference (made (beside old.join.left c) look) (made (beside new.join.left c) look)) (sym is) (turned.difference m c there) }))
 
 -- ---- all fans behind a node
 
-module _ (look : Look) (gone come : List Row) (place : ℕ) (nodes : List NetNode) (old new : Fans) (are : AreFans nodes old) (span : Span) (span_is : span ≡ given_span (slice_get old.spans.items place))
-    (outside : (seat : Seat) → (IsInSpan span seat.fan → ⊥) → IsLeft old new seat)
-    (inside : (seat : Seat) (f : Fan) → IsInSpan span seat.fan → slice_get old.list.items seat.fan ≡ Some f → AreBeside f.join → IsHalf look gone come (member_of old.list.items (Some seat)) (member_of new.list.items (Some seat)) (half_at new seat))
-    (some : gone ≡ [] → come ≡ [] → ⊥) where
+module _ (place : ℕ) (nodes : List NetNode) (old : Fans) (are : AreFans nodes old) (span : Span) (span_is : span ≡ given_span (slice_get old.spans.items place)) where
   other_span : (seat : Seat) (fan : Fan) → slice_get old.list.items seat.fan ≡ Some fan → (fan.parent ≡ place → ⊥) → IsInSpan span seat.fan → ⊥
   other_span seat fan e other within = by (slice_get old.spans.items place) refl
     where
@@ -81,15 +78,19 @@ module _ (look : Look) (gone come : List Row) (place : ℕ) (nodes : List NetNod
           absurd (omega (arith, low))
       by (Some s) there = other (are.below.spanned seat.fan place fan s e there (subst (λ (t : Span). IsInSpan t seat.fan) (span_is ∙ ap given_span there) within))
 
-  own_span : (seat : Seat) (fan : Fan) → slice_get old.list.items seat.fan ≡ Some fan → fan.parent ≡ place → IsInSpan span seat.fan
+  pub own_span : (seat : Seat) (fan : Fan) → slice_get old.list.items seat.fan ≡ Some fan → fan.parent ≡ place → IsInSpan span seat.fan
   own_span seat fan e same =
       let is = are.behind seat.fan fan e in
       subst (λ (s : Span). IsInSpan s seat.fan) (sym (span_is ∙ ap given_span (ap (slice_get old.spans.items) (sym same) ∙ is.1))) is.2
 
+module _ (look : Look) (gone come : List Row) (place : ℕ) (nodes : List NetNode) (old new : Fans) (are : AreFans nodes old) (span : Span) (span_is : span ≡ given_span (slice_get old.spans.items place))
+    (outside : (seat : Seat) → (IsInSpan span seat.fan → ⊥) → IsLeft old new seat)
+    (inside : (seat : Seat) (f : Fan) → IsInSpan span seat.fan → slice_get old.list.items seat.fan ≡ Some f → AreBeside f.join → IsReached f.join → IsHalf look gone come (member_of old.list.items (Some seat)) (member_of new.list.items (Some seat)) (half_at new seat))
+    (some : gone ≡ [] → come ≡ [] → ⊥) where
   pub all_turned : AreRowsTurned look place gone come old new
   all_turned = record {
-    others = λ seat fan e other. outside seat (other_span seat fan e other);
-    turned = λ seat fan e same nothing. inside seat fan (own_span seat fan e same) e (are.below.beside seat.fan fan e);
+    others = λ seat fan e other. outside seat (other_span place nodes old are span span_is seat fan e other);
+    turned = λ seat fan e same nothing. inside seat fan (own_span place nodes old are span span_is seat fan e same) e (are.below.beside seat.fan fan e) (are.below.reached seat.fan fan e);
     nothing = λ none_gone none_come seat. absurd (some none_gone none_come);
   }
 
@@ -117,6 +118,7 @@ names_like old join look place gone come half delta turned = record {
     | inl same ↦ (turned.member c d (ap (slice_get old.join.members.items) (sym same) ∙ e) (ap (slice_get join.members.items) (sym same) ∙ h)).pattern
     | inr other ↦ ap (λ (z : Candidates). z.pattern) (both_at (slice_get old.join.members.items m) d c (sym (turned.others m other) ∙ h) e)
   ];
+  reached = turned.reached;
 }
 
 module _ (list : List Fan) (seat : Seat) (old : Fan) (join : FanJoin) (at : slice_get list seat.fan ≡ Some old) (look : Look) (gone come : List Named) (half delta : Delta)
@@ -161,38 +163,50 @@ module _ (list : List Fan) (seat : Seat) (old : Fan) (join : FanJoin) (at : slic
           subst (λ (x : Member). (y : Candidates) × (member_of (set list seat.fan new) (Some seat) ≡ Some (record { left = x.left; own = y })) × AreNamesTurned x.left look gone come half x.own y delta) m_is
           (d, now, turned.member c d there f)
 
--- one fan of a span more has turned
-pub record IsTurnedTo (look : Look) (gone come : List Row) (first now : Fans) (span : Span) (fan : ℕ) : Type 0 where
+-- one fan of a span more has turned, and those of its members for which something has changed are due
+pub record IsTurnedTo (look : Look) (gone come : List Row) (first now : Fans) (span : Span) (due due_now : List ℕ) (fan : ℕ) : Type 0 where
   pub laid : IsLaidAs first now
   pub outside : (seat : Seat) → (IsInSpan span seat.fan → ⊥) → IsLeft first now seat
   pub ahead : (seat : Seat) → fan ≤ seat.fan → IsLeft first now seat
-  pub turned : (seat : Seat) (f : Fan) → span.from ≤ seat.fan → seat.fan < fan → slice_get first.list.items seat.fan ≡ Some f → AreBeside f.join
+  pub turned : (seat : Seat) (f : Fan) → span.from ≤ seat.fan → seat.fan < fan → slice_get first.list.items seat.fan ≡ Some f → AreBeside f.join → IsReached f.join
       → IsHalf look gone come (member_of first.list.items (Some seat)) (member_of now.list.items (Some seat)) (half_at now seat)
+  pub still : (k : ℕ) → has_place due k ≡ true → has_place due_now k ≡ true
+  pub woken : (seat : Seat) (f : Fan) (k : ℕ) → span.from ≤ seat.fan → seat.fan < fan → slice_get first.list.items seat.fan ≡ Some f → slice_get f.places.items seat.member ≡ Some k → has_place due_now k ≡ false → half_at now seat ≡ no_change
 
-pub none_yet : (look : Look) (gone come : List Row) (fans : Fans) (span : Span) → IsTurnedTo look gone come fans fans span span.from
-none_yet look gone come fans span = record {
-  laid = laid_same fans fans refl refl refl;
+pub none_yet : (look : Look) (gone come : List Row) (fans : Fans) (span : Span) (due : List ℕ) → IsTurnedTo look gone come fans fans span due due span.from
+none_yet look gone come fans span due = record {
+  laid = laid_same fans fans refl refl refl refl;
   outside = λ seat out. (refl, refl);
   ahead = λ seat le. (refl, refl);
-  turned = λ seat f low high e beside. absurd (omega (arith, low, high));
+  turned = λ seat f low high e beside reached. absurd (omega (arith, low, high));
+  still = λ k h. h;
+  woken = λ seat f k low high e there out. absurd (omega (arith, low, high));
 }
 
-module _ (look : Look) (gone come : List Row) (first now next : Fans) (span : Span) (fan : ℕ) (low : span.from ≤ fan) (high : fan < span.to) (was : IsTurnedTo look gone come first now span fan)
+module _ (look : Look) (gone come : List Row) (first now next : Fans) (span : Span) (due due_now due_next : List ℕ) (fan : ℕ) (low : span.from ≤ fan) (high : fan < span.to) (was : IsTurnedTo look gone come first now span due due_now fan)
     (laid : IsLaidAs now next) (others : (seat : Seat) → (seat.fan ≡ fan → ⊥) → IsLeft now next seat)
-    (turned : (seat : Seat) (f : Fan) → seat.fan ≡ fan → slice_get now.list.items fan ≡ Some f → AreBeside f.join
-    → IsHalf look gone come (member_of now.list.items (Some seat)) (member_of next.list.items (Some seat)) (half_at next seat)) where
+    (turned : (seat : Seat) (f : Fan) → seat.fan ≡ fan → slice_get now.list.items fan ≡ Some f → AreBeside f.join → IsReached f.join
+    → IsHalf look gone come (member_of now.list.items (Some seat)) (member_of next.list.items (Some seat)) (half_at next seat))
+    (still : (k : ℕ) → has_place due_now k ≡ true → has_place due_next k ≡ true)
+    (woken : (seat : Seat) (f : Fan) (k : ℕ) → seat.fan ≡ fan → slice_get now.list.items fan ≡ Some f → slice_get f.places.items seat.member ≡ Some k → has_place due_next k ≡ false → half_at next seat ≡ no_change) where
   left_on : (seat : Seat) → (seat.fan ≡ fan → ⊥) → IsLeft first now seat → IsLeft first next seat
   left_on seat other so = let then = others seat other in (then.0 ∙ so.0, then.1 ∙ so.1)
 
-  here : (seat : Seat) (f : Fan) → seat.fan ≡ fan → slice_get first.list.items seat.fan ≡ Some f → AreBeside f.join → IsHalf look gone come (member_of first.list.items (Some seat)) (member_of next.list.items (Some seat)) (half_at next seat)
-  here seat f same e beside =
+  -- the fan as it stands now, like it was at first
+  fan_now : (g : ℕ) (f : Fan) → slice_get first.list.items g ≡ Some f → (x : Fan) × (slice_get now.list.items g ≡ Some x) × IsFanLike f x
+  fan_now g f e =
       let many = was.laid.many in
-      let within : seat.fan < length first.list.items = slice_get_within first.list.items seat.fan f e in
-      let g = has_at now.list.items seat.fan (omega (arith, many, within)) in
-      let like = was.laid.each seat.fan f g.0 e g.1 in
+      let within : g < length first.list.items = slice_get_within first.list.items g f e in
+      let x = has_at now.list.items g (omega (arith, many, within)) in
+      (x.0, x.1, was.laid.each g f x.0 e x.1)
+
+  here : (seat : Seat) (f : Fan) → seat.fan ≡ fan → slice_get first.list.items seat.fan ≡ Some f → AreBeside f.join → IsReached f.join
+      → IsHalf look gone come (member_of first.list.items (Some seat)) (member_of next.list.items (Some seat)) (half_at next seat)
+  here seat f same e beside reached =
+      let g = fan_now seat.fan f e in
       let left = was.ahead seat (omega (arith, same)) in
       subst (λ (o : Option Member). IsHalf look gone come o (member_of next.list.items (Some seat)) (half_at next seat)) left.0
-      (turned seat g.0 same (ap (slice_get now.list.items) (sym same) ∙ g.1) (beside_like f g.0 like beside))
+      (turned seat g.0 same (ap (slice_get now.list.items) (sym same) ∙ g.1) (beside_like f g.0 g.2 beside) (g.2.reached reached))
     where
       beside_like : (a b : Fan) → IsFanLike a b → AreBeside a.join → AreBeside b.join
       beside_like a b like all k c e =
@@ -201,53 +215,80 @@ module _ (look : Look) (gone come : List Row) (first now next : Fans) (span : Sp
           let own = has_at a.join.members.items k (omega (arith, long, within)) in
           ap (λ (q : Pattern). row_key q) (like.patterns k own.0 c own.1 e) ∙ all k own.0 own.1 ∙ sym like.key
 
-  pub turned_more : IsTurnedTo look gone come first next span (fan + 1)
+  pub turned_more : IsTurnedTo look gone come first next span due due_next (fan + 1)
   turned_more = record {
     laid = laid_then first now next was.laid laid;
     outside = λ seat out. left_on seat (λ same. out (omega (arith, low, same), omega (arith, high, same))) (was.outside seat out);
     ahead = λ seat le. left_on seat (λ same. absurd (omega (arith, le, same))) (was.ahead seat (omega (arith, le)));
-    turned = λ seat f from lt e beside. elim (below_or_at seat.fan fan lt) [
-      | inr same ↦ here seat f same e beside
+    turned = λ seat f from lt e beside reached. elim (below_or_at seat.fan fan lt) [
+      | inr same ↦ here seat f same e beside reached
       | inl less ↦
           let then = others seat (λ same. absurd (omega (arith, same, less))) in
           subst (λ (o : Option Member). IsHalf look gone come (member_of first.list.items (Some seat)) o (half_at next seat)) (sym then.0)
-          (subst (IsHalf look gone come (member_of first.list.items (Some seat)) (member_of now.list.items (Some seat))) (sym then.1) (was.turned seat f from less e beside))
+          (subst (IsHalf look gone come (member_of first.list.items (Some seat)) (member_of now.list.items (Some seat))) (sym then.1) (was.turned seat f from less e beside reached))
+    ];
+    still = λ k h. still k (was.still k h);
+    woken = λ seat f k from lt e there out. elim (below_or_at seat.fan fan lt) [
+      | inr same ↦
+          let g = fan_now seat.fan f e in
+          woken seat g.0 k same (ap (slice_get now.list.items) (sym same) ∙ g.1) (ap (λ l. slice_get l.items seat.member) g.2.places ∙ there) out
+      | inl less ↦ (others seat (λ same. absurd (omega (arith, same, less)))).1 ∙ was.woken seat f k from less e there (not_so (has_place due_now k) (λ h. let no : true ≡ false = sym (still k h) ∙ out in cc))
     ];
   }
 
 -- ---- the rows of one fan
 
 -- a fan whose rows turned is like it was
-pub rows_like : (was : Fan) (join : FanJoin) → join.left.key ≡ was.join.left.key → join.members ≡ was.join.members → IsFanLike was (record { parent = was.parent; join = join; places = was.places })
-rows_like was join key members = record {
-  parent = refl;
-  places = refl;
+pub rows_like : (was now : Fan) → now.parent ≡ was.parent → now.places ≡ was.places → now.join.left.key ≡ was.join.left.key → now.join.members ≡ was.join.members → now.join.reached ≡ was.join.reached → IsFanLike was now
+rows_like was now parent places key members reached = record {
+  parent = parent;
+  places = places;
   key = key;
   many = ap (λ v. length v.items) members;
   patterns = λ m c d e h. ap (λ (z : Candidates). z.pattern) (both_at (slice_get was.join.members.items m) d c (ap (λ v. slice_get v.items m) (sym members) ∙ h) e);
+  reached = λ all.
+      subst (λ r. IsReached (record { left = now.join.left; members = now.join.members; reached = r })) (sym reached)
+      (subst (λ (m : Vec Candidates). IsReached (record { left = now.join.left; members = m; reached = was.join.reached })) (sym members) all);
 }
 
-module _ (look : Look) (gone come : List Row) (list : List Fan) (f : ℕ) (was : Fan) (at : slice_get list f ≡ Some was) (join : FanJoin) (deltas : Vec Delta) (members : join.members ≡ was.join.members)
-    (turned : AreBeside was.join → JoinTurned was.join join look gone come deltas.items) where
-  pub fan_turned : (seat : Seat) (x : Fan) (halves : Option (Vec Delta)) → seat.fan ≡ f → slice_get list f ≡ Some x → AreBeside x.join → halves ≡ Some deltas
-      → IsHalf look gone come (member_of list (Some seat)) (member_of (set list f (record { parent = was.parent; join = join; places = was.places })) (Some seat)) (half_in seat.member halves)
-  fan_turned seat x halves same e beside there =
+module _ (look : Look) (gone come : List Row) (list : List Fan) (f : ℕ) (was now : Fan) (at : slice_get list f ≡ Some was) (deltas : BTreeMap ℕ Delta) (members : now.join.members ≡ was.join.members)
+    (turned : AreBeside was.join → IsReached was.join → JoinTurned was.join now.join look gone come deltas) where
+  pub fan_turned : (seat : Seat) (x : Fan) (halves : Option (BTreeMap ℕ Delta)) → seat.fan ≡ f → slice_get list f ≡ Some x → AreBeside x.join → IsReached x.join → halves ≡ Some deltas
+      → IsHalf look gone come (member_of list (Some seat)) (member_of (set list f now) (Some seat)) (half_in seat.member halves)
+  fan_turned seat x halves same e beside reached there =
       let x_is : x ≡ was = both_at (slice_get list f) x was e at in
-      let here = member_here list f was (record { parent = was.parent; join = join; places = was.places }) at seat same in
-      subst (λ (o : Option Member). IsHalf look gone come o (member_of (set list f (record { parent = was.parent; join = join; places = was.places })) (Some seat)) (half_in seat.member halves)) (sym here.0)
+      let here = member_here list f was now at seat same in
+      subst (λ (o : Option Member). IsHalf look gone come o (member_of (set list f now) (Some seat)) (half_in seat.member halves)) (sym here.0)
       (subst (λ (o : Option Member). IsHalf look gone come (in_fan seat.member (Some was)) o (half_in seat.member halves)) (sym here.1)
-      (fan_halved look gone come was (record { parent = was.parent; join = join; places = was.places }) deltas.items seat.member (half_in seat.member halves)
-      (turned (subst (λ (y : Fan). AreBeside y.join) x_is beside)) members (ap (half_in seat.member) there)))
+      (fan_halved look gone come was now deltas seat.member (half_in seat.member halves)
+      (turned (subst (λ (y : Fan). AreBeside y.join) x_is beside) (subst (λ (y : Fan). IsReached y.join) x_is reached)) members (ap (half_in seat.member) there)))
 
 -- ---- the halves
 
 -- the halves of one fan are put
-module _ (old new : Fans) (f : ℕ) (deltas : Vec Delta) (put : Updates nat_cmp old.halves new.halves f (Some deltas)) where
+module _ (old new : Fans) (f : ℕ) (deltas : BTreeMap ℕ Delta) (put : Updates nat_cmp old.halves new.halves f (Some deltas)) where
   pub half_other : (seat : Seat) → (seat.fan ≡ f → ⊥) → half_at new seat ≡ half_at old seat
   half_other seat other = ap (half_in seat.member) (put.2 seat.fan (apart f seat.fan other))
 
   pub half_there : (seat : Seat) → seat.fan ≡ f → get nat_cmp new.halves seat.fan ≡ Some deltas
   half_there seat same = ap (get nat_cmp new.halves) same ∙ put.1
+
+-- what stands under no key is nothing
+named_if : {A : Type 0} (b : Bool) (x : ℕ × A) (entries : List (ℕ × A)) (m : ℕ) (d : A) → is_at (nat_cmp m) x.0 ≡ b → (lookup (is_at (nat_cmp m)) entries ≡ Some d → is_in (keys_of entries) m ≡ true)
+    → cond b (Some x.1) (lookup (is_at (nat_cmp m)) entries) ≡ Some d → is_in (keys_of (x ∷ entries)) m ≡ true
+named_if true x entries m d is rest e = let same : nat_eq m x.0 ≡ true = grind (arith, nat_tests) in ap (λ b. b || is_in (keys_of entries) m) same
+named_if false x entries m d is rest e = ap (λ b. nat_eq m x.0 || b) (rest e) ∙ or-true (nat_eq m x.0)
+
+named_key : {A : Type 0} (entries : List (ℕ × A)) (m : ℕ) (d : A) → lookup (is_at (nat_cmp m)) entries ≡ Some d → is_in (keys_of entries) m ≡ true
+named_key [] m d e = absurd (let no : None ≡ Some d = e in cc)
+named_key (x ∷ entries) m d e = named_if (is_at (nat_cmp m) x.0) x entries m d refl (named_key entries m d) e
+
+pub told_none : (deltas : BTreeMap ℕ Delta) (m : ℕ) → (is_in (keys_of deltas.entries) m ≡ true → ⊥) → delta_of deltas m ≡ no_change
+told_none deltas m none = by (get nat_cmp deltas m) refl
+  where
+    by : (o : Option Delta) → get nat_cmp deltas m ≡ o → given_delta o ≡ no_change
+    by None e = refl
+    by (Some d) e = absurd (none (named_key deltas.entries m d e))
 
 -- ---- no rows
 

@@ -1,6 +1,6 @@
 -- A walk over nodes of which some are members of fans. A member that is still to come stands in the walk as it was, though the rows that it shares
 -- may have left and come already.
-use Rattle.rete_net.proofs.Common.{◌≡◌, ◌∙◌, sym, ap, refl, subst, ℕ, ◌+◌, ◌<◌, ◌≤◌, arith, List, [], length, Option, Some, None, slice_get, ◌⊎◌, inl, inr, set, slice_get_within, option_map, Row, Plain, Pattern, Look, Candidates, row_key, condition_of, Answered, Fan, Fans, Seat, Index, NetNode, answer_in, left_given, some_answer, IsPut, half_at, half_of, in_fan, member_at, member_of, seat_at, showing, with_fans, AreFans, AreRowsTurned, IsFanLike, IsHalf, IsLaidAs, IsLeft, IsOf, Member, no_change, IsReplaced}
+use Rattle.rete_net.proofs.Common.{◌≡◌, ◌∙◌, sym, ap, refl, subst, ℕ, ◌+◌, ◌<◌, ◌≤◌, arith, List, [], length, Option, Some, None, slice_get, ◌⊎◌, inl, inr, set, slice_get_within, option_map, Row, Plain, Pattern, Look, Candidates, row_key, condition_of, Answered, Fan, Fans, Seat, Index, NetNode, answer_in, left_given, some_answer, IsPut, half_at, half_of, in_fan, member_at, member_of, seat_at, showing, with_fans, AreFans, AreRowsTurned, IsFanLike, IsHalf, IsLaidAs, IsLeft, IsOf, Member, no_change, IsReplaced, true, false, are_none, Lists, is_listed, has_place, AreWoken}
 use Rattle.rete_net.specs.Answers.{given as kept}
 use Rattle.rete_net.proofs.Growing.{both_at, has_at}
 use Rattle.rete_net.proofs.Showing.{same_lists, shown_at, shown_none}
@@ -38,6 +38,7 @@ pub laid_then : (a b c : Fans) → IsLaidAs a b → IsLaidAs b c → IsLaidAs a 
 laid_then a b c ab bc = record {
   seats = bc.seats ∙ ab.seats;
   spans = bc.spans ∙ ab.spans;
+  lone = bc.lone ∙ ab.lone;
   many = bc.many ∙ ab.many;
   each = λ f x z e g.
       let many = ab.many in
@@ -57,18 +58,20 @@ laid_then a b c ab bc = record {
           let within : m < length x.join.members.items = slice_get_within x.join.members.items m c h in
           let d = has_at y.join.members.items m (omega (arith, many, within)) in
           yz.patterns m d.0 e d.1 g ∙ xy.patterns m c d.0 h d.1;
+      reached = λ all. yz.reached (xy.reached all);
     }
 
-pub laid_same : (a b : Fans) → b.seats ≡ a.seats → b.spans ≡ a.spans → b.list ≡ a.list → IsLaidAs a b
-laid_same a b seats spans list = record {
+pub laid_same : (a b : Fans) → b.seats ≡ a.seats → b.spans ≡ a.spans → b.lone ≡ a.lone → b.list ≡ a.list → IsLaidAs a b
+laid_same a b seats spans lone list = record {
   seats = seats;
   spans = spans;
+  lone = lone;
   many = ap (λ l. length l.items) list;
   each = λ f x y e g. like x y (both_at (slice_get a.list.items f) x y e (ap (λ l. slice_get l.items f) (sym list) ∙ g));
 }
   where
     like : (x y : Fan) → x ≡ y → IsFanLike x y
-    like x y same = subst (IsFanLike x) same (record { parent = refl; places = refl; key = refl; many = refl; patterns = λ m c d e g. ap (λ (z : Candidates). z.pattern) (both_at (slice_get x.join.members.items m) d c g e) })
+    like x y same = subst (IsFanLike x) same (record { parent = refl; places = refl; key = refl; many = refl; patterns = λ m c d e g. ap (λ (z : Candidates). z.pattern) (both_at (slice_get x.join.members.items m) d c g e); reached = λ all. all })
 
 -- nodes in the places of others, with fans laid as theirs, have these fans
 pub fans_again : (nodes nodes_now : List NetNode) (fans fans_now : Fans) → IsReplaced nodes nodes_now → IsLaidAs fans fans_now → AreFans nodes fans → AreFans nodes_now fans_now
@@ -109,10 +112,18 @@ fans_again nodes nodes_now fans fans_now replaced laid are = record {
         let within : k < length fan.join.members.items = slice_get_within fan.join.members.items k c h in
         let own = has_at o.0.join.members.items k (omega (arith, long, within)) in
         ap (λ (q : Pattern). row_key q) (like.patterns k own.0 c own.1 h) ∙ are.below.beside f o.0 o.1 k own.0 own.1 ∙ sym like.key;
+    reached = λ f fan e.
+        let o = fan_was f fan e in
+        (laid.each f o.0 fan o.1 e).reached (are.below.reached f o.0 o.1);
     spanned = λ f p fan span e h inside.
         let o = fan_was f fan e in
         (laid.each f o.0 fan o.1 e).parent ∙ are.below.spanned f p o.0 span o.1 (ap (λ l. slice_get l.items p) (sym laid.spans) ∙ h) inside;
   };
+  lone = λ k parent n e is free.
+      let many = replaced.many in
+      let within : k < length nodes_now = slice_get_within nodes_now k n e in
+      let o = has_at nodes k (omega (arith, many, within)) in
+      ap (λ (l : Lists). is_listed l parent k) laid.lone ∙ are.lone k parent o.0 o.1 (sym (replaced.parent k o.0 n o.1 e) ∙ is) (ap (λ l. seat_at l.items k) (sym laid.seats) ∙ free);
   behind = λ f fan e.
       let o = fan_was f fan e in
       let like = laid.each f o.0 fan o.1 e in
@@ -161,15 +172,15 @@ module _ {D : Type 0} (look : Look) (goes comes : D → List Row) (none first : 
       by (Some seat) there = absurd (let no : None ≡ Some (are.below.seats k n seat e there).fan.parent = sym none_before ∙ (are.below.seats k n seat e there).parent in cc)
 
   -- at the start
-  pub shared_begins : (fans : Fans) (a : Answered D) → AreFans nodes_before fans_before → fans.seats ≡ fans_before.seats → fans.spans ≡ fans_before.spans → fans.list ≡ fans_before.list → ((seat : Seat) → half_at fans seat ≡ no_change)
+  pub shared_begins : (fans : Fans) (a : Answered D) → AreFans nodes_before fans_before → fans.seats ≡ fans_before.seats → fans.spans ≡ fans_before.spans → fans.lone ≡ fans_before.lone → fans.list ≡ fans_before.list → ((seat : Seat) → half_at fans seat ≡ no_change)
       → a.none ≡ none → ((k : ℕ) → some_answer a k ≡ None) → IsShared nodes_before fans a 0 before
-  shared_begins fans a are seats spans list halves nothing unanswered = record {
+  shared_begins fans a are seats spans lone list halves nothing unanswered = record {
     done = λ k lt. absurd (omega (arith, lt));
     rest = λ k le. refl;
     halves = λ k n le e. begun k n e n.parent refl;
     still = λ k parent n le e is empty. (same k, half k);
     fans_are = fans_again nodes_before nodes_before fans_before fans (record { many = refl; parent = λ k x y e f. ap (λ (n : NetNode). n.parent) (both_at (slice_get nodes_before k) y x f e); condition = λ k x y e f. ap (λ (n : NetNode). condition_of n.node) (both_at (slice_get nodes_before k) y x f e) })
-        (laid_same fans_before fans seats spans list) are;
+        (laid_same fans_before fans seats spans lone list) are;
     seats = seats;
     nothing = nothing;
   }
@@ -203,40 +214,6 @@ module _ {D : Type 0} (look : Look) (goes comes : D → List Row) (none first : 
           (subst (λ (rows : List Row). IsHalf look [] rows (member_at fans_before k) (member_at fans k) (half_of fans (seat_at fans.seats.items k))) (sym none_comes) (stays k)))
 
   module _ (nodes : List NetNode) (fans : Fans) (a : Answered D) (walked : List NetNode) where
-    -- nodes that nothing has reached are passed over
-    pub shared_skip : (next place : ℕ) → next ≤ place → IsShared nodes fans a next walked → ((k : ℕ) → next ≤ k → slice_get walked k ≡ slice_get before k)
-        → ((k parent : ℕ) (n : NetNode) → next ≤ k → k < place → slice_get nodes_before k ≡ Some n → n.parent ≡ Some parent → some_answer a parent ≡ None) → IsShared nodes fans a place walked
-    shared_skip next place le is rest empty = record {
-      done = λ k lt. by k lt (below_or_from k next);
-      rest = λ k far. is.rest k (omega (arith, le, far));
-      halves = λ k n far. is.halves k n (omega (arith, le, far));
-      still = λ k parent n far. is.still k parent n (omega (arith, le, far));
-      fans_are = is.fans_are;
-      seats = is.seats;
-      nothing = is.nothing;
-    }
-      where
-        below_or_from : (k i : ℕ) → (k < i) ⊎ (i ≤ k)
-        below_or_from k i = grind arith
-
-        member_still : (k : ℕ) (n : NetNode) → next ≤ k → k < place → slice_get nodes_before k ≡ Some n → (parent : Option ℕ) → n.parent ≡ parent → member_at fans k ≡ member_at fans_before k
-        member_still k n far lt e None at =
-            let e_now : slice_get nodes k ≡ Some n = is.rest k far ∙ e in
-            let gone = no_member nodes fans is.fans_are k n e_now at in
-            ap (member_of fans.list.items) gone ∙ sym (ap (member_of fans_before.list.items) (ap (λ l. seat_at l.items k) (sym is.seats) ∙ gone))
-        member_still k n far lt e (Some q) at = (is.still k q n far e at (empty k q n far lt e at)).0
-
-        passed : (k : ℕ) → next ≤ k → k < place → (o : Option NetNode) → slice_get nodes_before k ≡ o → slice_get walked k ≡ slice_get (with_fans nodes fans) k
-        passed k far lt None none_there = rest k far ∙ shown_none (member_at fans_before) nodes_before k none_there ∙ sym (shown_none (member_at fans) nodes k (is.rest k far ∙ none_there))
-        passed k far lt (Some n) there =
-            rest k far ∙ shown_at (member_at fans_before) nodes_before k n there
-            ∙ ap (λ (o : Option Member). Some (showing o n)) (sym (member_still k n far lt there n.parent refl))
-            ∙ sym (shown_at (member_at fans) nodes k n (is.rest k far ∙ there))
-
-        by : (k : ℕ) → k < place → (k < next) ⊎ (next ≤ k) → slice_get walked k ≡ slice_get (with_fans nodes fans) k
-        by k lt (inl low) = is.done k low
-        by k lt (inr far) = passed k far lt (slice_get nodes_before k) refl
-
     -- at the end the nodes are as the walk knows them
     pub shared_ends : IsShared nodes fans a (length nodes_before) walked → ((k : ℕ) → length nodes_before ≤ k → slice_get walked k ≡ slice_get before k) → walked ≡ with_fans nodes fans
     shared_ends is rest = same_lists walked (with_fans nodes fans) (λ k. by k (below_or_from k (length nodes_before)))
@@ -260,7 +237,7 @@ module _ {D : Type 0} (look : Look) (goes comes : D → List Row) (none first : 
         (so_far : IsReplaced nodes_before nodes) (replaced : IsReplaced nodes (set nodes place new))
         (mid : Fans) (laid : IsLaidAs fans mid) (others : (seat : Seat) → (seat_at fans.seats.items place ≡ Some seat → ⊥) → IsLeft fans mid seat)
         (answer : D) (then : Fans) (laid_on : IsLaidAs mid then) (turned : (ns : List NetNode) → AreFans ns mid → AreRowsTurned look place (goes answer) (comes answer) mid then)
-        (index : Index) (b : Answered D) (due due_now : List ℕ) (put : IsPut index place answer a b due due_now) (absent : some_answer a place ≡ None) where
+        (index : Index) (b : Answered D) (put : IsPut index place answer a b) (absent : some_answer a place ≡ None) where
       was : slice_get nodes_before place ≡ Some n
       was = sym (is.rest place (omega arith)) ∙ at
 
@@ -322,6 +299,39 @@ module _ {D : Type 0} (look : Look) (goes comes : D → List Row) (none first : 
           by (Some seat) there =
               ap (member_of then.list.items) (seat_then place ∙ there) ∙ (not_behind place n seat at (not_later place n at (omega arith)) there).0
               ∙ sym (ap (member_of mid.list.items) (seat_mid place ∙ there))
+
+      -- a node that is not due has no half
+      pub half_idle : (due due_now : List ℕ) → AreWoken place (goes answer) (comes answer) mid then due due_now → (k : ℕ) (m : NetNode) → place + 1 ≤ k → slice_get nodes_before k ≡ Some m
+          → half_of fans (seat_at fans.seats.items k) ≡ no_change → has_place due_now k ≡ false → half_of then (seat_at then.seats.items k) ≡ no_change
+      half_idle due due_now woken k m le e idle out = by m.parent refl
+        where
+          e_now : slice_get nodes k ≡ Some m
+          e_now = is.rest k (omega (arith, le)) ∙ e
+
+          away : (m.parent ≡ Some place → ⊥) → half_of then (seat_at then.seats.items k) ≡ no_change
+          away other = (left_alone k m e_now (λ same. absurd (omega (arith, same, le))) other).1 ∙ idle
+
+          behind : (o : Option Seat) → seat_at fans.seats.items k ≡ o → m.parent ≡ Some place → half_of then (seat_at then.seats.items k) ≡ no_change
+          behind None none is_behind = ap (half_of then) (seat_then k ∙ none)
+          behind (Some seat) there is_behind =
+              let one = others seat (other_seat k m seat e_now (λ same. absurd (omega (arith, same, le))) there) in
+              let stands = mid_are.below.seats k m seat e_now (seat_mid k ∙ there) in
+              let own_parent : Some stands.fan.parent ≡ Some place = sym stands.parent ∙ is_behind in
+              let parent_is : stands.fan.parent ≡ place = cc in
+              ap (half_of then) (seat_then k ∙ there) ∙ woken.members seat stands.fan k stands.found parent_is stands.place (one.1 ∙ sym (ap (half_of fans) there) ∙ idle) out
+
+          by : (parent : Option ℕ) → m.parent ≡ parent → half_of then (seat_at then.seats.items k) ≡ no_change
+          by None none = away (λ there. let no : None ≡ Some place = sym none ∙ there in absurd cc)
+          by (Some q) there = elim (equal_or_not q place) [
+            | inl same ↦ behind (seat_at fans.seats.items k) refl (there ∙ ap Some same)
+            | inr other ↦ away (λ is_behind. let both : Some q ≡ Some place = sym there ∙ is_behind in let same : q ≡ place = cc in other same)
+          ]
+
+      -- a child that keeps rows of its own is due, unless the node answers nothing
+      pub child_idle : (due due_now : List ℕ) → AreWoken place (goes answer) (comes answer) mid then due due_now → (k : ℕ) (m : NetNode) → place + 1 ≤ k → slice_get nodes_before k ≡ Some m → m.parent ≡ Some place
+          → seat_at then.seats.items k ≡ None → has_place due_now k ≡ false → are_none (goes answer) (comes answer) ≡ true
+      child_idle due due_now woken k m le e is_behind free out =
+          woken.lone k (mid_are.lone k place m (is.rest k (omega (arith, le)) ∙ e) is_behind (seat_mid k ∙ sym (seat_then k) ∙ free)) out
 
       abbrev nodes_now : List NetNode
       nodes_now = set nodes place new

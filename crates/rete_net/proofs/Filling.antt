@@ -44,7 +44,7 @@ module _ (p : Program) (look : Look) (kept : List Fact) (extras : List Extra) (m
   module _ (index : Index) (wired : IsWired before ends index) (now : List NetNode) (a : Answered Delta) (place : ℕ) (way : Way now a place) (n new : NetNode) (at : slice_get now place ≡ Some n)
       (own : List Extra) (own_are : (o : Owner) → slice_get owners place ≡ Some o → own ≡ filter (is_under o) extras) (rows : List Row) (rows_are : rows ≡ (left_given first a n.parent).come)
       (delta : Delta) (load : NodeLoad p look kept own moment n new rows delta) (there : InOrder rows → (e : Extra) → In e own → has rows e.row ≡ true)
-      (b : Answered Delta) (due due_now : List ℕ) (put : IsPut index place delta a b due due_now) where
+      (b : Answered Delta) (put : IsPut index place delta a b) where
     absent : some_answer a place ≡ None
     absent = way.ahead place (omega arith)
 

@@ -64,7 +64,6 @@ found_again index k old new parent condition was = record {
   typed = ap (λ (c : Condition). is_listed index.by_type (pattern_of c).ty.0 k) condition ∙ was.typed;
   asked = subst (λ (c : Condition). IsAskedWhereMeant index.alpha (pattern_of c) k) (sym condition) was.asked;
   first = λ e. was.first (sym parent ∙ e);
-  child = λ q e. was.child q (sym parent ∙ e);
 }
 
 -- the index finds the nodes still

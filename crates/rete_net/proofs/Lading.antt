@@ -27,12 +27,12 @@ module _ (p : Program) (look : Look) (kept : List Fact) (extras : List Extra) (m
   shown_wired : IsWired Before ends index
   shown_wired = wired_again before Before ends index (replaced_shown (member_at fans) before) wired
 
-  pub set_off : (now : Fans) (a : Answered Delta) → AreFans before fans → now.seats ≡ fans.seats → now.spans ≡ fans.spans → now.list ≡ fans.list → ((seat : Seat) → half_at now seat ≡ no_change)
+  pub set_off : (now : Fans) (a : Answered Delta) → AreFans before fans → now.seats ≡ fans.seats → now.spans ≡ fans.spans → now.lone ≡ fans.lone → now.list ≡ fans.list → ((seat : Seat) → half_at now seat ≡ no_change)
       → a.none ≡ no_change → ((k : ℕ) → some_answer a k ≡ None) → IsUnderWay before now a 0
-  set_off now a are seats spans list halves none unanswered = record {
+  set_off now a are seats spans lone list halves none unanswered = record {
     walked = Before;
     way = filling.set_off p look kept extras moment first Before owners ends a none unanswered;
-    shared = fanning.shared_begins look goes comes no_change first refl refl before fans wired.parents now a are seats spans list halves none unanswered;
+    shared = fanning.shared_begins look goes comes no_change first refl refl before fans wired.parents now a are seats spans lone list halves none unanswered;
   }
 
   module _ (nodes : List NetNode) (now : Fans) (a : Answered Delta) (place : ℕ) (on : IsUnderWay nodes now a place) (n : NetNode) (at : slice_get nodes place ≡ Some n) where
@@ -55,7 +55,7 @@ module _ (p : Program) (look : Look) (kept : List Fact) (extras : List Extra) (m
         → NodeLoad p look kept own moment (showing was n) (showing (member_at mid place) new) rows delta)
         (have : InOrder rows → (e : Extra) → In e own → has rows e.row ≡ true)
         (then : Fans) (laid_on : IsLaidAs mid then) (turned : (ns : List NetNode) → AreFans ns mid → AreRowsTurned look place [] delta.come mid then)
-        (b : Answered Delta) (due due_now : List ℕ) (put : IsPut index place delta a b due due_now) where
+        (b : Answered Delta) (put : IsPut index place delta a b) where
       half : IsHalf look [] rows (member_at fans place) (member_at now place) (half_of now (seat_at now.seats.items place))
       half =
           subst (λ (rs : List Row). IsHalf look [] rs (member_at fans place) (member_at now place) (half_of now (seat_at now.seats.items place))) (sym rows_are)
@@ -67,10 +67,10 @@ module _ (p : Program) (look : Look) (kept : List Fact) (extras : List Extra) (m
         way =
             filling.take_one p look kept extras moment first Before owners ends index shown_wired on.walked a place on.way (showing (member_at fans place) n) (showing (member_at mid place) new) there own own_are rows
             (rows_are ∙ ap (λ (parent : Option ℕ). (left_given first a parent).come) (sym (parent_shown (member_at fans place) n)))
-            delta (load (member_at fans place) (member_fits nodes now on.shared.fans_are place n at) half) have b due due_now put;
+            delta (load (member_at fans place) (member_fits nodes now on.shared.fans_are place n at) half) have b put;
         shared =
             fanning.shared_more look goes comes no_change first refl refl before fans wired.parents nodes now a on.walked place on.shared n new at parent condition so_far replaced
-            mid laid others delta then laid_on turned index b due due_now put (on.way.ahead place (omega arith)) there;
+            mid laid others delta then laid_on turned index b put (on.way.ahead place (omega arith)) there;
       }
 
   module _ (nodes : List NetNode) (now : Fans) (a : Answered Delta) (on : IsUnderWay nodes now a (length before)) where

@@ -30,6 +30,7 @@ mod Walking
 mod Steady
 mod Showing
 mod Siblings
+mod Idle
 mod Fanned
 mod Fanning
 pub mod Fanwise

@@ -1,5 +1,5 @@
 -- The rules of which rows are dropped are listed, one after the other.
-use Rattle.rete_net.proofs.Common.{◌≡◌, ◌∙◌, sym, ap, refl, ℕ, suc, ◌+◌, ◌<◌, ◌≤◌, ◌==◌, Bool, true, false, cond, arith, List, [], ◌∷◌, ◌++◌, length, Some, None, slice_get, ◌⊎◌, inl, inr, nat_tests, slice_get_within, Row, RuleRows, rows_for, with_rows, AreListed, Answered, given, answer_in, AreRuled, has_place}
+use Rattle.rete_net.proofs.Common.{◌≡◌, ◌∙◌, sym, ap, refl, ℕ, suc, ◌+◌, ◌<◌, ◌≤◌, ◌==◌, Bool, true, false, cond, arith, List, [], ◌∷◌, ◌++◌, length, Some, slice_get, ◌⊎◌, inl, inr, nat_tests, slice_get_within, Row, RuleRows, rows_for, with_rows, AreListed, Answered, given, answer_in, AreRuled, has_place}
 use Rattle.rete_net.proofs.Growing.{both_at, each_more}
 use Rattle.rete_net.proofs.Turns.{below_or_at}
 

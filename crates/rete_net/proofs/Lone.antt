@@ -84,6 +84,20 @@ module _ (p : Program) (moment : Moment) where
   tells_nothing_at (node.Exists tally) still = exists_tells_nothing p moment tally
   tells_nothing_at (node.Fold fold) still = fold_tells_nothing p moment fold
 
+-- the gate of a node that is no `not` stays as it is
+pub alone_gate : (p : Program) (gone : List Fact) (come : Option Fact) (moment : Moment) (first : Delta) (n : NetNode) → IsLeftAlone p n first gone come moment → is_negated (condition_of n.node) ≡ false
+    → (other : Program) → GateStays other (pattern_of (condition_of n.node)) n.gate gone come moment.clock
+alone_gate p gone come moment first n alone joins other = by (is_whole (pattern_of (condition_of n.node)).window) refl
+  where
+    by : (w : Bool) → is_whole (pattern_of (condition_of n.node)).window ≡ w → GateStays other (pattern_of (condition_of n.node)) n.gate gone come moment.clock
+    by true whole = gate_stays other (pattern_of (condition_of n.node)) n.gate gone come moment.clock whole alone.unreached.unmeant
+    by false part =
+        let undue = alone.undue (ap (λ b. b || not (is_whole (pattern_of (condition_of n.node)).window)) joins ∙ ap not part) in
+        record {
+          stands = λ s next stands moves at. undue.gate.stands other (pattern_of (condition_of n.node)) s next gone come alone.unreached.unmeant stands moves at;
+          candidates = λ s next stands moves at. undue.gate.candidates other (pattern_of (condition_of n.node)) s next gone come alone.unreached.unmeant stands moves at;
+        }
+
 module _ (p : Program) (look : Look) (gone : List Fact) (come : Option Fact) (moment : Moment) (first : Delta) (n : NetNode) (left : Delta) (alone : IsLeftAlone p n first gone come moment) (none : changes_nothing left ≡ true) where
   abbrev asked : Pattern
   asked = pattern_of (condition_of n.node)

@@ -30,6 +30,9 @@ put_stays place k old now is was = by (eq_by_cmp nat_cmp place k) is
     by true e = e
     by false e = e ∙ was
 
+pub put_there : (place k : ℕ) (old now : Bool) → now ≡ cond (eq_by_cmp nat_cmp place k) true old → place ≡ k → now ≡ true
+put_there place k old now is same = let at : eq_by_cmp nat_cmp place k ≡ true = grind (arith, nat_tests) in is ∙ ap (λ t. cond t true old) at
+
 module _ (set : BTreeSet ℕ) (from : ℕ) where
   abbrev pub From : List ℕ → Type 0
   From range = IsKeyRangeOf nat_cmp (Included from) Unbounded set range

@@ -1,5 +1,5 @@
 -- How long the nodes of a network are quiet, and the network with them.
-use Rattle.rete_net.proofs.Common.{◌≡◌, ◌∙◌, sym, ap, refl, subst, ℕ, zero, suc, ℤ, pos, ◌<◌, ◌≤ℤ◌, ◌<ℤ◌, ◌^◌, arith, Bool, List, length, get_or, Option, Some, None, slice_get, IfSome, true, false, not, fun_ext, ≤ℤ_refl, slice_get_within, slice_get-get_or, Named, Row, Condition, Pattern, Program, pattern_of, Snapshot, cleaned, line, held, candidates_of, rows_of, GateStands, arrivals, IsOrderly, at_clock, condition_of, is_negated, IsBefore, IsQuiet, shown_nodes, Rete, NetNode, HaveSame, NodesStand, NetStands, StaysAt, IsNodeQuiet, AreQuiet, before, is_whole, PatternGate, arrivals_still, same_candidates, Node, join_quiet, exists_quiet, fold_quiet, is_timed, AreScheduled, IsScheduled, Schedule}
+use Rattle.rete_net.proofs.Common.{◌≡◌, ◌∙◌, sym, ap, refl, subst, ℕ, zero, suc, ℤ, pos, ◌<◌, ◌≤ℤ◌, ◌<ℤ◌, ◌^◌, arith, Bool, List, length, get_or, Option, Some, None, slice_get, IfSome, true, false, not, fun_ext, ≤ℤ_refl, slice_get_within, slice_get-get_or, Named, Row, Condition, Pattern, Program, pattern_of, Snapshot, cleaned, line, held, candidates_of, rows_of, GateStands, arrivals, IsOrderly, at_clock, condition_of, is_negated, IsBefore, IsQuiet, shown_nodes, Rete, NetNode, HaveSame, NodesStand, NetStands, StaysAt, IsNodeQuiet, AreQuiet, before, is_whole, PatternGate, arrivals_still, same_candidates, Node, join_quiet, exists_quiet, fold_quiet, is_timed}
 use Rattle.rete_net.proofs.Advancing.{same_first, rows_made}
 use Rattle.rete_net.proofs.Chaining.{AreMade}
 use Rattle.rete_net.proofs.Cleaning.{line_cleaned}

@@ -1,5 +1,5 @@
 -- Fans that are built: of the next parent there is one more, or one has a member more; and nodes that are members keep nothing.
-use Rattle.rete_net.proofs.Common.{◌≡◌, ◌∙◌, sym, ap, refl, subst, ℕ, zero, suc, ◌+◌, ◌<◌, ◌≤◌, arith, List, [], ◌∷◌, ◌++◌, length, length-append, take, Option, Some, None, slice_get, ◌⊎◌, inl, inr, Bool, true, fun_ext, set, length-set, slice_get_within, option_map, Named, Condition, Plain, Pattern, Program, pattern_of, Candidates, beside, no_names, no_rows, StandsFor, Look, AreBeside, IsEmpty, empty_snapshot, held, GateStands, has_good_window, Node, condition_of, NodeStands, no_candidates, Fan, Fans, Seat, Span, NetNode, AreBuilt, IsBehind, IsParent, given_seat, in_fan, member_at, member_of, seat_at, showing, with_fans, AreEmpty, AreFans, IsSeat, Member, AreGrowing, GrowsTo, IsFanPut, IsNewFan, IsFresh}
+use Rattle.rete_net.proofs.Common.{◌≡◌, ◌∙◌, sym, ap, refl, subst, ℕ, zero, suc, ◌+◌, ◌<◌, ◌≤◌, arith, List, [], ◌∷◌, ◌++◌, length, length-append, take, Option, Some, None, slice_get, ◌⊎◌, inl, inr, Bool, true, fun_ext, set, length-set, slice_get_within, option_map, Named, Condition, Plain, Pattern, Program, pattern_of, Candidates, beside, no_names, no_rows, StandsFor, Look, AreBeside, IsEmpty, empty_snapshot, held, GateStands, has_good_window, Node, condition_of, NodeStands, no_candidates, Fan, Fans, Seat, Span, NetNode, AreBuilt, IsBehind, IsParent, given_seat, in_fan, member_at, member_of, seat_at, showing, with_fans, AreEmpty, AreFans, IsSeat, Member, AreGrowing, GrowsTo, IsFanPut, IsNewFan, IsFresh, IsReached, AreLoneFound, AreFansBelow}
 use Rattle.join_tests.specs.declared.row_key.RowKey.{RowKey}
 use Rattle.fan_join.proofs.Places.{seam_or_before}
 use Rattle.fan_join.proofs.Whole.{empty_law}
@@ -22,6 +22,7 @@ none_grow nodes fans many none list spans = record {
     places = λ f m k fan e h. absurd (none_in fans.list.items f fan list e);
     counts = λ f fan e. absurd (none_in fans.list.items f fan list e);
     beside = λ f fan e. absurd (none_in fans.list.items f fan list e);
+    reached = λ f fan e. absurd (none_in fans.list.items f fan list e);
     spanned = λ f p fan span e h inside. absurd (none_in fans.list.items f fan list e);
   };
   behind = λ f fan lt e. absurd (none_in fans.list.items f fan list e);
@@ -58,6 +59,10 @@ module _ (nodes : List NetNode) (from : ℕ) (old new : Fans) (key : RowKey) (fa
       beside = λ f x e. elim (at f x e) [
         | inl there ↦ was.below.beside f x there
         | inr last ↦ subst (λ (y : Fan). AreBeside y.join) last.1 is.beside
+      ];
+      reached = λ f x e. elim (at f x e) [
+        | inl there ↦ was.below.reached f x there
+        | inr last ↦ subst (λ (y : Fan). IsReached y.join) last.1 is.reached
       ];
       spanned = λ f p x span e h inside. elim (at f x e) [
         | inl there ↦ was.below.spanned f p x span there (ap (λ l. slice_get l.items p) (sym spans) ∙ h) inside
@@ -193,6 +198,7 @@ module _ (nodes : List NetNode) (from : ℕ) (old new : Fans) (f : ℕ) (low : f
       counts = λ g x e. each_fan (λ y. length y.places.items ≡ length y.join.members.items) g x
           (ap length put.places ∙ length-append was_fan.places.items (place ∷ []) ∙ ap (λ i. i + 1) count ∙ sym (ap length put.members ∙ length-append was_fan.join.members.items (put.own ∷ []))) (was.below.counts g x) e;
       beside = λ g x e. each_fan (λ y. AreBeside y.join) g x (put.beside (was.below.beside f was_fan there)) (was.below.beside g x) e;
+      reached = λ g x e. each_fan (λ y. IsReached y.join) g x (put.reached (was.below.reached f was_fan there)) (was.below.reached g x) e;
       spanned = λ g p x span e h inside.
           let y = parent_was g x e in
           y.2 ∙ was.below.spanned g p y.0 span y.1 (ap (λ l. slice_get l.items p) (sym spans) ∙ h) inside;
@@ -232,6 +238,7 @@ module _ (nodes : List NetNode) (from : ℕ) (old new : Fans) (list : new.list �
       places = λ f m k x e h. ap (λ l. seat_at l.items k) seats ∙ was.below.places f m k x (list_at f x e) h;
       counts = λ f x e. was.below.counts f x (list_at f x e);
       beside = λ f x e. was.below.beside f x (list_at f x e);
+      reached = λ f x e. was.below.reached f x (list_at f x e);
       spanned = λ f p x s e h inside. elim (span_at p s h) [
         | inl there ↦ was.below.spanned f p x s (list_at f x e) there inside
         | inr last ↦ was.next f x (subst (λ (t : Span). t.from ≤ f) (sym last.1) inside.0) (list_at f x e) ∙ sym last.0
@@ -263,8 +270,28 @@ none_more [] none (suc k) = refl
 none_more (x ∷ seats) none zero = none 0
 none_more (x ∷ seats) none (suc k) = none_more seats (λ i. none (suc i)) k
 
-pub all_grown : (nodes : List NetNode) (fans : Fans) → AreGrowing nodes fans (length fans.list.items) → AreFans nodes fans
-all_grown nodes fans is = record { below = is.below; behind = λ f fan e. is.behind f fan (slice_get_within fans.list.items f fan e) e }
+-- and who is no member is found by its parent
+pub all_grown : (nodes : List NetNode) (fans now : Fans) → now.list ≡ fans.list → now.seats ≡ fans.seats → now.spans ≡ fans.spans → AreLoneFound nodes fans.seats.items now.lone → AreGrowing nodes fans (length fans.list.items) → AreFans nodes now
+all_grown nodes fans now list seats spans lone is = record {
+  below = below_on nodes fans now list seats spans is.below;
+  lone = λ k parent n e h free. lone k parent n e h (ap (λ l. seat_at l.items k) (sym seats) ∙ free);
+  behind = λ f fan e.
+      let b = is.behind f fan (slice_get_within fans.list.items f fan (ap (λ l. slice_get l.items f) (sym list) ∙ e)) (ap (λ l. slice_get l.items f) (sym list) ∙ e) in
+      (b.0, ap (λ l. slice_get l.items fan.parent) spans ∙ b.1, b.2);
+}
+  where
+    below_on : (nodes : List NetNode) (fans now : Fans) → now.list ≡ fans.list → now.seats ≡ fans.seats → now.spans ≡ fans.spans → AreFansBelow nodes fans → AreFansBelow nodes now
+    below_on nodes fans now list seats spans below = record {
+      many = ap (λ l. length l.items) seats ∙ below.many;
+      seats = λ k n seat e h.
+          let s = below.seats k n seat e (ap (λ l. seat_at l.items k) (sym seats) ∙ h) in
+          record { fan = s.fan; found = ap (λ l. slice_get l.items seat.fan) list ∙ s.found; own = s.own; member = s.member; place = s.place; parent = s.parent; pattern = s.pattern };
+      places = λ f m k x e h. ap (λ l. seat_at l.items k) seats ∙ below.places f m k x (ap (λ l. slice_get l.items f) (sym list) ∙ e) h;
+      counts = λ f x e. below.counts f x (ap (λ l. slice_get l.items f) (sym list) ∙ e);
+      beside = λ f x e. below.beside f x (ap (λ l. slice_get l.items f) (sym list) ∙ e);
+      reached = λ f x e. below.reached f x (ap (λ l. slice_get l.items f) (sym list) ∙ e);
+      spanned = λ f p x s e h inside. below.spanned f p x s (ap (λ l. slice_get l.items f) (sym list) ∙ e) (ap (λ l. slice_get l.items p) (sym spans) ∙ h) inside;
+    }
 
 pub grows_on : (nodes : List NetNode) (from : ℕ) (a b c : Fans) → GrowsTo nodes from a b → GrowsTo nodes from b c → GrowsTo nodes from a c
 grows_on nodes from a b c ab bc = record { spans = bc.spans ∙ ab.spans; grows = λ was. bc.grows (ab.grows was) }

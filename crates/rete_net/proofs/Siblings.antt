@@ -188,7 +188,7 @@ module _ (look : Look) (goes comes : List Row) (n : NetNode) (was : Option Membe
   abbrev m : Member
   m = of.0
 
-  whole_half : (left : LeftRows) × (was ≡ Some (record { left = left; own = m.own })) × IsHalfTurned look goes comes left m.left m.own half
+  pub whole_half : (left : LeftRows) × (was ≡ Some (record { left = left; own = m.own })) × IsHalfTurned look goes comes left m.left m.own half
   whole_half = half_of_member look goes comes was m half (subst (λ (o : Option Member). IsHalf look goes comes was o half) of.1 halved)
 
 module _ (p : Program) (look : Look) (gone : List Fact) (come : Option Fact) (moment : Moment) (n : NetNode) (was : Option Member) (left half : Delta) where

@@ -1,5 +1,5 @@
 -- A node whose rows and candidates name no old fact forgets without a change.
-use Rattle.rete_net.proofs.Common.{◌≡◌, ◌∙◌, sym, ap, refl, ℤ, ◌==◌, ◌&&◌, ◌||◌, not, Bool, true, false, [], Option, Some, None, fun_ext, Decides-eqb, Named, Row, InOrder, Condition, Plain, Negated, Existing, Folded, Pattern, Program, is_candidate, is_present, is_inside, pattern_of, Snapshot, tests_hold, name_of, unbound, both_of, of_filter, passed, Look, joins, Memories, clean, cleaned, either, remembered, StandsFor, joined, unvalued, splits_value, from_unvalued, joined_clean, gives, is_ripe, line, held, candidates_of, has_partner, held_fact, candidate_of, Node, counts_blockers, counts_witnesses, gathers, condition_of, Counts, NodeStands, NetNode, HasNoOld, IsForgetting, NodeForgets}
+use Rattle.rete_net.proofs.Common.{◌≡◌, ◌∙◌, sym, ap, refl, ℤ, ◌==◌, ◌&&◌, ◌||◌, not, Bool, true, false, [], Option, Some, None, fun_ext, Decides-eqb, Named, Row, InOrder, Condition, Plain, Negated, Existing, Folded, Pattern, Program, is_candidate, is_present, is_inside, pattern_of, Snapshot, tests_hold, name_of, unbound, both_of, of_filter, passed, Look, joins, Memories, clean, cleaned, either, remembered, StandsFor, joined, unvalued, splits_value, from_unvalued, joined_clean, gives, is_ripe, line, held, candidates_of, has_partner, held_fact, candidate_of, Node, counts_blockers, counts_witnesses, gathers, condition_of, Counts, NodeStands, NetNode, HasNoOld, IsForgetting, NodeForgets, HaveDistinctTags, HasAllOf}
 use Rattle.std.specs.List.Sorted.{IsStrictlySortedBy}
 use Rattle.pair_memory.specs.Valued.{valued}
 use Rattle.condition_node.specs.declared.node.Node.TheVariants as node
@@ -34,6 +34,19 @@ more_forgotten true true o h = refl
 more_forgotten true false o h = ap not (h refl refl)
 more_forgotten false f o h = refl
 
+-- ---- no candidate is old
+
+pub none_old : (p : Program) (look : Look) (s : Snapshot) (forgotten old : Named → Bool) (n : NetNode) → HasNoOld look old n → HaveDistinctTags s.facts → HasAllOf look s forgotten
+    → (who : Named) → candidates_of p (pattern_of (condition_of n.node)) s who ≡ true → forgotten who ≡ false → old who ≡ false
+none_old p look s forgotten old n none tags at_hand who candidate known = not_true (old who) (λ e.
+    let q = pattern_of (condition_of n.node) in
+    let r = candidate_of p s tags q who candidate in
+    let there = of_filter (is_candidate p q s) r.0 s.facts r.1 in
+    let fits = (both_of (is_present p s.clock r.0 && (r.0.ty.0 == q.ty.0 && (r.0.entry.0 == q.entry.0 && tests_hold unbound r.0 q.alone))) (is_inside p q q.window s.clock s.facts r.0) (passed (is_candidate p q s) r.0 s.facts r.1)).0 in
+    let meant = (both_of (is_present p s.clock r.0) (r.0.ty.0 == q.ty.0 && (r.0.entry.0 == q.entry.0 && tests_hold unbound r.0 q.alone)) fits).1 in
+    let typed = (Decides-eqb r.0.ty.0 q.ty.0).0 (both_of (r.0.ty.0 == q.ty.0) (r.0.entry.0 == q.entry.0 && tests_hold unbound r.0 q.alone) meant).0 in
+    none (name_of r.0) r.0 (ap old r.2 ∙ e) (at_hand r.0.tag r.0 (held_fact s tags r.0 there) (ap forgotten r.2 ∙ known)) (sym typed))
+
 -- ---- what is left of rows and candidates is the same
 
 module _ (p : Program) (look : Look) (s : Snapshot) (rows : Row → Bool) (forgotten old : Named → Bool) (n : NetNode) (none : HasNoOld look old n) (is : IsForgetting look s rows forgotten old []) where
@@ -44,14 +57,7 @@ module _ (p : Program) (look : Look) (s : Snapshot) (rows : Row → Bool) (forgo
   rows_same = cleaned_either rows forgotten old ∙ fun_ext (λ row. kept_whole (cleaned rows forgotten row) (clean old row) (is.rows_old.exact row))
 
   not_old : (who : Named) → candidates_of p (pattern_of c) s who ≡ true → forgotten who ≡ false → old who ≡ false
-  not_old who candidate known = not_true (old who) (λ e.
-      let q = pattern_of c in
-      let r = candidate_of p s is.tags q who candidate in
-      let there = of_filter (is_candidate p q s) r.0 s.facts r.1 in
-      let fits = (both_of (is_present p s.clock r.0 && (r.0.ty.0 == q.ty.0 && (r.0.entry.0 == q.entry.0 && tests_hold unbound r.0 q.alone))) (is_inside p q q.window s.clock s.facts r.0) (passed (is_candidate p q s) r.0 s.facts r.1)).0 in
-      let meant = (both_of (is_present p s.clock r.0) (r.0.ty.0 == q.ty.0 && (r.0.entry.0 == q.entry.0 && tests_hold unbound r.0 q.alone)) fits).1 in
-      let typed = (Decides-eqb r.0.ty.0 q.ty.0).0 (both_of (r.0.ty.0 == q.ty.0) (r.0.entry.0 == q.entry.0 && tests_hold unbound r.0 q.alone) meant).0 in
-      none (name_of r.0) r.0 (ap old r.2 ∙ e) (is.at_hand r.0.tag r.0 (held_fact s is.tags r.0 there) (ap forgotten r.2 ∙ known)) (sym typed))
+  not_old = none_old p look s forgotten old n none is.tags is.at_hand
 
   names_same : remembered (candidates_of p (pattern_of c) s) (either forgotten old) ≡ remembered (candidates_of p (pattern_of c) s) forgotten
   names_same = fun_ext (λ who. more_forgotten (candidates_of p (pattern_of c) s who) (forgotten who) (old who) (not_old who))

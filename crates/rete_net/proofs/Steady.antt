@@ -1,5 +1,6 @@
 -- The walk over the nodes of a network, by the steps of nodes.
-use Rattle.rete_net.proofs.Common.{◌≡◌, refl, [], ◌∷◌, ◌+◌, ◌<◌, ◌≤◌, ℕ, true, false, List, Option, None, Some, length, slice_get, set, Fact, Delta, Program, Moment, Look, Index, NetNode, Answered, left_given, some_answer, IsPut, Fans, Seat, half_at, half_of, member_at, seat_at, showing, with_fans, AreFans, AreRowsTurned, IsHalf, IsLaidAs, IsLeft, IsOf, Member, IsFound, IsLeftAlone, has_place, changes_nothing, Row, no_change, left_delta, NodeStep, HasAnswered, IsReplaced, IsWired, condition_of}
+use Rattle.rete_net.proofs.Common.{◌≡◌, refl, [], ◌∷◌, ◌+◌, ◌<◌, ◌≤◌, ℕ, true, false, List, Option, None, Some, length, slice_get, set, Fact, Delta, Program, Moment, Look, Index, NetNode, Answered, left_given, some_answer, IsPut, Fans, Seat, half_at, half_of, member_at, seat_at, showing, with_fans, AreFans, AreRowsTurned, IsHalf, IsLaidAs, IsLeft, IsOf, Member, IsFound, IsLeftAlone, has_place, changes_nothing, Row, no_change, left_delta, NodeStep, HasAnswered, IsReplaced, IsWired, condition_of, are_none, AreWoken}
+use Rattle.rete_net.proofs.Idle.{idle_steps}
 use Rattle.rete_net.proofs.Lone.{alone_stays}
 use Rattle.rete_net.proofs.Showing.{alone_shown}
 use Rattle.rete_net.proofs.Fanwise as fanwise
@@ -20,8 +21,8 @@ module _ (p : Program) (look : Look) (gone : List Fact) (come : Option Fact) (mo
   pub begun : (n : NetNode) → Alone n → n.parent ≡ None → first ≡ no_change
   begun n alone e = nothing_is first (alone.unreached.begun e)
 
-  pub stays : (n : NetNode) → Alone n → NodeStep p look gone come moment n n no_change no_change
-  stays n alone = alone_stays p look gone come moment first n no_change alone refl
+  pub stays : (n : NetNode) (o : Option Member) → Alone n → NodeStep p look gone come moment (showing o n) (showing o n) no_change no_change
+  stays n o alone = alone_stays p look gone come moment first (showing o n) no_change (alone_shown p o n first gone come moment alone) refl
 
   abbrev goes : Delta → List Row
   goes d = d.gone
@@ -31,30 +32,32 @@ module _ (p : Program) (look : Look) (gone : List Fact) (come : Option Fact) (mo
 
   abbrev pub IsUnderWay : List NetNode → Fans → List ℕ → Answered Delta → ℕ → Type 0
   IsUnderWay nodes now due a next =
-      fanwise.IsOnWay (NodeStep p look gone come moment) (left_delta first) first no_change first Alone look goes comes refl refl before fans ends index wired (λ deltas. refl) (λ deltas q. refl) begun stays nodes now due a next
+      fanwise.IsOnWay (NodeStep p look gone come moment) (left_delta first) first no_change first Alone look goes comes refl refl before fans ends index wired (λ deltas. refl) (λ deltas q. refl) begun stays (λ n was list seat left. idle_steps p look gone come moment first n was list seat left) nodes now due a next
 
-  pub set_off : (now : Fans) (due : List ℕ) (a : Answered Delta) → AreFans before fans → now.seats ≡ fans.seats → now.spans ≡ fans.spans → now.list ≡ fans.list → ((seat : Seat) → half_at now seat ≡ no_change)
+  pub set_off : (now : Fans) (due : List ℕ) (a : Answered Delta) → AreFans before fans → now.seats ≡ fans.seats → now.spans ≡ fans.spans → now.lone ≡ fans.lone → now.list ≡ fans.list → ((seat : Seat) → half_at now seat ≡ no_change)
       → a.none ≡ no_change → ((k : ℕ) → some_answer a k ≡ None)
       → ((k : ℕ) (n : NetNode) → slice_get before k ≡ Some n → IsFound index k n → has_place due k ≡ false → Alone n) → IsUnderWay before now due a 0
-  set_off now due a are seats spans list halves nothing unanswered reached =
+  set_off =
       fanwise.set_off (NodeStep p look gone come moment) (left_delta first) first no_change first Alone look goes comes refl refl before fans ends index wired (λ deltas. refl) (λ deltas q. refl) begun stays
-      now due a are seats spans list halves nothing unanswered (λ k n e found out. alone_shown p (member_at fans k) n first gone come moment (reached k n e found out))
+      (λ n was list seat left. idle_steps p look gone come moment first n was list seat left)
 
-  module _ (nodes : List NetNode) (now : Fans) (due : List ℕ) (a : Answered Delta) (next : ℕ) (way : IsUnderWay nodes now due a next) where
+  module _ (nodes : List NetNode) (now : Fans) (due : List ℕ) (a : Answered Delta) (so_far : IsReplaced before nodes) (next : ℕ) (way : IsUnderWay nodes now due a next) where
     pub step_at : (place : ℕ) → next ≤ place → place ≤ length before → ((k : ℕ) → next ≤ k → k < place → has_place due k ≡ false)
-        → (n new : NetNode) → slice_get nodes place ≡ Some n → new.parent ≡ n.parent → condition_of new.node ≡ condition_of n.node
-        → IsReplaced before nodes → IsReplaced nodes (set nodes place new)
+        → (n new : NetNode) → slice_get nodes place ≡ Some n → new.parent ≡ n.parent → condition_of new.node ≡ condition_of n.node → IsReplaced nodes (set nodes place new)
         → (mid : Fans) → IsLaidAs now mid → ((seat : Seat) → (seat_at now.seats.items place ≡ Some seat → ⊥) → IsLeft now mid seat)
         → (left delta : Delta) → left ≡ left_given first a n.parent
         → ((was : Option Member) → IsOf n now.list.items (seat_at now.seats.items place) → IsHalf look left.gone left.come was (member_at now place) (half_of now (seat_at now.seats.items place))
         → NodeStep p look gone come moment (showing was n) (showing (member_at mid place) new) left delta)
         → (then : Fans) → IsLaidAs mid then → ((ns : List NetNode) → AreFans ns mid → AreRowsTurned look place delta.gone delta.come mid then)
-        → (b : Answered Delta) (due_now : List ℕ) → (a.none ≡ no_change → IsPut index place delta a b due due_now)
+        → (b : Answered Delta) → (a.none ≡ no_change → IsPut index place delta a b) → (are_none delta.gone delta.come ≡ true → b ≡ a)
+        → (due_now : List ℕ) → ((ns : List NetNode) → AreFans ns mid → AreWoken place delta.gone delta.come mid then due due_now)
         → IsUnderWay (set nodes place new) then due_now b (place + 1)
     step_at =
-        fanwise.step_at (NodeStep p look gone come moment) (left_delta first) first no_change first Alone look goes comes refl refl before fans ends index wired (λ deltas. refl) (λ deltas q. refl) begun stays nodes now due a next way
+        fanwise.step_at (NodeStep p look gone come moment) (left_delta first) first no_change first Alone look goes comes refl refl before fans ends index wired (λ deltas. refl) (λ deltas q. refl) begun stays
+        (λ n was list seat left. idle_steps p look gone come moment first n was list seat left) nodes now due a so_far next way
 
     pub come_to_end : next ≤ length before → ((k : ℕ) → next ≤ k → k < length before → has_place due k ≡ false) → HasAnswered p look gone come moment first (with_fans before fans) (with_fans nodes now) ends a
     come_to_end le out =
-        let there = fanwise.come_to_end (NodeStep p look gone come moment) (left_delta first) first no_change first Alone look goes comes refl refl before fans ends index wired (λ deltas. refl) (λ deltas q. refl) begun stays nodes now due a next way le out in
+        let there = fanwise.come_to_end (NodeStep p look gone come moment) (left_delta first) first no_change first Alone look goes comes refl refl before fans ends index wired (λ deltas. refl) (λ deltas q. refl) begun stays
+        (λ n was list seat left. idle_steps p look gone come moment first n was list seat left) nodes now due a so_far next way le out in
         record { none = there.nothing; deltas = there.answers; stepped = there.below; known = there.known; ruled = there.ruled }

@@ -1,5 +1,5 @@
 -- A network stands for a snapshot without a fact that no rule misses.
-use Rattle.rete_net.proofs.Common.{◌≡◌, ◌∙◌, sym, ap, refl, subst, ℕ, ℤ, ◌==◌, ◌&&◌, ◌||◌, ◌-ℤ◌, ◌+ℤ◌, not, Bool, true, false, List, map, take, length, Some, slice_get, arith, fun_ext, or-true, take_all, filter, IsStrictlySortedBy, is_some, option_map, nat_cmp, In, Fact, Named, Row, has, Condition, Negated, Existing, Folded, Pattern, WindowTag, Whole, Time, Length, Program, Rule, fits, is_candidate, is_inside, is_within, HaveDistinctTags, pattern_of, rows, is_length, Snapshot, name_of, is_event, both_of, of_filter, one_fact, in_filter, in_place, filter_swap, Look, joins, Memories, cleaned, StandsFor, counts_blockers, counts_witnesses, gathers, all_passing, StandsCounted, NameHeld, held, candidates_of, rows_of, candidate_named, candidate_of, rows_named, Kept, Keeps, KeepsTime, Stands, TagsDiffer, with_tag, window_kept, Arrival, has_tag, inside, named_of, differ_after, PatternGate, GateStands, arrival_of, arrivals, kind_of, IsOrderly, at_clock, filter_made, is_other, number, rising, inside_are, Node, condition_of, NodeStands, AsksOfSet, blockers_ask, witnesses_ask, gathers_ask, held_known, where_true, node_moves, shown_nodes, Rete, NetNode, less_fact, IsUnmissed, HaveSame, NodesStand, NetStands, clean_rows, NetNodeStands, before, IsFront}
+use Rattle.rete_net.proofs.Common.{◌≡◌, ◌∙◌, sym, ap, refl, subst, ℕ, ℤ, ◌==◌, ◌&&◌, ◌||◌, ◌-ℤ◌, not, Bool, true, false, List, map, take, length, Some, slice_get, arith, fun_ext, or-true, take_all, filter, IsStrictlySortedBy, is_some, nat_cmp, In, Fact, Named, Row, has, Condition, Negated, Existing, Folded, Pattern, WindowTag, Whole, Time, Length, Program, Rule, fits, is_candidate, is_inside, is_within, HaveDistinctTags, pattern_of, rows, is_length, Snapshot, name_of, is_event, both_of, of_filter, one_fact, in_filter, in_place, filter_swap, Look, joins, Memories, cleaned, StandsFor, counts_blockers, counts_witnesses, gathers, all_passing, StandsCounted, NameHeld, held, candidates_of, rows_of, candidate_named, candidate_of, rows_named, Kept, Keeps, KeepsTime, Stands, TagsDiffer, with_tag, window_kept, Arrival, has_tag, inside, named_of, differ_after, PatternGate, GateStands, arrival_of, arrivals, kind_of, IsOrderly, at_clock, filter_made, is_other, number, rising, inside_are, Node, condition_of, NodeStands, AsksOfSet, blockers_ask, witnesses_ask, gathers_ask, held_known, where_true, node_moves, shown_nodes, Rete, NetNode, less_fact, IsUnmissed, HaveSame, NodesStand, NetStands, clean_rows, NetNodeStands, before, IsFront, Holds}
 use Rattle.std.proofs.lemmas.List.Kept.{IsStrictlySortedBy-filter}
 use Rattle.rule_model.specs.Candidates.{is_present}
 use Rattle.rule_model.specs.Snapshots.{floor}
@@ -57,10 +57,7 @@ module _ (p : Program) (s : Snapshot) (f : Fact) (forgotten : Named → Bool) (k
         ∙ sym (inside_are p q s kept_s.in_order (Time span))
 
     time_less : (w : TimeWindow) → inside (kind.Time w.millis) s.clock (arrivals p q less) ≡ inside (kind.Time w.millis) s.clock (arrivals p q s) → KeepsTime w (arrivals p q s) s.clock → KeepsTime w (arrivals p q less) s.clock
-    time_less w same keeps = record {
-      due = λ tag. keeps.due tag ∙ ap (λ (list : List Arrival). option_map (λ (a : Arrival). a.start +ℤ w.millis) (with_tag tag list)) (sym same);
-      ids = λ tag. keeps.ids tag ∙ ap (λ (list : List Arrival). option_map (λ (a : Arrival). a.named.id) (with_tag tag list)) (sym same);
-    }
+    time_less w same keeps = subst (λ (list : List Arrival). Holds w (λ tag. with_tag tag list)) (sym same) keeps
 
     keeps_less : (k : Kept) (w : WindowTag) → window_kept k ≡ kind_of w → is_length w ≡ false → ((span : ℤ) → w ≡ Time span → (fits p q s.clock f && is_inside p q (Time span) s.clock s.facts f) ≡ false)
         → Keeps k (arrivals p q s) s.clock → Keeps k (arrivals p q less) s.clock

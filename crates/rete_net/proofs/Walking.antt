@@ -1,7 +1,7 @@
--- A walk over some nodes, each after its parent: those that it passes over stay as they are.
-use Rattle.rete_net.proofs.Common.{◌≡◌, ◌∙◌, sym, ap, refl, subst, ℕ, zero, suc, ◌+◌, ◌<◌, ◌≤◌, ◌-◌, Bool, true, false, List, [], ◌∷◌, ◌++◌, length, take, arith, length-append, Option, Some, None, slice_get, ◌⊎◌, inl, inr, slice_index_or, set, length-set, get_or-append_seam, take-append_seam, take-append-le, get_or_append_left, Index, NetNode, Answered, some_answer, left_given, AreRuled, IsPut, is_listed, IsFound, has_place, IsReplaced, IsWired, condition_of}
+-- A walk over some nodes, each after its parent.
+use Rattle.rete_net.proofs.Common.{◌≡◌, ◌∙◌, sym, ap, refl, subst, ℕ, zero, suc, ◌+◌, ◌<◌, ◌≤◌, Bool, true, false, List, [], ◌∷◌, ◌++◌, length, take, arith, length-append, Option, Some, None, slice_get, ◌⊎◌, inl, inr, slice_index_or, set, length-set, get_or-append_seam, take-append_seam, take-append-le, get_or_append_left, Index, NetNode, Answered, some_answer, left_given, AreRuled, IsPut, is_listed, has_place, IsReplaced, IsWired, condition_of}
 use Rattle.rete_net.specs.Answers.{given as kept}
-use Rattle.rete_net.proofs.Growing.{has_at, both_at}
+use Rattle.rete_net.proofs.Growing.{both_at}
 use Rattle.rete_net.proofs.Turns.{set_other, set_same, below_or_at}
 
 -- one node more took its turn; `given` is what comes to a node of the answers of the nodes before it, by its parent
@@ -54,9 +54,8 @@ equal_or_not (suc j) (suc k) = elim (equal_or_not j k) [
   | inr differ ↦ inr (λ e. let less : j ≡ k = omega arith in differ less)
 ]
 
--- The walk has come to a place: the nodes before took their step, those from there on are as they were, and of these the ones that are not due
--- are left alone, and got nothing from their parents so far.
-pub record IsUnderWay {D : Type 0} (Turn : NetNode → NetNode → D → D → Type 0) (given : List D → Option ℕ → D) (last none : D) (Alone : NetNode → Type 0) (before : List NetNode) (ends : List ℕ) (now : List NetNode) (due : List ℕ) (a : Answered D) (next : ℕ) : Type 0 where
+-- The walk has come to a place: the nodes before took their step, those from there on are as they were.
+pub record IsUnderWay {D : Type 0} (Turn : NetNode → NetNode → D → D → Type 0) (given : List D → Option ℕ → D) (last none : D) (before : List NetNode) (ends : List ℕ) (now : List NetNode) (a : Answered D) (next : ℕ) : Type 0 where
   pub answers : List D
   pub count : length answers ≡ next
   pub rest : (k : ℕ) → next ≤ k → slice_get now k ≡ slice_get before k
@@ -64,12 +63,7 @@ pub record IsUnderWay {D : Type 0} (Turn : NetNode → NetNode → D → D → T
   pub nothing : a.none ≡ none
   pub known : (k : ℕ) → k < next → slice_index_or answers k last ≡ kept none (some_answer a k)
   pub ahead : (k : ℕ) → next ≤ k → some_answer a k ≡ None
-  pub alone : (k : ℕ) (n : NetNode) → next ≤ k → slice_get before k ≡ Some n → has_place due k ≡ false → Alone n
-  pub got : (k parent : ℕ) (n : NetNode) → next ≤ k → slice_get before k ≡ Some n → has_place due k ≡ false → n.parent ≡ Some parent → some_answer a parent ≡ None
   pub ruled : AreRuled a ends
-
-pub not_less : (n : ℕ) → n ≤ n
-not_less n = omega arith
 
 -- one node more is replaced
 pub replaced_more : (before now : List NetNode) (place : ℕ) (n new : NetNode) → IsReplaced before now → slice_get now place ≡ Some n → new.parent ≡ n.parent → condition_of new.node ≡ condition_of n.node → IsReplaced before (set now place new)
@@ -96,16 +90,14 @@ not_replaced nodes = record {
   condition = λ k a b e f. ap (λ (m : NetNode). condition_of m.node) (sym (both_at (slice_get nodes k) a b e f));
 }
 
-module _ {D : Type 0} (Turn : NetNode → NetNode → D → D → Type 0) (given : List D → Option ℕ → D) (last none first : D) (Alone : NetNode → Type 0) (before : List NetNode) (ends : List ℕ) (index : Index)
-    (wired : IsWired before ends index) (to_first : (answers : List D) → given answers None ≡ first) (to_behind : (answers : List D) (q : ℕ) → given answers (Some q) ≡ slice_index_or answers q last)
-    (begun : (n : NetNode) → Alone n → n.parent ≡ None → first ≡ none) (stays : (n : NetNode) → Alone n → Turn n n none none) where
-  abbrev Way : List NetNode → List ℕ → Answered D → ℕ → Type 0
-  Way now due a next = IsUnderWay Turn given last none Alone before ends now due a next
+module _ {D : Type 0} (Turn : NetNode → NetNode → D → D → Type 0) (given : List D → Option ℕ → D) (last none first : D) (before : List NetNode) (ends : List ℕ) (index : Index)
+    (wired : IsWired before ends index) (to_first : (answers : List D) → given answers None ≡ first) (to_behind : (answers : List D) (q : ℕ) → given answers (Some q) ≡ slice_index_or answers q last) where
+  abbrev Way : List NetNode → Answered D → ℕ → Type 0
+  Way now a next = IsUnderWay Turn given last none before ends now a next
 
-  -- at the start it knows which nodes the step reaches
-  pub set_off : (due : List ℕ) (a : Answered D) → a.none ≡ none → ((k : ℕ) → some_answer a k ≡ None)
-      → ((k : ℕ) (n : NetNode) → slice_get before k ≡ Some n → IsFound index k n → has_place due k ≡ false → Alone n) → Way before due a 0
-  set_off due a nothing unanswered reached = record {
+  -- at the start no node has answered
+  pub set_off : (a : Answered D) → a.none ≡ none → ((k : ℕ) → some_answer a k ≡ None) → Way before a 0
+  set_off a nothing unanswered = record {
     answers = [];
     count = refl;
     rest = λ k le. refl;
@@ -113,111 +105,58 @@ module _ {D : Type 0} (Turn : NetNode → NetNode → D → D → Type 0) (given
     nothing = nothing;
     known = λ k h. absurd (omega arith);
     ahead = λ k le. unanswered k;
-    alone = λ k n le e out. reached k n e (wired.indexed.found k n e) out;
-    got = λ k parent n le e out is. unanswered parent;
     ruled = λ rule end e out. unanswered end;
   }
 
-  module _ (now : List NetNode) (due : List ℕ) (a : Answered D) where
-    module _ (next : ℕ) (way : Way now due a next) where
-      -- what was answered is known with one more place
-      known_more : (d : D) (b : Answered D) → ((k : ℕ) → k < next → some_answer b k ≡ some_answer a k) → d ≡ kept none (some_answer b next)
-          → (k : ℕ) → k < next + 1 → slice_index_or (way.answers ++ d ∷ []) k last ≡ kept none (some_answer b k)
-      known_more d b same is k h = elim (below_or_at k next h) [
-        | inl lt ↦
-            let count = way.count in
-            let within : k < length way.answers = omega (arith, count) in
-            get_or_append_left way.answers (d ∷ []) last k within ∙ way.known k lt ∙ ap (kept none) (sym (same k lt))
-        | inr at ↦ ap (λ n. slice_index_or (way.answers ++ d ∷ []) n last) (at ∙ sym way.count) ∙ get_or-append_seam way.answers d [] last ∙ is ∙ ap (λ n. kept none (some_answer b n)) (sym at)
-      ]
+  -- a node takes its turn
+  module _ (now : List NetNode) (a : Answered D) (place : ℕ) (way : Way now a place) (n new : NetNode) (left answer : D) (b : Answered D) (at : slice_get now place ≡ Some n)
+      (turn : Turn n new left answer) (left_is : left ≡ left_given first a n.parent) (put : IsPut index place answer a b) where
+    was : slice_get before place ≡ Some n
+    was = sym (way.rest place (omega arith)) ∙ at
 
-      -- what comes to a node in the place
-      left_known : (n : NetNode) → slice_get before next ≡ Some n → given way.answers n.parent ≡ left_given first a n.parent
-      left_known n e = by n.parent refl
-        where
-          by : (parent : Option ℕ) → n.parent ≡ parent → given way.answers parent ≡ left_given first a parent
-          by None at = to_first way.answers
-          by (Some q) at = to_behind way.answers q ∙ way.known q (wired.parents next q n e at) ∙ ap (λ x. kept x (some_answer a q)) (sym way.nothing)
+    absent : some_answer a place ≡ None
+    absent = way.ahead place (omega arith)
 
-      nothing_left : (n : NetNode) → slice_get before next ≡ Some n → has_place due next ≡ false → given way.answers n.parent ≡ none
-      nothing_left n e out = by n.parent refl
-        where
-          by : (parent : Option ℕ) → n.parent ≡ parent → given way.answers parent ≡ none
-          by None at = to_first way.answers ∙ begun n (way.alone next n (omega arith) e out) at
-          by (Some q) at = to_behind way.answers q ∙ way.known q (wired.parents next q n e at) ∙ ap (kept none) (way.got next q n (omega arith) e out at)
+    -- what comes to the node
+    left_known : given way.answers n.parent ≡ left_given first a n.parent
+    left_known = by n.parent refl
+      where
+        by : (parent : Option ℕ) → n.parent ≡ parent → given way.answers parent ≡ left_given first a parent
+        by None at = to_first way.answers
+        by (Some q) at = to_behind way.answers q ∙ way.known q (wired.parents place q n was at) ∙ ap (λ x. kept x (some_answer a q)) (sym way.nothing)
 
-      -- it passes over a node that is not due
-      skip_one : next < length before → has_place due next ≡ false → Way now due a (next + 1)
-      skip_one h out =
-          let n = has_at before next h in
-          let absent = way.ahead next (omega arith) in
-          record {
-            answers = way.answers ++ none ∷ [];
-            count = let count = way.count in simp length-append (omega (arith, count));
-            rest = λ k le. way.rest k (omega arith);
-            below = below_more Turn given last before now now way.answers next n.0 n.0 none way.count (λ k lt. refl) way.below n.1 (way.rest next (omega arith) ∙ n.1)
-                (subst (λ (x : D). Turn n.0 n.0 x none) (sym (nothing_left n.0 n.1 out)) (stays n.0 (way.alone next n.0 (omega arith) n.1 out)));
-            nothing = way.nothing;
-            known = known_more none a (λ k lt. refl) (ap (kept none) (sym absent));
-            ahead = λ k le. way.ahead k (omega arith);
-            alone = λ k m le. way.alone k m (omega arith);
-            got = λ k parent m le. way.got k parent m (omega arith);
-            ruled = way.ruled;
-          }
+    known_more : (k : ℕ) → k < place + 1 → slice_index_or (way.answers ++ answer ∷ []) k last ≡ kept none (some_answer b k)
+    known_more k h = elim (below_or_at k place h) [
+      | inl lt ↦
+          let count = way.count in
+          let within : k < length way.answers = omega (arith, count) in
+          get_or_append_left way.answers (answer ∷ []) last k within ∙ way.known k lt ∙ ap (kept none) (sym (put.others k (λ e. absurd (omega arith))))
+      | inr at ↦
+          ap (λ n. slice_index_or (way.answers ++ answer ∷ []) n last) (at ∙ sym way.count) ∙ get_or-append_seam way.answers answer [] last
+          ∙ sym (ap (λ x. kept x (some_answer b place)) (sym way.nothing) ∙ put.here absent) ∙ ap (λ n. kept none (some_answer b n)) (sym at)
+    ]
 
-    -- it passes over all nodes before one
-    pub skip_all : (far next : ℕ) → Way now due a next → next + far ≤ length before → ((k : ℕ) → next ≤ k → k < next + far → has_place due k ≡ false) → Way now due a (next + far)
-    skip_all zero next way h out = let same : next ≡ next + 0 = omega arith in subst (Way now due a) same way
-    skip_all (suc far) next way h out =
-        let one = skip_one next way (omega arith) (out next (omega arith) (omega arith)) in
-        let same : (next + 1) + far ≡ next + suc far = omega arith in
-        subst (Way now due a) same (skip_all far (next + 1) one (omega arith) (λ k le lt. out k (omega arith) (omega arith)))
+    -- the answer in a place is the one that was there, but where the node in it answers something
+    still_none : (k : ℕ) → some_answer a k ≡ None → ((k ≡ place) → some_answer b place ≡ some_answer a place) → some_answer b k ≡ None
+    still_none k empty same = elim (equal_or_not k place) [
+      | inl is ↦ ap (some_answer b) is ∙ same is ∙ absent
+      | inr other ↦ put.others k other ∙ empty
+    ]
 
-    pub skip_to : (next place : ℕ) → Way now due a next → next ≤ place → place ≤ length before → ((k : ℕ) → next ≤ k → k < place → has_place due k ≡ false) → Way now due a place
-    skip_to next place way le h out =
-        let far : next + (place - next) ≡ place = omega arith in
-        subst (Way now due a) far (skip_all (place - next) next way (omega arith) (λ k le lt. out k le (omega arith)))
+    ruled_now : AreRuled b ends
+    ruled_now rule end e out =
+        still_none end (way.ruled rule end e (not_true (has_place a.rules.keys rule) (λ h. let no : true ≡ false = sym (put.rules_still rule h) ∙ out in cc)))
+        (λ is. put.rules rule (subst (λ (i : ℕ). is_listed index.rules i rule ≡ true) is (wired.indexed.ended rule end e)) out)
 
-    -- a node takes its turn
-    module _ (place : ℕ) (way : Way now due a place) (n new : NetNode) (left answer : D) (b : Answered D) (due_now : List ℕ) (at : slice_get now place ≡ Some n)
-        (turn : Turn n new left answer) (left_is : left ≡ left_given first a n.parent) (put : IsPut index place answer a b due due_now) where
-      was : slice_get before place ≡ Some n
-      was = sym (way.rest place (omega arith)) ∙ at
-
-      absent : some_answer a place ≡ None
-      absent = way.ahead place (omega arith)
-
-      still_out : (k : ℕ) → has_place due_now k ≡ false → has_place due k ≡ false
-      still_out k out = not_true (has_place due k) (λ e. let no : true ≡ false = sym (put.due_still k e) ∙ out in cc)
-
-      -- the answer in a place is the one that was there, but where the node in it answers something
-      still_none : (k : ℕ) → some_answer a k ≡ None → ((k ≡ place) → some_answer b place ≡ some_answer a place) → some_answer b k ≡ None
-      still_none k empty same = elim (equal_or_not k place) [
-        | inl is ↦ ap (some_answer b) is ∙ same is ∙ absent
-        | inr other ↦ put.others k other ∙ empty
-      ]
-
-      ruled_now : AreRuled b ends
-      ruled_now rule end e out =
-          still_none end (way.ruled rule end e (not_true (has_place a.rules.keys rule) (λ h. let no : true ≡ false = sym (put.rules_still rule h) ∙ out in cc)))
-          (λ is. put.rules rule (subst (λ (i : ℕ). is_listed index.rules i rule ≡ true) is (wired.indexed.ended rule end e)) out)
-
-      got_now : (k parent : ℕ) (m : NetNode) → place + 1 ≤ k → slice_get before k ≡ Some m → has_place due_now k ≡ false → m.parent ≡ Some parent → some_answer b parent ≡ None
-      got_now k parent m le e out is =
-          still_none parent (way.got k parent m (omega arith) e (still_out k out) is)
-          (λ same. put.children k (subst (λ (i : ℕ). is_listed index.children i k ≡ true) same ((wired.indexed.found k m e).child parent is)) out)
-
-      pub take_one : Way (set now place new) due_now b (place + 1)
-      take_one = record {
-        answers = way.answers ++ answer ∷ [];
-        count = let count = way.count in simp length-append (omega (arith, count));
-        rest = λ k le. set_other now place k new (λ e. absurd (omega arith)) ∙ way.rest k (omega arith);
-        below = below_more Turn given last before now (set now place new) way.answers place n new answer way.count (λ k lt. set_other now place k new (λ e. absurd (omega arith))) way.below was (set_same now place new n at)
-            (subst (λ (x : D). Turn n new x answer) (left_is ∙ sym (left_known place way n was)) turn);
-        nothing = put.none ∙ way.nothing;
-        known = known_more place way answer b (λ k lt. put.others k (λ e. absurd (omega arith))) (sym (ap (λ x. kept x (some_answer b place)) (sym way.nothing) ∙ put.here absent));
-        ahead = λ k le. put.others k (λ e. absurd (omega arith)) ∙ way.ahead k (omega arith);
-        alone = λ k m le e out. way.alone k m (omega arith) e (still_out k out);
-        got = got_now;
-        ruled = ruled_now;
-      }
+    pub take_one : Way (set now place new) b (place + 1)
+    take_one = record {
+      answers = way.answers ++ answer ∷ [];
+      count = let count = way.count in simp length-append (omega (arith, count));
+      rest = λ k le. set_other now place k new (λ e. absurd (omega arith)) ∙ way.rest k (omega arith);
+      below = below_more Turn given last before now (set now place new) way.answers place n new answer way.count (λ k lt. set_other now place k new (λ e. absurd (omega arith))) way.below was (set_same now place new n at)
+          (subst (λ (x : D). Turn n new x answer) (left_is ∙ sym left_known) turn);
+      nothing = put.none ∙ way.nothing;
+      known = known_more;
+      ahead = λ k le. put.others k (λ e. absurd (omega arith)) ∙ way.ahead k (omega arith);
+      ruled = ruled_now;
+    }

@@ -1,4 +1,4 @@
--- What the nodes of a network answer in a walk, and which nodes and rules are left out.
+-- What the nodes of a network answer in a walk, and which rules are left out.
 use Rattle.std.specs.Prelude.{◌≡◌, ℕ, true, false, List, Option, Some, None, slice_get}
 use Rattle.std.specs.BTreeMap.{get}
 use Rattle.std.specs.Ordering.{nat_cmp}
@@ -25,13 +25,11 @@ abbrev pub left_given : {D : Type 0} → D → Answered D → Option ℕ → D
 left_given first a None = first
 left_given first a (Some parent) = answer_in a parent
 
--- what the node in a place answers is put: where it is kept, the nodes behind that one are due, and the rules that end there are known
-pub record IsPut {D : Type 0} (index : Index) (place : ℕ) (answer : D) (was is : Answered D) (due due_now : List ℕ) : Type 0 where
+-- what the node in a place answers is put: where it is kept, the rules that end there are known
+pub record IsPut {D : Type 0} (index : Index) (place : ℕ) (answer : D) (was is : Answered D) : Type 0 where
   pub none : is.none ≡ was.none
   pub others : (k : ℕ) → (k ≡ place → ⊥) → some_answer is k ≡ some_answer was k
   pub here : some_answer was place ≡ None → given was.none (some_answer is place) ≡ answer
-  pub due_still : (k : ℕ) → has_place due k ≡ true → has_place due_now k ≡ true
-  pub children : (k : ℕ) → is_listed index.children place k ≡ true → has_place due_now k ≡ false → some_answer is place ≡ some_answer was place
   pub rules_still : (rule : ℕ) → has_place was.rules.keys rule ≡ true → has_place is.rules.keys rule ≡ true
   pub rules : (rule : ℕ) → is_listed index.rules place rule ≡ true → has_place is.rules.keys rule ≡ false → some_answer is place ≡ some_answer was place
 

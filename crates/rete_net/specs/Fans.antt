@@ -1,21 +1,20 @@
 -- Nodes that share the rows before them with siblings: which they are, and what they keep as if each had memories of its own.
-use Rattle.std.specs.Prelude.{◌≡◌, ◌<◌, ◌≤◌, ◌&&◌, ◌||◌, not, ℕ, suc, List, [], ◌∷◌, length, Option, Some, None, slice_get}
-use Rattle.std.specs.BTreeMap.{get}
-use Rattle.std.specs.Global.{Vec}
+use Rattle.std.specs.Prelude.{◌≡◌, ◌<◌, ◌≤◌, ◌&&◌, ◌||◌, not, ℕ, suc, true, false, List, [], ◌∷◌, length, Option, Some, None, slice_get}
+use Rattle.std.specs.BTreeMap.{get, BTreeMap}
 use Rattle.std.specs.Option.{option_map}
 use Rattle.std.specs.Ordering.{nat_cmp}
 use Rattle.row_delta.specs.declared.delta.Delta.{Delta}
 use Rattle.row_delta.specs.declared.row.Named.{Named}
 use Rattle.row_delta.specs.declared.row.Row.{Row}
 use Rattle.row_delta.specs.Rows.{has}
-use Rattle.row_change.specs.Changes.{IsDifference}
+use Rattle.row_change.specs.Changes.{are_none, IsDifference}
 use Rattle.rule_model.specs.declared.condition.Condition.TheVariants.{Plain}
 use Rattle.join_tests.specs.Joins.{Look}
 use Rattle.pair_memory.specs.declared.candidates.Candidates.{Candidates}
 use Rattle.pair_memory.specs.declared.left_rows.LeftRows.{LeftRows}
 use Rattle.pair_memory.specs.Apart.{beside}
 use Rattle.pair_memory.specs.Memories.{has_left, has_right, made, Keeps}
-use Rattle.fan_join.specs.Fans.{AreBeside, IsEmpty}
+use Rattle.fan_join.specs.Fans.{delta_of, AreBeside, IsEmpty, IsReached}
 use Rattle.fan_join.specs.Turns.{AreNamesTurned}
 use Rattle.condition_node.specs.declared.node.Node.{Node}
 use Rattle.condition_node.specs.declared.node.Node.TheVariants as node
@@ -24,8 +23,11 @@ use Rattle.rete_net.specs.declared.fans.Fan.{Fan}
 use Rattle.rete_net.specs.declared.fans.Fans.{Fans}
 use Rattle.rete_net.specs.declared.fans.Seat.{Seat}
 use Rattle.rete_net.specs.declared.fans.Span.{Span}
+use Rattle.rete_net.specs.declared.lists.Lists.{Lists}
 use Rattle.rete_net.specs.declared.net.Rete.{Rete}
 use Rattle.rete_net.specs.declared.node.NetNode.{NetNode}
+use Rattle.rete_net.specs.Indexes.{is_listed}
+use Rattle.rete_net.specs.Places.{has_place}
 use Rattle.rete_net.specs.Steps.{no_change}
 
 -- ---- what a node keeps
@@ -104,6 +106,10 @@ abbrev pub given_span : Option Span → Span
 given_span None = record { from = 0; to = 0 }
 given_span (Some span) = span
 
+-- a node with a parent and without a seat stands in the list of the parent
+abbrev pub AreLoneFound : List NetNode → List (Option Seat) → Lists → Type 0
+AreLoneFound nodes seats lone = (k parent : ℕ) (n : NetNode) → slice_get nodes k ≡ Some n → n.parent ≡ Some parent → seat_at seats k ≡ None → is_listed lone parent k ≡ true
+
 -- Fans of the first parents, so many: each node with a seat is a member, and each member a node with this seat; each fan looks for rows where
 -- they are kept, and is in the span of its parent, which has no fans of others.
 pub record AreFansBelow (nodes : List NetNode) (fans : Fans) : Type 0 where
@@ -112,11 +118,13 @@ pub record AreFansBelow (nodes : List NetNode) (fans : Fans) : Type 0 where
   pub places : (f m k : ℕ) (fan : Fan) → slice_get fans.list.items f ≡ Some fan → slice_get fan.places.items m ≡ Some k → seat_at fans.seats.items k ≡ Some (record { fan = f; member = m })
   pub counts : (f : ℕ) (fan : Fan) → slice_get fans.list.items f ≡ Some fan → length fan.places.items ≡ length fan.join.members.items
   pub beside : (f : ℕ) (fan : Fan) → slice_get fans.list.items f ≡ Some fan → AreBeside fan.join
+  pub reached : (f : ℕ) (fan : Fan) → slice_get fans.list.items f ≡ Some fan → IsReached fan.join
   pub spanned : (f p : ℕ) (fan : Fan) (span : Span) → slice_get fans.list.items f ≡ Some fan → slice_get fans.spans.items p ≡ Some span → IsInSpan span f → fan.parent ≡ p
 
--- the fans of all nodes
+-- the fans of all nodes; a child that is no member is found by its parent
 pub record AreFans (nodes : List NetNode) (fans : Fans) : Type 0 where
   pub below : AreFansBelow nodes fans
+  pub lone : AreLoneFound nodes fans.seats.items fans.lone
   pub behind : (f : ℕ) (fan : Fan) → slice_get fans.list.items f ≡ Some fan → (span : Span) × (slice_get fans.spans.items fan.parent ≡ Some span) × IsInSpan span f
 
 -- they keep nothing
@@ -132,22 +140,20 @@ pub record IsFanLike (old new : Fan) : Type 0 where
   pub key : new.join.left.key ≡ old.join.left.key
   pub many : length new.join.members.items ≡ length old.join.members.items
   pub patterns : (m : ℕ) (c d : Candidates) → slice_get old.join.members.items m ≡ Some c → slice_get new.join.members.items m ≡ Some d → d.pattern ≡ c.pattern
+  pub reached : IsReached old.join → IsReached new.join
 
--- fans with the same seats and spans, each like the one in its place
+-- fans with the same seats, spans and lone children, each like the one in its place
 pub record IsLaidAs (old new : Fans) : Type 0 where
   pub seats : new.seats ≡ old.seats
   pub spans : new.spans ≡ old.spans
+  pub lone : new.lone ≡ old.lone
   pub many : length new.list.items ≡ length old.list.items
   pub each : (f : ℕ) (a b : Fan) → slice_get old.list.items f ≡ Some a → slice_get new.list.items f ≡ Some b → IsFanLike a b
 
--- what the rows before a member have changed for it so far
-abbrev pub given_half : Option Delta → Delta
-given_half None = no_change
-given_half (Some half) = half
-
-abbrev pub half_in : ℕ → Option (Vec Delta) → Delta
+-- what the rows before a member have changed for it so far, where they changed something
+abbrev pub half_in : ℕ → Option (BTreeMap ℕ Delta) → Delta
 half_in k None = no_change
-half_in k (Some deltas) = given_half (slice_get deltas.items k)
+half_in k (Some deltas) = delta_of deltas k
 
 abbrev pub half_at : Fans → Seat → Delta
 half_at fans seat = half_in seat.member (get nat_cmp fans.halves seat.fan)
@@ -184,6 +190,14 @@ pub record AreRowsTurned (look : Look) (place : ℕ) (gone come : List Row) (old
   pub turned : (seat : Seat) (fan : Fan) → slice_get old.list.items seat.fan ≡ Some fan → fan.parent ≡ place → half_at old seat ≡ no_change
       → IsHalf look gone come (member_of old.list.items (Some seat)) (member_of new.list.items (Some seat)) (half_at new seat)
   pub nothing : gone ≡ [] → come ≡ [] → (seat : Seat) → IsLeft old new seat
+
+-- After rows of the node in a place left and came, what they concern is due: the children that keep rows of their own, where there are such
+-- rows; and the members for which something has changed.
+pub record AreWoken (place : ℕ) (gone come : List Row) (old new : Fans) (due due_now : List ℕ) : Type 0 where
+  pub still : (k : ℕ) → has_place due k ≡ true → has_place due_now k ≡ true
+  pub lone : (k : ℕ) → is_listed old.lone place k ≡ true → has_place due_now k ≡ false → are_none gone come ≡ true
+  pub members : (seat : Seat) (fan : Fan) (k : ℕ) → slice_get old.list.items seat.fan ≡ Some fan → fan.parent ≡ place → slice_get fan.places.items seat.member ≡ Some k
+      → half_at old seat ≡ no_change → has_place due_now k ≡ false → half_at new seat ≡ no_change
 
 -- The candidates of a member left and came, behind what its rows had changed.
 abbrev pub AreNamesTurnedAt : Look → List Named → List Named → Delta → Delta → List Fan → List Fan → Seat → Type 0

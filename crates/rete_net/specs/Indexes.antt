@@ -54,12 +54,11 @@ IsAsked alpha f k =
 abbrev pub IsAskedWhereMeant : AlphaIndex → Pattern → ℕ → Type 0
 IsAskedWhereMeant alpha pattern k = (f : Fact) → is_meant pattern f ≡ true → IsAsked alpha f k
 
--- the node in a place is found by its type, by what its pattern means, and by its parent
+-- the node in a place is found by its type, by what its pattern means, and where it has no parent
 pub record IsFound (index : Index) (k : ℕ) (n : NetNode) : Type 0 where
   pub typed : is_listed index.by_type (type_of n) k ≡ true
   pub asked : IsAskedWhereMeant index.alpha (pattern_of (condition_of n.node)) k
   pub first : n.parent ≡ None → is_in index.firsts.items k ≡ true
-  pub child : (parent : ℕ) → n.parent ≡ Some parent → is_listed index.children parent k ≡ true
 
 -- all nodes are found, and each rule by its last node
 pub record IsIndexOf (nodes : List NetNode) (ends : List ℕ) (index : Index) : Type 0 where

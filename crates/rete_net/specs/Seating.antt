@@ -3,7 +3,7 @@ use Rattle.std.specs.Prelude.{◌≡◌, ◌<◌, ◌≤◌, ◌∷◌, ◌++◌
 use Rattle.rule_model.specs.declared.condition.Pattern.{Pattern}
 use Rattle.join_tests.specs.declared.row_key.RowKey.{RowKey}
 use Rattle.pair_memory.specs.declared.candidates.Candidates.{Candidates}
-use Rattle.fan_join.specs.Fans.{AreBeside, IsEmpty}
+use Rattle.fan_join.specs.Fans.{AreBeside, IsEmpty, IsReached}
 use Rattle.rete_net.specs.declared.fans.Fan.{Fan}
 use Rattle.rete_net.specs.declared.fans.Fans.{Fans}
 use Rattle.rete_net.specs.declared.fans.Span.{Span}
@@ -37,6 +37,7 @@ pub record IsNewFan (parent : ℕ) (key : RowKey) (fan : Fan) : Type 0 where
   pub members : fan.join.members.items ≡ []
   pub places : fan.places.items ≡ []
   pub beside : AreBeside fan.join
+  pub reached : IsReached fan.join
   pub empty : IsEmpty fan.join
 
 -- a fan with one member more, which has no candidates of this pattern
@@ -47,4 +48,5 @@ pub record IsFanPut (old new : Fan) (place : ℕ) (pattern : Pattern) : Type 0 w
   pub members : new.join.members.items ≡ old.join.members.items ++ own ∷ []
   pub same : own.pattern ≡ pattern
   pub beside : AreBeside old.join → AreBeside new.join
+  pub reached : IsReached old.join → IsReached new.join
   pub empty : IsEmpty old.join → IsEmpty new.join

@@ -55,17 +55,10 @@ impl<D: Drop> Answered<D> {
         }
     }
 
-    /// Takes what the node in a place answers, which is not `none`: the nodes behind it are due.
-    pub(crate) fn put(
-        &mut self,
-        due: &mut BTreeSet<usize, Global>,
-        index: &Index,
-        place: usize,
-        answer: D,
-    ) -> Result<(), NoMemory>
-        ensures { OnOk result (IsPut index.now place answer self.old self.new due.old.keys due.new.keys) }
+    /// Takes what the node in a place answers, which is not `none`.
+    pub(crate) fn put(&mut self, index: &Index, place: usize, answer: D) -> Result<(), NoMemory>
+        ensures { OnOk result (IsPut index.now place answer self.old self.new) }
     {
-        put_all(due, index.children(place))?;
         put_all(&mut self.rules, index.rules(place))?;
         self.answers.insert(place, answer)?;
         Ok(())

@@ -1,18 +1,21 @@
-ghost use Rattle.std.specs.Prelude.{◌≡◌, ◌<◌, ℕ, List, false, length, slice_get, None, Some, IfOk, OnOk, IsTrue};
+ghost use Rattle.std.specs.Prelude.{◌≡◌, ◌<◌, ℕ, List, true, false, length, slice_get, None, Some, IfOk, OnOk, IsTrue};
 ghost use Rattle.row_change.specs.Changes.{are_none};
-ghost use Rattle.fan_join.specs.Fans.{AreBeside};
+ghost use Rattle.fan_join.specs.Fans.{delta_of, AreBeside, IsReached, AreRowsTurned as JoinTurned};
 ghost use Rattle.rete_net.specs.declared.fans.Fan.{Fan as FanData};
 ghost use Rattle.rete_net.specs.declared.fans.Seat.{Seat as SeatData};
 ghost use Rattle.rete_net.specs.declared.node.NetNode.{NetNode as NetNodeData};
-ghost use Rattle.rete_net.specs.Fans.{half_at, given_half, member_of, seat_at, given_span, AreFans, AreNamesTurnedAt, AreRowsTurned, IsHalf, IsLaidAs, IsLeft};
+ghost use Rattle.rete_net.specs.Fans.{half_at, member_of, seat_at, given_span, AreFans, AreNamesTurnedAt, AreRowsTurned, AreWoken, IsHalf, IsLaidAs, IsLeft};
+ghost use Rattle.rete_net.specs.Places.{has_place};
 ghost use Rattle.rete_net.specs.Steps.{no_change as nothing};
 
 use crate::build::no_change;
+use crate::due::put_all;
+use crate::lists::Lists;
 use fan_join::FanJoin;
-use fx_base::{Copies, Facts, NoMemory};
+use fx_base::{Facts, NoMemory};
 use row_delta::{Delta, Named, Row};
 use std::alloc::Global;
-use std::collections::BTreeMap;
+use std::collections::{BTreeMap, BTreeSet};
 
 /// Which member of which fan a node is.
 #[derive(Clone, Copy)]
@@ -37,14 +40,16 @@ pub(crate) struct Fan {
     pub(crate) places: Vec<usize>,
 }
 
-/// What nodes keep that share the rows before them: the fans, those of a parent side by side; for each node which member it is, if it is
-/// one; the fans behind each node; and, while a step goes on, what the rows of a fan have changed for its members.
+/// What stands behind each node, by what it keeps rows: the fans, those of a parent side by side; for each node which member it is, if it
+/// is one; the fans behind each node, and its other children; and, while a step goes on, what the rows of a fan have changed for those
+/// of its members for which they changed something.
 #[derive(Drop)]
 pub(crate) struct Fans {
     pub(crate) list: Vec<Fan>,
     pub(crate) seats: Vec<Option<Seat>>,
     pub(crate) spans: Vec<Span>,
-    pub(crate) halves: BTreeMap<usize, Vec<Delta>>,
+    pub(crate) lone: Lists,
+    pub(crate) halves: BTreeMap<usize, BTreeMap<usize, Delta>>,
 }
 
 impl Fans {
@@ -52,26 +57,27 @@ impl Fans {
     pub(crate) fn seat(&self, place: usize) -> Option<Seat>
         ensures { result ≡ seat_at self.now.seats.items place }
     {
-        match self.seats.get(place) {
-            Some(seat) => *seat,
-            None => None,
-        }
+        seat_in(&self.seats, place)
     }
 
     /// Begins a step, in which no rows have changed anything. Takes no memory.
     pub(crate) fn begin(&mut self, alloc: Global)
         ensures seats { self.new.seats ≡ self.old.seats }
         ensures spans { self.new.spans ≡ self.old.spans }
+        ensures lone { self.new.lone ≡ self.old.lone }
         ensures list { self.new.list ≡ self.old.list }
         ensures halves { (seat : SeatData) → half_at self.new seat ≡ nothing }
     {
         self.halves = BTreeMap::new(alloc);
     }
 
-    /// Rows of a node leave and then come for the fans behind it. It costs what a fan costs for each of these; without rows, nothing.
+    /// Rows of a node leave and then come for what stands behind it, and what they concern is due: the children that keep rows of their
+    /// own, and those members of its fans for which something changes. It costs what a fan costs for each of these rows; without rows,
+    /// nothing.
     pub(crate) fn turn_rows<F: Facts>(
         &mut self,
         alloc: Global,
+        due: &mut BTreeSet<usize, Global>,
         parent: usize,
         gone: &[Row],
         come: &[Row],
@@ -79,13 +85,15 @@ impl Fans {
     ) -> Result<(), NoMemory>
         ensures laid { OnOk result (IsLaidAs self.old self.new) }
         ensures turned { OnOk result ((nodes : List NetNodeData) → AreFans nodes self.old → AreRowsTurned (F.map facts.now) parent gone.now come.now self.old self.new) }
+        ensures woken { OnOk result ((nodes : List NetNodeData) → AreFans nodes self.old → AreWoken parent gone.now come.now self.old self.new due.old.keys due.new.keys) }
     {
         if is_nothing(gone, come) {
             return Ok(());
         }
+        put_all(due, self.lone.list(parent))?;
         let span = self.span(parent);
         for fan in span.from..span.to {
-            self.turn_fan(alloc, fan, gone, come, facts)?;
+            self.turn_fan(alloc, due, fan, gone, come, facts)?;
         }
         Ok(())
     }
@@ -100,10 +108,11 @@ impl Fans {
         }
     }
 
-    // Rows leave and then come for the fan in a place, if it is there.
+    // Rows leave and then come for the fan in a place, if it is there, and the members for which something changes are due.
     fn turn_fan<F: Facts>(
         &mut self,
         alloc: Global,
+        due: &mut BTreeSet<usize, Global>,
         fan: usize,
         gone: &[Row],
         come: &[Row],
@@ -111,27 +120,33 @@ impl Fans {
     ) -> Result<(), NoMemory>
         ensures laid { OnOk result (IsLaidAs self.old self.new) }
         ensures others { OnOk result ((seat : SeatData) → (seat.fan ≡ fan → ⊥) → IsLeft self.old self.new seat) }
-        ensures turned { OnOk result ((seat : SeatData) (f : FanData) → seat.fan ≡ fan → slice_get self.old.list.items fan ≡ Some f → AreBeside f.join
+        ensures turned { OnOk result ((seat : SeatData) (f : FanData) → seat.fan ≡ fan → slice_get self.old.list.items fan ≡ Some f → AreBeside f.join → IsReached f.join
             → IsHalf (F.map facts.now) gone.now come.now (member_of self.old.list.items (Some seat)) (member_of self.new.list.items (Some seat)) (half_at self.new seat)) }
+        ensures still { OnOk result ((k : ℕ) → has_place due.old.keys k ≡ true → has_place due.new.keys k ≡ true) }
+        ensures woken { OnOk result ((seat : SeatData) (f : FanData) (k : ℕ) → seat.fan ≡ fan → slice_get self.old.list.items fan ≡ Some f → slice_get f.places.items seat.member ≡ Some k
+            → has_place due.new.keys k ≡ false → half_at self.new seat ≡ nothing) }
     {
         if fan >= self.list.len() {
             return Ok(());
         }
-        let deltas = self.list[fan].join.turn_rows(alloc, gone, come, facts)?;
-        self.halves.insert(fan, deltas)?;
+        let halves = self.list[fan].turn_rows(alloc, due, gone, come, facts)?;
+        self.halves.insert(fan, halves)?;
         Ok(())
     }
 
-    /// A copy of what the rows before a member have changed for it in this step.
-    pub(crate) fn half(&self, alloc: Global, seat: Seat) -> Result<Delta, NoMemory>
-        ensures { IfOk result (λ half. half ≡ half_at self.now seat) }
+    /// Takes out what the rows before a member have changed for it in this step. It costs the logarithm of the fans that rows reached and
+    /// of the members for which they changed something. Takes no memory.
+    pub(crate) fn take_half(&mut self, alloc: Global, seat: Seat) -> Delta
+        ensures half { result ≡ half_at self.old seat }
+        ensures others { (other : SeatData) → (other ≡ seat → ⊥) → half_at self.new other ≡ half_at self.old other }
+        ensures seats { self.new.seats ≡ self.old.seats }
+        ensures spans { self.new.spans ≡ self.old.spans }
+        ensures lone { self.new.lone ≡ self.old.lone }
+        ensures list { self.new.list ≡ self.old.list }
     {
-        match self.halves.get(&seat.fan) {
-            Some(halves) => {
-                let half = half_of(alloc, halves, seat.member)?;
-                Ok(half)
-            }
-            None => Ok(no_change(alloc)),
+        match self.halves.get_mut(&seat.fan) {
+            Some(halves) => taken(halves, alloc, seat.member),
+            None => no_change(alloc),
         }
     }
 
@@ -171,6 +186,16 @@ impl Fans {
     }
 }
 
+/// The seat in a place, where there is one. Takes no memory.
+pub(crate) fn seat_in(seats: &[Option<Seat>], place: usize) -> Option<Seat>
+    ensures { result ≡ seat_at seats.now place }
+{
+    match seats.get(place) {
+        Some(seat) => *seat,
+        None => None,
+    }
+}
+
 // Whether there are no rows of either kind. Takes no memory.
 fn is_nothing(gone: &[Row], come: &[Row]) -> bool
     ensures { result ≡ are_none gone.now come.now }
@@ -181,15 +206,71 @@ fn is_nothing(gone: &[Row], come: &[Row]) -> bool
     }
 }
 
-// A copy of the difference in a place; past the end nothing has changed.
-fn half_of(alloc: Global, halves: &[Delta], place: usize) -> Result<Delta, NoMemory>
-    ensures { IfOk result (λ half. half ≡ given_half (slice_get halves.now place)) }
+// Takes out what has changed for a member; where nothing stands, nothing has. Takes no memory.
+fn taken(halves: &mut BTreeMap<usize, Delta>, alloc: Global, member: usize) -> Delta
+    ensures half { result ≡ delta_of halves.old member }
+    ensures others { (other : ℕ) → (other ≡ member → ⊥) → delta_of halves.new other ≡ delta_of halves.old other }
 {
-    match halves.get(place) {
-        Some(half) => Ok(Delta {
-            gone: half.gone.copy(alloc)?,
-            come: half.come.copy(alloc)?,
-        }),
-        None => Ok(no_change(alloc)),
+    match halves.remove(&member) {
+        Some(half) => half,
+        None => no_change(alloc),
+    }
+}
+
+impl Fan {
+    // Rows leave and then come for the members; it answers what changes for those for which something does, and these are due.
+    fn turn_rows<F: Facts>(
+        &mut self,
+        alloc: Global,
+        due: &mut BTreeSet<usize, Global>,
+        gone: &[Row],
+        come: &[Row],
+        facts: &F,
+    ) -> Result<BTreeMap<usize, Delta>, NoMemory>
+        ensures parent { OnOk result (self.new.parent ≡ self.old.parent) }
+        ensures places { OnOk result (self.new.places ≡ self.old.places) }
+        ensures key { OnOk result (self.new.join.left.key ≡ self.old.join.left.key) }
+        ensures members { OnOk result (self.new.join.members ≡ self.old.join.members) }
+        ensures reached { OnOk result (self.new.join.reached ≡ self.old.join.reached) }
+        ensures turned { IfOk result (λ halves. AreBeside self.old.join → IsReached self.old.join → JoinTurned self.old.join self.new.join (F.map facts.now) gone.now come.now halves) }
+        ensures still { OnOk result ((k : ℕ) → has_place due.old.keys k ≡ true → has_place due.new.keys k ≡ true) }
+        ensures woken { IfOk result (λ halves. (m k : ℕ) → slice_get self.old.places.items m ≡ Some k → has_place due.new.keys k ≡ false → delta_of halves m ≡ nothing) }
+    {
+        let halves = self.join.turn_rows(alloc, gone, come, facts)?;
+        put_members(due, &self.places, &halves)?;
+        Ok(halves)
+    }
+}
+
+// Puts the places of the members for which something has changed.
+fn put_members(
+    due: &mut BTreeSet<usize, Global>,
+    places: &[usize],
+    halves: &BTreeMap<usize, Delta>,
+) -> Result<(), NoMemory>
+    ensures still { OnOk result ((k : ℕ) → has_place due.old.keys k ≡ true → has_place due.new.keys k ≡ true) }
+    ensures woken { OnOk result ((m k : ℕ) → slice_get places.now m ≡ Some k → has_place due.new.keys k ≡ false → delta_of halves.now m ≡ nothing) }
+{
+    for member in halves.keys() {
+        put_member(due, places, *member)?;
+    }
+    Ok(())
+}
+
+// Puts the place of a member.
+fn put_member(
+    due: &mut BTreeSet<usize, Global>,
+    places: &[usize],
+    member: usize,
+) -> Result<(), NoMemory>
+    ensures still { OnOk result ((k : ℕ) → has_place due.old.keys k ≡ true → has_place due.new.keys k ≡ true) }
+    ensures put { OnOk result ((k : ℕ) → slice_get places.now member ≡ Some k → has_place due.new.keys k ≡ true) }
+{
+    match places.get(member) {
+        Some(place) => {
+            due.insert(*place)?;
+            Ok(())
+        }
+        None => Ok(()),
     }
 }

@@ -79,17 +79,17 @@ fn put_type(
 /// Puts the rows that the node in a place dropped, where there are some.
 pub(crate) fn put_dropped(
     dropped: &mut Answered<Seq<Row>>,
-    due: &mut BTreeSet<usize, Global>,
     index: &Index,
     place: usize,
     rows: Seq<Row>,
 ) -> Result<(), NoMemory>
-    ensures { OnOk result (dropped.old.none ≡ [] → IsPut index.now place rows dropped.old dropped.new due.old.keys due.new.keys) }
+    ensures put { OnOk result (dropped.old.none ≡ [] → IsPut index.now place rows dropped.old dropped.new) }
+    ensures nothing { OnOk result (rows ≡ [] → dropped.new ≡ dropped.old) }
 {
     if rows.as_slice().is_empty() {
         return Ok(());
     }
-    dropped.put(due, index, place, rows)
+    dropped.put(index, place, rows)
 }
 
 // Puts the entry of a rule, where rows of it were dropped.

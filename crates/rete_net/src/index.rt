@@ -8,14 +8,13 @@ use crate::node::NetNode;
 use fx_base::{NoMemory, TypeId};
 use std::alloc::Global;
 
-/// By what the nodes of a network are found, by their places: by the type of their candidates, by what their patterns mean, as nodes
-/// without a parent, and by their parents; and the rules by the places of their last nodes.
+/// By what the nodes of a network are found, by their places: by the type of their candidates, by what their patterns mean, and as nodes
+/// without a parent; and the rules by the places of their last nodes.
 #[derive(Drop)]
 pub(crate) struct Index {
     by_type: Lists,
     pub(crate) alpha: AlphaIndex,
     firsts: Vec<usize>,
-    children: Lists,
     rules: Lists,
 }
 
@@ -28,7 +27,6 @@ impl Index {
             by_type: Lists::new(alloc),
             alpha: AlphaIndex::new(alloc, nodes.len()),
             firsts: Vec::new(alloc),
-            children: Lists::new(alloc),
             rules: Lists::new(alloc),
         };
         for (place, node) in nodes.iter().enumerate() {
@@ -47,7 +45,7 @@ impl Index {
         self.by_type.put(alloc, usize::from(node.ty().0), place)?;
         self.alpha.put(alloc, place, node.pattern())?;
         match node.parent {
-            Some(parent) => self.children.put(alloc, parent, place)?,
+            Some(_) => {}
             None => self.firsts.push(place)?,
         }
         Ok(())
@@ -74,13 +72,6 @@ impl Index {
         ensures { result.now ≡ self.now.firsts.items }
     {
         &self.firsts
-    }
-
-    /// The nodes that have this one as their parent. Takes no memory.
-    pub(crate) fn children(&self, parent: usize) -> &[usize]
-        ensures { result.now ≡ items_of (slice_get self.now.children.lists.items parent) }
-    {
-        self.children.list(parent)
     }
 
     /// The rules whose last node this is. Takes no memory.

@@ -133,8 +133,9 @@ impl Rete {
             let delta = node.load_in(alloc, program, &mut self.fans, place, &given, facts)?;
             self.schedule.put(alloc, program, place, node)?;
             let came = delta.come.as_slice();
-            self.fans.turn_rows(alloc, place, &[], came, facts)?;
-            put_delta(&mut answered, &mut due, &self.index, place, delta)?;
+            self.fans
+                .turn_rows(alloc, &mut due, place, &[], came, facts)?;
+            put_delta(&mut answered, &self.index, place, delta)?;
         }
         Ok(answered)
     }

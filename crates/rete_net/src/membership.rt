@@ -61,7 +61,7 @@ impl NetNode {
     {
         match fans.seat(place) {
             Some(seat) => {
-                let half = fans.half(alloc, seat)?;
+                let half = fans.take_half(alloc, seat);
                 let delta = self.advance_member(alloc, fans, seat, half, happening, facts)?;
                 Ok(delta)
             }
@@ -143,7 +143,7 @@ impl NetNode {
     {
         match fans.seat(place) {
             Some(seat) => {
-                let half = fans.half(alloc, seat)?;
+                let half = fans.take_half(alloc, seat);
                 let delta = fans.turn_names(alloc, seat, half, old, &[], facts)?;
                 Ok(delta.gone)
             }
@@ -176,7 +176,7 @@ impl NetNode {
     {
         match fans.seat(place) {
             Some(seat) => {
-                let half = fans.half(alloc, seat)?;
+                let half = fans.take_half(alloc, seat);
                 let delta = self.load_member(alloc, fans, seat, half, given, facts)?;
                 Ok(delta)
             }

@@ -86,7 +86,8 @@ impl Rete {
     /// `facts` has those that stay and are not forgotten, those that go and the one that comes. Of the nodes whose candidates are of the
     /// types of these facts it asks those that no constant tells apart, and, by a hash for each field by which some are, those with what the
     /// fact has in it, at the cost of the constant tests of each. It takes those with a window or a `not` in which something is due; and
-    /// behind each node that answers a change it takes its children. What no such way leads to costs nothing: neither another node nor its
+    /// behind each node that answers a change it takes the children that keep rows of their own, and of those that share them the ones for
+    /// which something changes. What no such way leads to costs nothing: neither another node nor its
     /// rules, and what is due next costs a look for each entry point. The others cost what their gates and nodes say, the logarithm of their
     /// number, and a change is copied once for each rule that has it.
     pub fn advance<F: Facts>(
@@ -220,8 +221,9 @@ impl Rete {
             let gone = node.forget_in(alloc, program, &mut self.fans, place, before, old, facts)?;
             self.schedule.put(alloc, program, place, node)?;
             let went = gone.as_slice();
-            self.fans.turn_rows(alloc, place, went, &[], facts)?;
-            put_dropped(&mut dropped, &mut due, &self.index, place, gone)?;
+            self.fans
+                .turn_rows(alloc, &mut due, place, went, &[], facts)?;
+            put_dropped(&mut dropped, &self.index, place, gone)?;
             next = place + 1;
         }
         Ok(dropped)
@@ -297,8 +299,9 @@ impl Rete {
             self.schedule.put(alloc, program, place, node)?;
             let went = delta.gone.as_slice();
             let came = delta.come.as_slice();
-            self.fans.turn_rows(alloc, place, went, came, facts)?;
-            put_delta(&mut answered, &mut due, &self.index, place, delta)?;
+            self.fans
+                .turn_rows(alloc, &mut due, place, went, came, facts)?;
+            put_delta(&mut answered, &self.index, place, delta)?;
             next = place + 1;
         }
         Ok(answered)

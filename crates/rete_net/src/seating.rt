@@ -4,11 +4,12 @@ ghost use Rattle.join_tests.specs.RowKeys.{row_key};
 ghost use Rattle.condition_node.specs.Nodes.{condition_of};
 ghost use Rattle.rete_net.specs.declared.fans.Fan.{Fan as FanData};
 ghost use Rattle.rete_net.specs.declared.node.NetNode.{NetNode as NetNodeData};
-ghost use Rattle.rete_net.specs.Fans.{seat_at, AreEmpty, AreFans};
+ghost use Rattle.rete_net.specs.Fans.{seat_at, AreEmpty, AreFans, AreLoneFound};
+ghost use Rattle.rete_net.specs.Indexes.{is_listed};
 ghost use Rattle.rete_net.specs.Seating.{AreGrowing, GrowsTo, IsFanPut, IsFanWith, IsNewFan};
 
 use crate::copying::Copied;
-use crate::fans::{Fan, Fans, Seat, Span};
+use crate::fans::{Fan, Fans, Seat, Span, seat_in};
 use crate::lists::Lists;
 use crate::node::NetNode;
 use fan_join::FanJoin;
@@ -28,6 +29,35 @@ fn by_parent(alloc: Global, nodes: &[NetNode]) -> Result<Lists, NoMemory> {
         }
     }
     Ok(children)
+}
+
+// The places of the nodes that have a parent and no seat, by their parents.
+fn lone_of(alloc: Global, nodes: &[NetNode], seats: &[Option<Seat>]) -> Result<Lists, NoMemory>
+    ensures { IfOk result (λ lone. AreLoneFound nodes.now seats.now lone) }
+{
+    let mut lone = Lists::new(alloc);
+    for (place, node) in nodes.iter().enumerate() {
+        put_lone(&mut lone, alloc, place, node.parent, seat_in(seats, place))?;
+    }
+    Ok(lone)
+}
+
+// Puts a place under its parent, if it has one and no seat.
+fn put_lone(
+    lone: &mut Lists,
+    alloc: Global,
+    place: usize,
+    parent: Option<usize>,
+    seat: Option<Seat>,
+) -> Result<(), NoMemory>
+    ensures kept { OnOk result ((n k : ℕ) → is_listed lone.old n k ≡ true → is_listed lone.new n k ≡ true) }
+    ensures put { OnOk result ((p : ℕ) → parent ≡ Some p → seat ≡ None → is_listed lone.new p place ≡ true) }
+{
+    match (parent, seat) {
+        (Some(parent), None) => lone.put(alloc, parent, place),
+        (Some(_), Some(_)) => Ok(()),
+        (None, _) => Ok(()),
+    }
 }
 
 // The pattern of the node in a place, where it binds a fact and stands behind this parent. Takes no memory.
@@ -85,6 +115,8 @@ impl Fans {
         for parent in 0..nodes.len() {
             fans.put_behind(alloc, nodes, children.list(parent))?;
         }
+        let lone = lone_of(alloc, nodes, &fans.seats)?;
+        fans.lone = lone;
         Ok(fans)
     }
 
@@ -104,6 +136,7 @@ impl Fans {
             list: Vec::new(alloc),
             seats,
             spans: Vec::new(alloc),
+            lone: Lists::new(alloc),
             halves: BTreeMap::new(alloc),
         })
     }

@@ -1,4 +1,5 @@
-ghost use Rattle.std.specs.Prelude.{◌≡◌, OnOk};
+ghost use Rattle.std.specs.Prelude.{◌≡◌, true, OnOk};
+ghost use Rattle.row_change.specs.Changes.{changes_nothing};
 ghost use Rattle.rete_net.specs.Answers.{IsPut};
 ghost use Rattle.rete_net.specs.Steps.{no_change};
 
@@ -7,21 +8,19 @@ use crate::index::Index;
 use fx_base::NoMemory;
 use row_change::changes_nothing;
 use row_delta::Delta;
-use std::alloc::Global;
-use std::collections::BTreeSet;
 
 /// Puts what the node in a place answers, where it has a row.
 pub(crate) fn put_delta(
     answered: &mut Answered<Delta>,
-    due: &mut BTreeSet<usize, Global>,
     index: &Index,
     place: usize,
     delta: Delta,
 ) -> Result<(), NoMemory>
-    ensures { OnOk result (answered.old.none ≡ no_change → IsPut index.now place delta answered.old answered.new due.old.keys due.new.keys) }
+    ensures put { OnOk result (answered.old.none ≡ no_change → IsPut index.now place delta answered.old answered.new) }
+    ensures nothing { OnOk result (changes_nothing delta ≡ true → answered.new ≡ answered.old) }
 {
     if changes_nothing(&delta) {
         return Ok(());
     }
-    answered.put(due, index, place, delta)
+    answered.put(index, place, delta)
 }

@@ -1,3 +1,4 @@
+use Rattle.rete_net.proofs.Common.{refl, subst, AreLoneFound}
 use Rattle.rete_net.proofs.Seated.{all_grown, none_grow}
 use Rattle.rete_net.proofs.fans.Fans.of.Goals as goal
 
@@ -8,7 +9,8 @@ pub loop-parent-preserved : goal.loop-parent-preserved
 loop-parent-preserved c = c.in_ok-put_behind.ensures.grown c.loop-parent.invariant
 
 pub returns-clause-fans : goal.returns-clause-fans
-returns-clause-fans c = all_grown c.args.nodes.now c.loop-parent.fans c.loop-parent.invariant
+returns-clause-fans c = all_grown c.args.nodes.now c.loop-parent.fans (record c.loop-parent.fans { lone = c.in_ok-lone.lone }) refl refl refl
+    (subst (λ seats. AreLoneFound c.args.nodes.now seats c.in_ok-lone.lone) c.deref.ensures.value c.in_ok-lone.ensures) c.loop-parent.invariant
 
 pub returns-clause-empty : goal.returns-clause-empty
 returns-clause-empty c = c.loop-parent.invariant.empty

@@ -15,7 +15,7 @@ returns c = record {
       let to : c.len-to.result ≡ length c.loop-child.self.list.items = c.len-to.ensures ∙ c.loop-child.self.list.ok.0 in
       let before = c.loop-child.self.spans.items in
       span_grows c.args.nodes.now c.len-from.result c.loop-child.self
-      (record { list = c.loop-child.self.list; seats = c.loop-child.self.seats; spans = c.push.new.self; halves = c.loop-child.self.halves }) refl refl
+      (record { list = c.loop-child.self.list; seats = c.loop-child.self.seats; spans = c.push.new.self; lone = c.loop-child.self.lone; halves = c.loop-child.self.halves }) refl refl
       (c.in_ok-push.ensures.items ∙ ap (λ (n : ℕ). before ++ record { from = c.len-from.result; to = n } ∷ []) to)
       (c.loop-child.invariant.grows (subst (AreGrowing c.args.nodes.now c.args.self.now) from was));
 }

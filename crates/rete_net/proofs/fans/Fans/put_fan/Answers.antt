@@ -11,6 +11,7 @@ returns-clause-list c = (
     members = c.new.ensures.none;
     places = c.new-2.ensures.items;
     beside = c.new.ensures.beside;
+    reached = c.new.ensures.reached;
     empty = c.new.ensures.empty;
   },
 )

@@ -1,5 +1,6 @@
 use Rattle.rete_net.proofs.Common.{◌≡◌, ◌∙◌, sym, ap, refl, Some, slice_get, length-set, slice_get-get_or, slice_get_within}
 use Rattle.rete_net.proofs.Fanned.{each_like, names_like, names_others, names_turned}
+use Rattle.rete_net.proofs.Fanning.{laid_same}
 use Rattle.rete_net.proofs.fans.Fans.turn_names.Goals as goal
 
 pub returns : goal.returns
@@ -17,6 +18,7 @@ returns g c =
       laid = record {
         seats = refl;
         spans = refl;
+        lone = refl;
         many = length-set list seat.fan (record { parent = was.parent; join = join; places = was.places });
         each = each_like list seat.fan was (record { parent = was.parent; join = join; places = was.places }) at
             (names_like was join look seat.member c.args.gone.now c.args.come.now c.args.half c.in_ok-delta.delta told);
@@ -25,3 +27,6 @@ returns g c =
       others = names_others list seat was join at look c.args.gone.now c.args.come.now c.args.half c.in_ok-delta.delta told;
       turned = names_turned list seat was join at look c.args.gone.now c.args.come.now c.args.half c.in_ok-delta.delta told;
     }
+
+pub returns-then-not-has-clause-laid : goal.returns-then-not-has-clause-laid
+returns-then-not-has-clause-laid g c = laid_same c.args.self.now c.args.self.now refl refl refl refl

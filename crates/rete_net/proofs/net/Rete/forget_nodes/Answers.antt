@@ -1,5 +1,6 @@
-use Rattle.rete_net.proofs.Common.{◌≡◌, ◌∙◌, sym, ap, refl, subst, ◌<◌, length, arith, Some, slice_get, List, [], slice_get-get_or, Row, has_name, Index, left_given, IsPut, AreRowsTurned}
+use Rattle.rete_net.proofs.Common.{◌≡◌, ◌∙◌, sym, ap, refl, subst, ◌<◌, length, arith, Some, slice_get, List, [], slice_get-get_or, Row, has_name, Index, left_given, IsPut, AreRowsTurned, AreWoken}
 use Rattle.rete_net.proofs.Fading.{set_off, forget_at, come_to_end}
+use Rattle.rete_net.proofs.Fanned.{none_of}
 use Rattle.rete_net.proofs.Fanning.{laid_same, laid_then}
 use Rattle.rete_net.proofs.Scheduling.{scheduled_more}
 use Rattle.rete_net.proofs.Walking.{not_replaced, replaced_more}
@@ -12,12 +13,12 @@ walk-init g c = record {
   index = refl;
   quiet = refl;
   replaced = not_replaced c.args.self.now.nodes.items;
-  laid = laid_same c.args.self.now.fans c.begin.new.self c.begin.ensures.seats c.begin.ensures.spans c.begin.ensures.list;
+  laid = laid_same c.args.self.now.fans c.begin.new.self c.begin.ensures.seats c.begin.ensures.spans c.begin.ensures.lone c.begin.ensures.list;
   scheduled = λ scheduled. scheduled;
   within = omega arith;
   way = λ wired fans.
       set_off c.args.program.now (g.F.Facts.map c.args.facts.now) (has_name c.args.old.now) c.args.self.now.nodes.items c.args.self.now.fans c.args.self.now.ends.items c.args.self.now.index wired
-      c.begin.new.self c.in_ok-due.due.keys c.new-dropped.result fans c.begin.ensures.seats c.begin.ensures.spans c.begin.ensures.list c.begin.ensures.halves
+      c.begin.new.self c.in_ok-due.due.keys c.new-dropped.result fans c.begin.ensures.seats c.begin.ensures.spans c.begin.ensures.lone c.begin.ensures.list c.begin.ensures.halves
       (c.new-dropped.ensures.none ∙ c.from_vec.ensures ∙ c.new-2.ensures.items) c.new-dropped.ensures.answers (λ k n e found out. c.in_ok-due.ensures k n found out);
 }
 
@@ -48,14 +49,16 @@ walk-preserved g c =
       within = omega (arith, many, within);
       way = λ wired fans.
           forget_at c.args.program.now look (has_name c.args.old.now)
-          c.args.self.now.nodes.items c.args.self.now.fans c.args.self.now.ends.items c.args.self.now.index wired nodes c.walk.self.fans c.walk.due.keys c.walk.dropped c.walk.next (was.way wired fans)
+          c.args.self.now.nodes.items c.args.self.now.fans c.args.self.now.ends.items c.args.self.now.index wired nodes c.walk.self.fans c.walk.due.keys c.walk.dropped was.replaced c.walk.next (was.way wired fans)
           place c.in-Some.ensures.from (omega (arith, many, within)) c.in-Some.ensures.first
-          n c.forget_in.new.self at told.parent told.condition was.replaced (replaced_more nodes nodes place n c.forget_in.new.self (not_replaced nodes) at told.parent told.condition)
+          n c.forget_in.new.self at told.parent told.condition (replaced_more nodes nodes place n c.forget_in.new.self (not_replaced nodes) at told.parent told.condition)
           mid told.laid told.others c.as_slice-before.result.now c.in_ok-gone.gone (c.as_slice-before.ensures ∙ c.left-rows.ensures ∙ ap (λ (rows : List Row). left_given rows c.walk.dropped n.parent) none) told.forgets
           then c.in_ok-turn_rows.ensures.laid
           (λ ns are. subst (λ (rows : List Row). AreRowsTurned look place rows [] mid then) c.as_slice-went.ensures (c.in_ok-turn_rows.ensures.turned ns are))
-          c.put_dropped.new.dropped c.put_dropped.new.due.keys
-          (λ nothing. subst (λ (i : Index). IsPut i place c.in_ok-gone.gone c.walk.dropped c.put_dropped.new.dropped c.walk.due.keys c.put_dropped.new.due.keys) was.index (c.in_ok-put_dropped.ensures nothing));
+          c.put_dropped.new.dropped (λ nothing. subst (λ (i : Index). IsPut i place c.in_ok-gone.gone c.walk.dropped c.put_dropped.new.dropped) was.index (c.in_ok-put_dropped.ensures.put nothing))
+          (λ none. c.in_ok-put_dropped.ensures.nothing (none_of c.in_ok-gone.gone [] none).0)
+          c.turn_rows.new.due.keys
+          (λ ns are. subst (λ (rows : List Row). AreWoken place rows [] mid then c.walk.due.keys c.turn_rows.new.due.keys) c.as_slice-went.ensures (c.in_ok-turn_rows.ensures.woken ns are));
     }
 
 pub returns-clause-forgot : goal.returns-clause-forgot
@@ -64,5 +67,5 @@ returns-clause-forgot g c wired fans =
     let many = was.replaced.many in
     let len = c.len.ensures ∙ c.walk.self.nodes.ok.0 in
     come_to_end c.args.program.now (g.F.Facts.map c.args.facts.now) (has_name c.args.old.now)
-    c.args.self.now.nodes.items c.args.self.now.fans c.args.self.now.ends.items c.args.self.now.index wired c.walk.self.nodes.items c.walk.self.fans c.walk.due.keys c.walk.dropped c.walk.next (was.way wired fans)
+    c.args.self.now.nodes.items c.args.self.now.fans c.args.self.now.ends.items c.args.self.now.index wired c.walk.self.nodes.items c.walk.self.fans c.walk.due.keys c.walk.dropped was.replaced c.walk.next (was.way wired fans)
     was.within (λ k le lt. c.in_default.ensures.none refl k le (omega (arith, many, len, lt)))

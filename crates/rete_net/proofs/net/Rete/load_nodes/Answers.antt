@@ -12,11 +12,11 @@ loop-place-init g c = record {
   owners = refl;
   index = refl;
   replaced = not_replaced c.args.self.now.nodes.items;
-  laid = laid_same c.args.self.now.fans c.begin.new.self c.begin.ensures.seats c.begin.ensures.spans c.begin.ensures.list;
+  laid = laid_same c.args.self.now.fans c.begin.new.self c.begin.ensures.seats c.begin.ensures.spans c.begin.ensures.lone c.begin.ensures.list;
   scheduled = λ scheduled. scheduled;
   way = λ wired sorted fans.
       set_off c.args.program.now (g.F.Facts.map c.args.facts.now) (lent c.args.kept.now) c.args.extras.now c.args.moment.now empty_row_comes c.args.self.now.nodes.items c.args.self.now.fans c.args.self.now.owners.items c.args.self.now.ends.items
-      c.args.self.now.index wired c.begin.new.self c.new-answered.result fans c.begin.ensures.seats c.begin.ensures.spans c.begin.ensures.list c.begin.ensures.halves
+      c.args.self.now.index wired c.begin.new.self c.new-answered.result fans c.begin.ensures.seats c.begin.ensures.spans c.begin.ensures.lone c.begin.ensures.list c.begin.ensures.halves
       (c.new-answered.ensures.none ∙ c.no_change.ensures) c.new-answered.ensures.answers;
 }
 
@@ -56,8 +56,7 @@ loop-place-preserved g c =
           (c.as_slice-rows.ensures ∙ ap (λ (d : Delta). d.come) (c.left-left.ensures ∙ ap (λ (d : Delta). left_given d c.loop-place.answered n.parent) c.in_ok-first.ensures))
           c.in_ok-delta.delta (λ member. told.loads member kept theirs) told.there then c.in_ok-turn_rows.ensures.laid
           (λ ns are. subst (λ (rows : List Row). AreRowsTurned look place [] rows mid then) c.as_slice-came.ensures (c.in_ok-turn_rows.ensures.turned ns are))
-          c.put_delta.new.answered c.loop-place.due.keys c.put_delta.new.due.keys
-          (subst (λ (i : Index). IsPut i place c.in_ok-delta.delta c.loop-place.answered c.put_delta.new.answered c.loop-place.due.keys c.put_delta.new.due.keys) was.index (c.in_ok-put_delta.ensures way.way.none));
+          c.put_delta.new.answered (subst (λ (i : Index). IsPut i place c.in_ok-delta.delta c.loop-place.answered c.put_delta.new.answered) was.index (c.in_ok-put_delta.ensures.put way.way.none));
     }
 
 pub returns-in_err-delta-clause-stuck : goal.returns-in_err-delta-clause-stuck

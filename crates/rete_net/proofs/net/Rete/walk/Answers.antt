@@ -1,4 +1,4 @@
-use Rattle.rete_net.proofs.Common.{◌≡◌, ◌∙◌, sym, ap, refl, subst, true, false, ◌<◌, length, arith, Some, slice_get, List, slice_get-get_or, Row, lent, Index, NetNode, has_place, IsPut, AreRowsTurned}
+use Rattle.rete_net.proofs.Common.{◌≡◌, ◌∙◌, sym, ap, refl, subst, true, false, ◌<◌, length, arith, Some, slice_get, List, slice_get-get_or, Row, lent, Index, NetNode, has_place, IsPut, AreRowsTurned, AreWoken}
 use Rattle.std.proofs.Common.{option_map}
 use Rattle.rete_net.proofs.Fanning.{laid_same, laid_then}
 use Rattle.rete_net.proofs.Steady.{set_off, step_at, come_to_end}
@@ -12,14 +12,14 @@ walk-init g c = record {
   owners = refl;
   index = refl;
   replaced = not_replaced c.args.self.now.nodes.items;
-  laid = laid_same c.args.self.now.fans c.begin.new.self c.begin.ensures.seats c.begin.ensures.spans c.begin.ensures.list;
+  laid = laid_same c.args.self.now.fans c.begin.new.self c.begin.ensures.seats c.begin.ensures.spans c.begin.ensures.lone c.begin.ensures.list;
   within = omega arith;
   scheduled = λ scheduled. scheduled;
   way = λ wired scheduled fans.
       let gone = lent c.args.gone.now in
       let come = option_map (λ f. f.now) c.args.come in
       set_off c.args.program.now (g.F.Facts.map c.args.facts.now) gone come c.args.moment.now c.args.first.now c.args.self.now.nodes.items c.args.self.now.fans c.args.self.now.ends.items c.args.self.now.index wired
-      c.begin.new.self c.put_reached.new.due.keys c.new-answered.result fans c.begin.ensures.seats c.begin.ensures.spans c.begin.ensures.list c.begin.ensures.halves
+      c.begin.new.self c.put_reached.new.due.keys c.new-answered.result fans c.begin.ensures.seats c.begin.ensures.spans c.begin.ensures.lone c.begin.ensures.list c.begin.ensures.halves
       (c.new-answered.ensures.none ∙ c.no_change.ensures) c.new-answered.ensures.answers
       (λ k n e found out. record {
         unreached = c.in_ok-put_reached.ensures.put k n (ap (λ (nodes : List NetNode). slice_get nodes k) c.deref.ensures.value ∙ e) found out;
@@ -53,16 +53,19 @@ walk-preserved g c =
       scheduled = λ all. scheduled_more c.args.program.now nodes place n c.advance_in.new.self c.walk.self.schedule c.put.new.self at c.in_ok-put.ensures.put c.in_ok-put.ensures.others (was.scheduled all);
       way = λ wired scheduled fans.
           step_at c.args.program.now look (lent c.args.gone.now) (option_map (λ f. f.now) c.args.come) c.args.moment.now c.args.first.now
-          c.args.self.now.nodes.items c.args.self.now.fans c.args.self.now.ends.items c.args.self.now.index wired nodes c.walk.self.fans c.walk.due.keys c.walk.answered c.walk.next (was.way wired scheduled fans)
+          c.args.self.now.nodes.items c.args.self.now.fans c.args.self.now.ends.items c.args.self.now.index wired nodes c.walk.self.fans c.walk.due.keys c.walk.answered was.replaced c.walk.next (was.way wired scheduled fans)
           place c.in-Some.ensures.from (omega (arith, many, within)) c.in-Some.ensures.first
-          n c.advance_in.new.self at told.parent told.condition was.replaced (replaced_more nodes nodes place n c.advance_in.new.self (not_replaced nodes) at told.parent told.condition)
+          n c.advance_in.new.self at told.parent told.condition (replaced_more nodes nodes place n c.advance_in.new.self (not_replaced nodes) at told.parent told.condition)
           mid told.laid told.others c.left-left.result.now c.in_ok-delta.delta c.left-left.ensures told.step
           then c.in_ok-turn_rows.ensures.laid
           (λ ns are.
           subst (λ (rows : List Row). AreRowsTurned look place rows c.in_ok-delta.delta.come mid then) c.as_slice-went.ensures
           (subst (λ (rows : List Row). AreRowsTurned look place c.as_slice-went.result.now rows mid then) c.as_slice-came.ensures (c.in_ok-turn_rows.ensures.turned ns are)))
-          c.put_delta.new.answered c.put_delta.new.due.keys
-          (λ nothing. subst (λ (i : Index). IsPut i place c.in_ok-delta.delta c.walk.answered c.put_delta.new.answered c.walk.due.keys c.put_delta.new.due.keys) was.index (c.in_ok-put_delta.ensures nothing));
+          c.put_delta.new.answered (λ nothing. subst (λ (i : Index). IsPut i place c.in_ok-delta.delta c.walk.answered c.put_delta.new.answered) was.index (c.in_ok-put_delta.ensures.put nothing)) c.in_ok-put_delta.ensures.nothing
+          c.turn_rows.new.due.keys
+          (λ ns are.
+          subst (λ (rows : List Row). AreWoken place rows c.in_ok-delta.delta.come mid then c.walk.due.keys c.turn_rows.new.due.keys) c.as_slice-went.ensures
+          (subst (λ (rows : List Row). AreWoken place c.as_slice-went.result.now rows mid then c.walk.due.keys c.turn_rows.new.due.keys) c.as_slice-came.ensures (c.in_ok-turn_rows.ensures.woken ns are)));
     }
 
 pub returns-clause-answered : goal.returns-clause-answered
@@ -71,5 +74,5 @@ returns-clause-answered g c wired scheduled fans =
     let many = was.replaced.many in
     let len = c.len.ensures ∙ c.walk.self.nodes.ok.0 in
     come_to_end c.args.program.now (g.F.Facts.map c.args.facts.now) (lent c.args.gone.now) (option_map (λ f. f.now) c.args.come) c.args.moment.now c.args.first.now
-    c.args.self.now.nodes.items c.args.self.now.fans c.args.self.now.ends.items c.args.self.now.index wired c.walk.self.nodes.items c.walk.self.fans c.walk.due.keys c.walk.answered c.walk.next (was.way wired scheduled fans)
+    c.args.self.now.nodes.items c.args.self.now.fans c.args.self.now.ends.items c.args.self.now.index wired c.walk.self.nodes.items c.walk.self.fans c.walk.due.keys c.walk.answered was.replaced c.walk.next (was.way wired scheduled fans)
     was.within (λ k le lt. c.in_default.ensures.none refl k le (omega (arith, many, len, lt)))

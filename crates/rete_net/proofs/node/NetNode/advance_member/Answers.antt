@@ -5,7 +5,7 @@ use Rattle.rete_net.proofs.Siblings.{still_steps, names_step}
 use Rattle.rete_net.proofs.node.NetNode.advance_member.Goals as goal
 
 pub returns-then-is_still-clause-laid : goal.returns-then-is_still-clause-laid
-returns-then-is_still-clause-laid g c = laid_same c.args.fans.now c.args.fans.now refl refl refl
+returns-then-is_still-clause-laid g c = laid_same c.args.fans.now c.args.fans.now refl refl refl refl
 
 pub returns-then-is_still-clause-step : goal.returns-then-is_still-clause-step
 returns-then-is_still-clause-step g c was left of halved =

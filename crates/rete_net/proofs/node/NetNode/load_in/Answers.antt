@@ -1,31 +1,31 @@
 use Rattle.rete_net.proofs.Common.{◌∙◌, sym, ap, refl, [], Err, Option, showing, Member, NodeLoad, NoRow}
-use Rattle.rete_net.proofs.Fanning.{laid_same}
+use Rattle.rete_net.proofs.Fanning.{laid_same, laid_then}
 use Rattle.rete_net.proofs.Filling.{same_fault}
 use Rattle.rete_net.proofs.Siblings.{left_by, with_seat, without_seat}
 use Rattle.rete_net.proofs.node.NetNode.load_in.Goals as goal
 
 pub returns-in_ok-delta-in-Some-clause-laid : goal.returns-in_ok-delta-in-Some-clause-laid
 returns-in_ok-delta-in-Some-clause-laid g c =
-    c.in_ok-delta-in-Some.ensures.laid
+    laid_then c.args.fans.now c.take_half-half.new.self c.load_member.new.fans (laid_same c.args.fans.now c.take_half-half.new.self c.take_half-half.ensures.seats c.take_half-half.ensures.spans c.take_half-half.ensures.lone c.take_half-half.ensures.list) c.in_ok-delta-in-Some.ensures.laid
 
 pub returns-in_ok-delta-in-Some-clause-others : goal.returns-in_ok-delta-in-Some-clause-others
 returns-in_ok-delta-in-Some-clause-others g c =
-    left_by c.args.fans.now c.args.fans.now c.load_member.new.fans c.args.place c.in-Some.seat (sym c.seat.ensures ∙ c.in-Some.is) refl (λ other differ. refl) c.in_ok-delta-in-Some.ensures.others
+    left_by c.args.fans.now c.take_half-half.new.self c.load_member.new.fans c.args.place c.in-Some.seat (sym c.seat.ensures ∙ c.in-Some.is) c.take_half-half.ensures.list c.take_half-half.ensures.others c.in_ok-delta-in-Some.ensures.others
 
 pub returns-in_ok-delta-in-Some-clause-loads : goal.returns-in_ok-delta-in-Some-clause-loads
 returns-in_ok-delta-in-Some-clause-loads g c was kept theirs of halved =
     let look = g.F.Facts.map c.args.facts.now in
-    with_seat c.args.fans.now c.args.fans.now c.load_member.new.fans c.args.place refl refl c.in_ok-delta-in-Some.ensures.laid.seats
+    with_seat c.args.fans.now c.take_half-half.new.self c.load_member.new.fans c.args.place c.take_half-half.ensures.list c.take_half-half.ensures.seats c.in_ok-delta-in-Some.ensures.laid.seats
     (λ (was now : Option Member). NodeLoad c.args.program.now look kept c.args.given.now.extras.now c.args.given.now.moment.now (showing was c.args.self.now) (showing now c.load_member.new.self) c.args.given.now.rows.now c.in_ok-delta-in-Some.delta)
-    c.args.self.now look [] c.args.given.now.rows.now c.in_ok-half-in-Some.half c.in-Some.seat (sym c.seat.ensures ∙ c.in-Some.is) c.in_ok-half-in-Some.ensures
+    c.args.self.now look [] c.args.given.now.rows.now c.take_half-half.result c.in-Some.seat (sym c.seat.ensures ∙ c.in-Some.is) c.take_half-half.ensures.half
     (λ was of halved. c.in_ok-delta-in-Some.ensures.loads c.args.program.now was kept theirs of halved) was of halved
 
 pub returns-in_err-delta-in-Some-clause-no_row : goal.returns-in_err-delta-in-Some-clause-no_row
 returns-in_err-delta-in-Some-clause-no_row g c fault =
-    c.in_err-delta-in-Some.ensures.no_row (ap Err (same_fault c.from_residual-in_err-delta-in-Some.result c.in_err-delta-in-Some.field-0.0 NoRow fault c.from_residual-in_err-delta-in-Some.ensures.1))
+    c.in_err-delta-in-Some.ensures.no_row (ap Err (same_fault c.from_residual.result c.in_err-delta-in-Some.field-0.0 NoRow fault c.from_residual.ensures.1))
 
 pub returns-in_ok-delta-in-None-clause-laid : goal.returns-in_ok-delta-in-None-clause-laid
-returns-in_ok-delta-in-None-clause-laid g c = laid_same c.args.fans.now c.args.fans.now refl refl refl
+returns-in_ok-delta-in-None-clause-laid g c = laid_same c.args.fans.now c.args.fans.now refl refl refl refl
 
 pub returns-in_ok-delta-in-None-clause-loads : goal.returns-in_ok-delta-in-None-clause-loads
 returns-in_ok-delta-in-None-clause-loads g c was kept theirs of halved =
