@@ -1,5 +1,6 @@
 -- Names from modules that two proofs and more cite, passed on from one place. Declares nothing.
-pub use Rattle.std.proofs.Common.{◌≡◌, ◌∙◌, ◌==◌, ap, ◌&&◌, ◌||◌, not, subst, refl, sym, ℕ, List, Some, [], ◌∷◌, Bool, cond, false, true, ℤ, arith, take, ◌+◌, ◌-◌, Bor, drop, find, length, map, max, option_map, slice_get, unwrap_or, nat_lt}
+pub use Rattle.std.proofs.Common.{◌≡◌, ◌∙◌, ◌==◌, ap, ◌&&◌, ◌||◌, not, subst, refl, sym, ℕ, List, Some, [], ◌∷◌, Bool, cond, false, true, ℤ, arith, take, ◌+◌}
+pub use Rattle.std.proofs.Common.{◌-◌, Bor, drop, find, map, max, option_map, slice_get, unwrap_or, nat_lt}
 pub use Rattle.std.specs.BTreeSet.{insert_key}
 pub use Rattle.std.specs.List.{list_any, AllByRecursion, sum_by}
 pub use Rattle.std.specs.Ordering.{eq_by_cmp, is_eq, match_ordering}

@@ -1,5 +1,7 @@
 -- How often a list of matches names a tag, as matches come and go.
-use Rattle.agenda.proofs.Common.{◌≡◌, ℕ, ◌+◌, ◌-◌, ◌==◌, Bool, true, false, cond, ◌||◌, List, [], ◌∷◌, find, Some, option_map, unwrap_or, refl, sym, ◌∙◌, ap, arith, list_any, Ordering, Less, Equal, Greater, eq_by_cmp, is_eq, match_ordering, insert_key, remove_key, Ranked, matches, names_tag, rank_cmp, times_in, times, sum_by, rank_equiv, namings, CountsNamings}
+use Rattle.agenda.proofs.Common.{◌≡◌, ℕ, ◌+◌, ◌-◌, ◌==◌, Bool, true, false, cond, ◌||◌, List, [], ◌∷◌, find, Some, option_map, unwrap_or, refl, sym, ◌∙◌, ap}
+use Rattle.agenda.proofs.Common.{arith, list_any, Ordering, Less, Equal, Greater, eq_by_cmp, is_eq, match_ordering, insert_key, remove_key, Ranked, matches}
+use Rattle.agenda.proofs.Common.{names_tag, rank_cmp, times_in, times, sum_by, rank_equiv, namings, CountsNamings}
 use Rattle.std.specs.Prelude.{nat_lt}
 use Rattle.std.specs.BTreeMap.{is_at}
 use Rattle.std.proofs.lemmas.List.Sums.{sum_by-cons}

@@ -23,6 +23,6 @@ pub record CountsNamings (named : List (ℕ × ℕ)) (ks : List Ranked) : Type 0
   pub each : (tag : ℕ) → times named tag ≡ namings ks tag
 
 -- ranked matches have the keys of their matches, and what they name is counted
-pub record IsSound (saliences : List ℤ) (ks : List Ranked) (named : List (ℕ × ℕ)) : Type 0 where
+pub record IsSoundAgenda (saliences : List ℤ) (ks : List Ranked) (named : List (ℕ × ℕ)) : Type 0 where
   pub well : AllWell saliences ks
   pub counts : CountsNamings named ks

@@ -30,13 +30,13 @@ pub struct Agenda {
 
 impl Model for Agenda {
     ghost use Rattle.agenda.specs.Agendas.{Marks, matches};
-    ghost use Rattle.agenda.specs.Namings.{IsSound};
+    ghost use Rattle.agenda.specs.Namings.{IsSoundAgenda};
 
     ghost Value = { Marks };
 
     ghost view = { λ a. record { saliences = a.saliences; pending = matches a.pending.keys; fired = a.fired.keys } };
 
-    ghost invariant = { λ a. IsSound a.saliences a.pending.keys a.named.entries };
+    ghost invariant = { λ a. IsSoundAgenda a.saliences a.pending.keys a.named.entries };
 }
 
 impl Agenda {
@@ -58,6 +58,7 @@ impl Agenda {
     pub fn top(&self) -> Option<&Match>
         ensures { option_map (λ m. m.now) result ≡ first (fire_cmp self.now.saliences) self.now.pending }
     {
+        // (the order of its members is known from this call)
         let _n = self.pending.len();
         match self.pending.first() {
             Some(ranked) => Some(&ranked.matched),
@@ -144,6 +145,7 @@ impl Agenda {
             mut fired,
             mut named,
         } = self;
+        // (the order of its members is known from this call)
         let _n = pending.len();
         match pending.pop_first() {
             Some(ranked) => {

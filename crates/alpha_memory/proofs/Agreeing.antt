@@ -1,12 +1,19 @@
 -- The memory's indexes agree, and show the list that is wanted, after each call.
-use Rattle.alpha_memory.proofs.Common.{◌≡◌, ◌∙◌, sym, ap, refl, subst, ℕ, ◌+◌, ◌<◌, List, [], ◌∷◌, ◌++◌, length, Bool, true, false, ◌&&◌, cond, Option, Some, None, arith, eq-eqb, nat_eq, option_and_then, nat_cmp, eq_by_cmp, nat_cmp_total, eq_by_cmp_equiv, is_at, get-insert, get-remove, keys_of, lookup, eqb-true, Value, same_value, Named, Candidate, has_tag, without_tag, at, bucket_at, candidate, under, Agree, JoinIndex, Place, get-empty, len-empty, len-entries, is_tagged}
+use Rattle.alpha_memory.proofs.Common.{◌≡◌, ◌∙◌, sym, ap, refl, subst, ℕ, ◌+◌, ◌<◌, List, [], ◌∷◌, ◌++◌, length, Bool, true, false, ◌&&◌, cond, Option, Some}
+use Rattle.alpha_memory.proofs.Common.{None, arith, eq-eqb, nat_eq, option_and_then, nat_cmp, eq_by_cmp, nat_cmp_total, is_at, get-insert, get-remove, keys_of}
+use Rattle.alpha_memory.proofs.Common.{lookup, eqb-true, Value, same_value, Named, Candidate, has_candidate_tag, without_tag, at, bucket_at, candidate, under}
+use Rattle.alpha_memory.proofs.Common.{AgreePlaces, JoinIndex, Place, get-empty, len-empty, len-entries, is_tagged}
 use Rattle.std.proofs.Common.{map as list_map}
 use Rattle.std.specs.FinMap as map
 use Rattle.std.specs.List.{IsDistinct}
-use Rattle.fx_base.specs.SameValues.{same_equiv}
+use Rattle.fx_base.specs.SameValues.{same_value_equiv}
 use Rattle.alpha_memory.specs.Places.{numbered}
-use Rattle.alpha_memory.proofs.Numbers.{torn, one, tied, itself, untied, has_number, number_has, Apart-same, numbered-same, Apart-put, unused, numbered-put, Apart-take, has_taken, numbered-take}
+use Rattle.alpha_memory.proofs.Numbers.{untied, has_number, number_has, Apart-same, numbered-same, Apart-put, unused, numbered-put, Apart-take, has_taken}
+use Rattle.alpha_memory.proofs.Numbers.{numbered-take}
 use Rattle.alpha_memory.proofs.Listed.{values-insert, values-remove, none_of, one_of, all_stay}
+use Rattle.fx_base.proofs.Orders.{eq_by_nat_cmp-flip, eq_by_nat_cmp-self, eq_by_nat_cmp-true}
+use Rattle.fx_base.proofs.Sequences.{one_value}
+use Rattle.fx_base.proofs.Tests.{both_ways_absurd}
 
 -- what the memory's candidates are
 abbrev pub listed : List (ℕ × Place) → List Candidate
@@ -22,7 +29,7 @@ pub listed-none : listed [] ≡ []
 unfolding numbered
 listed-none = ap (list_map (λ (e : ℕ × Candidate). e.1)) (no_length (map.entries (map.empty {X = Candidate} {R = nat_cmp})) (sym (len-entries (map.empty {X = Candidate} {R = nat_cmp})) ∙ len-empty nat_cmp Candidate))
 
-pub Agree-none : (index : JoinIndex Value ℕ Named) → ((join : Value) → bucket_at same_value index join ≡ None) → Agree [] 0 index
+pub Agree-none : (index : JoinIndex Value ℕ Named) → ((join : Value) → bucket_at same_value index join ≡ None) → AgreePlaces [] 0 index
 unfolding numbered IsDistinct
 Agree-none index none = record {
   once = tt;
@@ -37,16 +44,16 @@ Agree-none index none = record {
 
 -- ---- whether there is a candidate with a tag
 
-module _ (places : List (ℕ × Place)) (next : ℕ) (index : JoinIndex Value ℕ Named) (agree : Agree places next index) (tag : ℕ) where
+module _ (places : List (ℕ × Place)) (next : ℕ) (index : JoinIndex Value ℕ Named) (agree : AgreePlaces places next index) (tag : ℕ) where
   -- a place gives a candidate with its tag
-  pub there : (place : Place) → lookup (nat_eq tag) places ≡ Some place → has_tag (listed places) tag ≡ true
+  pub there : (place : Place) → lookup (nat_eq tag) places ≡ Some place → has_candidate_tag (listed places) tag ≡ true
   there place e =
       one_of (numbered places) (is_tagged tag) place.number (candidate tag place)
       (number_has places agree.once agree.apart place.number (candidate tag place) (record { tag = tag; place = place; here = e; own = refl; is = refl }))
       (eq-eqb tag tag refl)
 
   -- where there is no place, there is no such candidate
-  pub absent : lookup (nat_eq tag) places ≡ None → has_tag (listed places) tag ≡ false
+  pub absent : lookup (nat_eq tag) places ≡ None → has_candidate_tag (listed places) tag ≡ false
   absent none =
       none_of (numbered places) (is_tagged tag) (λ k c e.
       let h = has_number places agree.once k c e in
@@ -57,18 +64,18 @@ module _ (places : List (ℕ × Place)) (next : ℕ) (index : JoinIndex Value �
       by false t place e same = refl
 
   -- where there is no such candidate, there is no place
-  pub no_place : has_tag (listed places) tag ≡ false → lookup (nat_eq tag) places ≡ None
+  pub no_place : has_candidate_tag (listed places) tag ≡ false → lookup (nat_eq tag) places ≡ None
   no_place none = by (lookup (nat_eq tag) places) refl
     where
       by : (o : Option Place) → lookup (nat_eq tag) places ≡ o → o ≡ None
       by None e = refl
-      by (Some place) e = torn (has_tag (listed places) tag) (there place e) none
+      by (Some place) e = both_ways_absurd (has_candidate_tag (listed places) tag) (there place e) none
 
 -- ---- the same places
 
-module _ (was is : List (ℕ × Place)) (next : ℕ) (index after : JoinIndex Value ℕ Named) (agree : Agree was next index) (once : IsDistinct nat_eq (keys_of is))
+module _ (was is : List (ℕ × Place)) (next : ℕ) (index after : JoinIndex Value ℕ Named) (agree : AgreePlaces was next index) (once : IsDistinct nat_eq (keys_of is))
     (alike : (t : ℕ) → lookup (nat_eq t) is ≡ lookup (nat_eq t) was) (kept : (join : Value) (number : ℕ) → at same_value nat_cmp after join number ≡ at same_value nat_cmp index join number) where
-  pub Agree-same : Agree is next after
+  pub Agree-same : AgreePlaces is next after
   Agree-same = record {
     once = once;
     apart = Apart-same was is agree.once agree.apart once alike;
@@ -80,9 +87,6 @@ module _ (was is : List (ℕ × Place)) (next : ℕ) (index after : JoinIndex Va
   listed-same = ap map.values (numbered-same was is agree.once agree.apart once alike)
 
 -- ---- choices under a join value and a number
-
-flip : (a b : ℕ) → eq_by_cmp nat_cmp a b ≡ eq_by_cmp nat_cmp b a
-flip = (eq_by_cmp_equiv nat_cmp_total).symm
 
 -- another number
 other : {X : Type 0} (b : Bool) (x y : X) → cond (b && false) x y ≡ y
@@ -101,8 +105,8 @@ gone false b x o e f = f ∙ ap (λ c. cond c (Some x) None) (sym e)
 
 -- ---- a candidate more
 
-module _ (was is : List (ℕ × Place)) (index after : JoinIndex Value ℕ Named) (tag : ℕ) (place : Place) (agree : Agree was place.number index) (once : IsDistinct nat_eq (keys_of is))
-    (new : has_tag (listed was) tag ≡ false) (put : (t : ℕ) → lookup (nat_eq t) is ≡ cond (nat_eq tag t) (Some place) (lookup (nat_eq t) was))
+module _ (was is : List (ℕ × Place)) (index after : JoinIndex Value ℕ Named) (tag : ℕ) (place : Place) (agree : AgreePlaces was place.number index) (once : IsDistinct nat_eq (keys_of is))
+    (new : has_candidate_tag (listed was) tag ≡ false) (put : (t : ℕ) → lookup (nat_eq t) is ≡ cond (nat_eq tag t) (Some place) (lookup (nat_eq t) was))
     (kept : (join : Value) (number : ℕ) → at same_value nat_cmp after join number
     ≡ cond (same_value place.join join && is_at (nat_cmp place.number) number) (Some (candidate tag place).0) (at same_value nat_cmp index join number)) where
   none : lookup (nat_eq tag) was ≡ None
@@ -111,7 +115,7 @@ module _ (was is : List (ℕ × Place)) (index after : JoinIndex Value ℕ Named
   one_more : numbered is ≡ map.insert (numbered was) place.number (candidate tag place)
   one_more = numbered-put was is tag place agree.once agree.apart once none agree.below put
 
-  pub Agree-put : Agree is (place.number + 1) after
+  pub Agree-put : AgreePlaces is (place.number + 1) after
   Agree-put = record {
     once = once;
     apart = Apart-put was is tag place agree.once agree.apart once none agree.below put;
@@ -131,11 +135,11 @@ module _ (was is : List (ℕ × Place)) (index after : JoinIndex Value ℕ Named
           → cond (same_value place.join join && is_at (nat_cmp place.number) number) (Some (candidate tag place).0) (at same_value nat_cmp index join number)
           ≡ under join (cond b (Some (candidate tag place)) (map.get (numbered was) number))
       under_put join number true e =
-          ap (λ b. cond (same_value place.join join && b) (Some (candidate tag place).0) (at same_value nat_cmp index join number)) (flip place.number number ∙ e)
-          ∙ fresh (same_value place.join join) (same_value join place.join) (candidate tag place).0 (at same_value nat_cmp index join number) (same_equiv.symm place.join join)
-          (agree.by_join join number ∙ ap (λ n. under join (map.get (numbered was) n)) (tied number place.number e) ∙ ap (under join) (unused was is tag place agree.once agree.apart once none agree.below put))
+          ap (λ b. cond (same_value place.join join && b) (Some (candidate tag place).0) (at same_value nat_cmp index join number)) (eq_by_nat_cmp-flip place.number number ∙ e)
+          ∙ fresh (same_value place.join join) (same_value join place.join) (candidate tag place).0 (at same_value nat_cmp index join number) (same_value_equiv.symm place.join join)
+          (agree.by_join join number ∙ ap (λ n. under join (map.get (numbered was) n)) (eq_by_nat_cmp-true number place.number e) ∙ ap (under join) (unused was is tag place agree.once agree.apart once none agree.below put))
       under_put join number false e =
-          ap (λ b. cond (same_value place.join join && b) (Some (candidate tag place).0) (at same_value nat_cmp index join number)) (flip place.number number ∙ e)
+          ap (λ b. cond (same_value place.join join && b) (Some (candidate tag place).0) (at same_value nat_cmp index join number)) (eq_by_nat_cmp-flip place.number number ∙ e)
           ∙ other (same_value place.join join) (Some (candidate tag place).0) (at same_value nat_cmp index join number) ∙ agree.by_join join number
 
   pub listed-put : listed is ≡ listed was ++ candidate tag place ∷ []
@@ -146,13 +150,13 @@ module _ (was is : List (ℕ × Place)) (index after : JoinIndex Value ℕ Named
 
 -- ---- a candidate fewer
 
-module _ (was is : List (ℕ × Place)) (next : ℕ) (index after : JoinIndex Value ℕ Named) (tag : ℕ) (place : Place) (agree : Agree was next index) (once : IsDistinct nat_eq (keys_of is))
+module _ (was is : List (ℕ × Place)) (next : ℕ) (index after : JoinIndex Value ℕ Named) (tag : ℕ) (place : Place) (agree : AgreePlaces was next index) (once : IsDistinct nat_eq (keys_of is))
     (here : lookup (nat_eq tag) was ≡ Some place) (taken : (t : ℕ) → lookup (nat_eq t) is ≡ cond (nat_eq tag t) None (lookup (nat_eq t) was))
     (kept : (join : Value) (number : ℕ) → at same_value nat_cmp after join number ≡ cond (same_value place.join join && is_at (nat_cmp place.number) number) None (at same_value nat_cmp index join number)) where
   one_less : numbered is ≡ map.remove (numbered was) place.number
   one_less = numbered-take was is tag place agree.once agree.apart once here taken
 
-  pub Agree-take : Agree is next after
+  pub Agree-take : AgreePlaces is next after
   Agree-take = record {
     once = once;
     apart = Apart-take was is tag place agree.once agree.apart once here taken;
@@ -171,11 +175,11 @@ module _ (was is : List (ℕ × Place)) (next : ℕ) (index after : JoinIndex Va
       under_taken : (join : Value) (number : ℕ) (b : Bool) → eq_by_cmp nat_cmp number place.number ≡ b
           → cond (same_value place.join join && is_at (nat_cmp place.number) number) None (at same_value nat_cmp index join number) ≡ under join (cond b None (map.get (numbered was) number))
       under_taken join number true e =
-          ap (λ b. cond (same_value place.join join && b) None (at same_value nat_cmp index join number)) (flip place.number number ∙ e)
-          ∙ gone (same_value place.join join) (same_value join place.join) (candidate tag place).0 (at same_value nat_cmp index join number) (same_equiv.symm place.join join)
-          (agree.by_join join number ∙ ap (λ n. under join (map.get (numbered was) n)) (tied number place.number e) ∙ ap (under join) (has_taken was is tag place agree.once agree.apart once here taken))
+          ap (λ b. cond (same_value place.join join && b) None (at same_value nat_cmp index join number)) (eq_by_nat_cmp-flip place.number number ∙ e)
+          ∙ gone (same_value place.join join) (same_value join place.join) (candidate tag place).0 (at same_value nat_cmp index join number) (same_value_equiv.symm place.join join)
+          (agree.by_join join number ∙ ap (λ n. under join (map.get (numbered was) n)) (eq_by_nat_cmp-true number place.number e) ∙ ap (under join) (has_taken was is tag place agree.once agree.apart once here taken))
       under_taken join number false e =
-          ap (λ b. cond (same_value place.join join && b) None (at same_value nat_cmp index join number)) (flip place.number number ∙ e)
+          ap (λ b. cond (same_value place.join join && b) None (at same_value nat_cmp index join number)) (eq_by_nat_cmp-flip place.number number ∙ e)
           ∙ other (same_value place.join join) None (at same_value nat_cmp index join number) ∙ agree.by_join join number
 
   pub listed-take : listed is ≡ without_tag (listed was) tag
@@ -187,14 +191,14 @@ module _ (was is : List (ℕ × Place)) (next : ℕ) (index after : JoinIndex Va
     where
       tagged : (k : ℕ) (t : ℕ) (p : Place) → lookup (nat_eq t) was ≡ Some p → p.number ≡ k → (b : Bool) → nat_eq tag t ≡ b → b ≡ eq_by_cmp nat_cmp place.number k
       tagged k t p e own true same =
-          let places : place ≡ p = one (lookup (nat_eq tag) was) place p here (ap (λ n. lookup (nat_eq n) was) (eqb-true tag t same) ∙ e) in
-          sym (itself place.number) ∙ ap (eq_by_cmp nat_cmp place.number) (ap (λ (r : Place). r.number) places ∙ own)
+          let places : place ≡ p = one_value (lookup (nat_eq tag) was) place p here (ap (λ n. lookup (nat_eq n) was) (eqb-true tag t same) ∙ e) in
+          sym (eq_by_nat_cmp-self place.number) ∙ ap (eq_by_cmp nat_cmp place.number) (ap (λ (r : Place). r.number) places ∙ own)
       tagged k t p e own false same =
-          sym (untied place.number k (λ numbers. torn (nat_eq tag t) (eq-eqb tag t (agree.apart tag t place p here e (numbers ∙ sym own))) same))
+          sym (untied place.number k (λ numbers. both_ways_absurd (nat_eq tag t) (eq-eqb tag t (agree.apart tag t place p here e (numbers ∙ sym own))) same))
 
 -- ---- nothing is taken
 
-pub listed-absent : (was is : List (ℕ × Place)) (next : ℕ) (index : JoinIndex Value ℕ Named) → Agree was next index → (tag : ℕ) → lookup (nat_eq tag) was ≡ None → is ≡ was → listed is ≡ without_tag (listed was) tag
+pub listed-absent : (was is : List (ℕ × Place)) (next : ℕ) (index : JoinIndex Value ℕ Named) → AgreePlaces was next index → (tag : ℕ) → lookup (nat_eq tag) was ≡ None → is ≡ was → listed is ≡ without_tag (listed was) tag
 listed-absent was is next index agree tag none same = ap listed same ∙ sym (all_stay (is_tagged tag) (listed was) (absent was next index agree tag none))
 
 -- a place put in and taken out again leaves what was

@@ -1,12 +1,17 @@
 -- The candidates that the memory's indexes give, in the order of their insertion.
-use Rattle.alpha_memory.proofs.Common.{◌≡◌, ◌∙◌, ap, refl, subst, ℕ, suc, zero, ◌<◌, List, [], ◌∷◌, length, Bool, true, Option, Some, None, BTreeMap, arith, Contains, is_some, option_and_then, nat_cmp, nat_cmp_total, nat_eq_equiv, IsFromIterResult, is_at, keys_of, values_of, lookup, eqb-true, exact_unsigned, lookup-from_Contains, Value, same_value, Named, Candidate, names_of, with_join, at, bucket_at, candidate, name_entry, under, Agree, JoinIndex, Place, slice_index_or, IfSome, Contains-from_lookup, IfSome-btree_map_get_from_list, btree_map_contains_key_from_list, numbered}
+use Rattle.alpha_memory.proofs.Common.{◌≡◌, ◌∙◌, ap, refl, subst, ℕ, suc, zero, ◌<◌, List, [], ◌∷◌, length, Bool, true, Option, Some, None, BTreeMap, arith}
+use Rattle.alpha_memory.proofs.Common.{Contains, is_some, option_and_then, nat_cmp, nat_cmp_total, nat_eq_equiv, IsFromIterResult, is_at, keys_of, values_of}
+use Rattle.alpha_memory.proofs.Common.{lookup, eqb-true, exact_unsigned, lookup-from_Contains, Value, same_value, Named, Candidate, names_of, with_join, at}
+use Rattle.alpha_memory.proofs.Common.{bucket_at, candidate, name_entry, under, AgreePlaces, JoinIndex, Place, slice_index_or, IfSome, Contains-from_lookup}
+use Rattle.alpha_memory.proofs.Common.{IfSome-btree_map_get_from_list, btree_map_contains_key_from_list, numbered}
 use Rattle.std.proofs.Common.{map as list_map}
 use Rattle.std.specs.BTreeMap as tree
 use Rattle.std.specs.FinMap as map
 use Rattle.std.specs.List.Sorted.{IsStrictlySortedBy}
-use Rattle.alpha_memory.proofs.Numbers.{one, some, same_option, HasNumber, has_number, number_has}
+use Rattle.alpha_memory.proofs.Numbers.{same_option, HasNumber, has_number, number_has}
 use Rattle.alpha_memory.proofs.Listed.{chosen, names_in_order, no_names, all_pass}
 use Rattle.alpha_memory.proofs.Agreeing.{listed}
+use Rattle.fx_base.proofs.Sequences.{is_some-value, one_value}
 
 -- ---- the candidates with one join value
 
@@ -15,7 +20,7 @@ under_chosen : (join : Value) (o : Option Candidate) → under join o ≡ chosen
 under_chosen join None = refl
 under_chosen join (Some c) = refl
 
-module _ (places : List (ℕ × Place)) (next : ℕ) (index : JoinIndex Value ℕ Named) (agree : Agree places next index) (join : Value) where
+module _ (places : List (ℕ × Place)) (next : ℕ) (index : JoinIndex Value ℕ Named) (agree : AgreePlaces places next index) (join : Value) where
   pub bucket_names : (entries : List (ℕ × Named)) → Some entries ≡ bucket_at same_value index join → IsStrictlySortedBy nat_cmp (keys_of entries) → values_of entries ≡ names_of (with_join (listed places) join)
   bucket_names entries here sorted =
       names_in_order (numbered places) (λ c. same_value join c.1) entries sorted (λ n.
@@ -53,7 +58,7 @@ number_of (x ∷ xs) tag place at = by at.0 at.1 at.2 (number_of xs tag place)
     by zero below e rest = (0, omega arith, ap (λ (p : ℕ × Place). p.1.number) e)
     by (suc k) below e rest = let r = rest (k, omega arith, e) in (suc r.0, omega (arith, r.1), r.2)
 
-module _ (places : List (ℕ × Place)) (next : ℕ) (index : JoinIndex Value ℕ Named) (agree : Agree places next index) (names : BTreeMap ℕ Named)
+module _ (places : List (ℕ × Place)) (next : ℕ) (index : JoinIndex Value ℕ Named) (agree : AgreePlaces places next index) (names : BTreeMap ℕ Named)
     (made : IsFromIterResult nat_cmp (list_map name_entry places) names) where
   any : Candidate → Bool
   any c = true
@@ -78,8 +83,8 @@ module _ (places : List (ℕ × Place)) (next : ℕ) (index : JoinIndex Value �
           let h = has_number places agree.once n c f in
           let key = number_of places h.tag h.place (Contains-from_lookup eqb-true h.tag h.place places h.here) in
           let found = (btree_map_contains_key_from_list nat_cmp_total exact_unsigned (list_map name_entry places) names made h.place.number).1 key in
-          let s = some (tree.get nat_cmp names n) (subst (λ k. is_some (tree.get nat_cmp names k) ≡ true) h.own found) in
-          s.1 ∙ ap Some (one (chosen any (map.get (numbered places) n)) s.0 who (forth n s.0 s.1) e)
+          let s = is_some-value (tree.get nat_cmp names n) (subst (λ k. is_some (tree.get nat_cmp names k) ≡ true) h.own found) in
+          s.1 ∙ ap Some (one_value (chosen any (map.get (numbered places) n)) s.0 who (forth n s.0 s.1) e)
 
   pub all_names : IsStrictlySortedBy nat_cmp (keys_of names.entries) → values_of names.entries ≡ names_of (listed places)
   unfolding any

@@ -1,5 +1,7 @@
 -- The keys of all buckets of a join index.
-use Rattle.alpha_memory.proofs.Common.{◌≡◌, ◌∙◌, sym, ap, refl, Bool, true, false, ◌||◌, ◌++◌, cond, List, [], ◌∷◌, Option, Some, list_any, AllByRecursion, Ordering, is_at, IsEquivalence, keys_of, lookup, is_some, option_map, option_and_then, eq_by_cmp, entries, at, Bucket, JoinIndex, ◌↔◌, AreKeys}
+use Rattle.alpha_memory.proofs.Common.{◌≡◌, ◌∙◌, sym, ap, refl, Bool, true, false, ◌||◌, ◌++◌, cond, List, [], ◌∷◌, Some, list_any, AllByRecursion, Ordering}
+use Rattle.alpha_memory.proofs.Common.{is_at, IsEquivalence, keys_of, lookup, is_some, eq_by_cmp, entries, Bucket, JoinIndex, AreKeys}
+use Rattle.std.proofs.lemmas.Bool.{or_left, or_right}
 use Rattle.std.specs.List.{IsDistinct}
 use Rattle.std.proofs.lemmas.List.Folds.{list_any-append}
 use Rattle.std.proofs.lemmas.Map.Made.{is_some-lookup}
@@ -9,14 +11,6 @@ use Rattle.alpha_memory.proofs.Buckets.{found_in}
 abbrev pub keys_in : {J K S : Type 0} → List (J × Bucket K S) → List K
 keys_in [] = []
 keys_in (e ∷ es) = keys_of (entries e.1) ++ keys_in es
-
-one_first : (a b : Bool) → a ≡ true → (a || b) ≡ true
-one_first true b e = refl
-one_first false b e = let f : false ≡ true = e in cc
-
-one_second : (a b : Bool) → b ≡ true → (a || b) ≡ true
-one_second true b e = refl
-one_second false b e = e
 
 module _ {J K S : Type 0} (same : J → J → Bool) (laws : IsEquivalence same) (order : K → K → Ordering) (k : K) where
   -- the key stands in the bucket of a join value
@@ -33,8 +27,8 @@ module _ {J K S : Type 0} (same : J → J → Bool) (laws : IsEquivalence same) 
     where
       by : (b : Bool) → is_some (found_in order k (cond b (Some x.1) (lookup (same j) es))) ≡ true → (under j es ≡ true → list_any (eq_by_cmp order k) (keys_in es) ≡ true)
           → (list_any (eq_by_cmp order k) (keys_of (entries x.1)) || list_any (eq_by_cmp order k) (keys_in es)) ≡ true
-      by true f rest = one_first (list_any (eq_by_cmp order k) (keys_of (entries x.1))) (list_any (eq_by_cmp order k) (keys_in es)) (sym (in_bucket x.1) ∙ f)
-      by false f rest = one_second (list_any (eq_by_cmp order k) (keys_of (entries x.1))) (list_any (eq_by_cmp order k) (keys_in es)) (rest f)
+      by true f rest = or_left (list_any (eq_by_cmp order k) (keys_of (entries x.1))) (list_any (eq_by_cmp order k) (keys_in es)) (sym (in_bucket x.1) ∙ f)
+      by false f rest = or_right (list_any (eq_by_cmp order k) (keys_of (entries x.1))) (list_any (eq_by_cmp order k) (keys_in es)) (rest f)
 
   -- a join value that has a bucket is none that differs from all of them
   has_bucket : (j i : J) (es : List (J × Bucket K S)) → same j i ≡ true → AllByRecursion (λ y. same i y ≡ false) (keys_of es) → under j es ≡ true → true ≡ false

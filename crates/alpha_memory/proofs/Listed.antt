@@ -1,25 +1,17 @@
 -- The list of the numbered candidates, in the order of their numbers.
-use Rattle.alpha_memory.proofs.Common.{◌≡◌, ◌∙◌, sym, ap, refl, subst, ℕ, ◌<◌, List, [], ◌∷◌, ◌++◌, filter, Bool, true, false, not, ◌&&◌, ◌||◌, cond, Option, Some, None, arith, Ordering, nat_cmp, eq_by_cmp, nat_cmp_total, eq_by_cmp_equiv, is_at, find, get-remove, nat_cmp-IsAntisymmetric, list_any, AllByRecursion, keys_of, values_of, lookup, Named, Candidate, names_of, T, is_lt, is_eq, entries_sorted, get-entries, entries-insert}
+use Rattle.alpha_memory.proofs.Common.{◌≡◌, ◌∙◌, sym, ap, refl, subst, ℕ, ◌<◌, List, [], ◌∷◌, ◌++◌, filter, Bool, true, false, not, ◌||◌, cond, Option, Some}
+use Rattle.alpha_memory.proofs.Common.{None, arith, Ordering, nat_cmp, eq_by_cmp, nat_cmp_total, is_at, find, get-remove, nat_cmp-IsAntisymmetric, list_any}
+use Rattle.alpha_memory.proofs.Common.{AllByRecursion, keys_of, values_of, lookup, Named, Candidate, names_of, T, is_lt, is_eq, entries_sorted, get-entries}
+use Rattle.alpha_memory.proofs.Common.{entries-insert}
+use Rattle.std.proofs.Math.Bool.{or-true}
 use Rattle.std.proofs.Common.{map as list_map}
 use Rattle.std.specs.declared.cmp.Ordering.TheVariants.{Less, Equal, Greater}
 use Rattle.std.specs.FinMap as map
 use Rattle.std.specs.FinMap.Entries.{by_order, put, where_key, below_all, is_sorted, is_sorted-where_key, find-where_key, same_entries}
 use Rattle.std.specs.List.Sorted.{IsStrictlySortedBy}
 use Rattle.std.proofs.lemmas.Bool.Decides.{nat_tests}
-use Rattle.alpha_memory.proofs.Numbers.{torn, tied, itself}
-
--- both sides of an and
-first : (a b : Bool) → T (a && b) → T a
-first true b p = tt
-first false b p = p
-
-second : (a b : Bool) → T (a && b) → T b
-second true b p = p
-second false b p = absurd p
-
-both : (a b : Bool) → T a → T b → T (a && b)
-both true b p q = q
-both false b p q = p
+use Rattle.fx_base.proofs.Orders.{eq_by_nat_cmp-flip, eq_by_nat_cmp-self, eq_by_nat_cmp-true}
+use Rattle.fx_base.proofs.Tests.{T_both, T_first, T_second, both_ways_absurd, cond_not}
 
 -- what is below is not equal
 apart : (o : Ordering) → T (is_lt o) → is_eq o ≡ false
@@ -30,7 +22,7 @@ apart Greater p = refl
 -- what is below all is not found among them
 missing : {X : Type 0} (n : ℕ) (es : List (ℕ × X)) → T (below_all nat_cmp n es) → find nat_cmp n es ≡ None
 missing n [] h = refl
-missing n (e ∷ es) h = ap (λ b. cond b (Some e.1) (find nat_cmp n es)) (apart (nat_cmp n e.0) (first _ _ h)) ∙ missing n es (second _ _ h)
+missing n (e ∷ es) h = ap (λ b. cond b (Some e.1) (find nat_cmp n es)) (apart (nat_cmp n e.0) (T_first _ _ h)) ∙ missing n es (T_second _ _ h)
 
 -- ---- what holds of each entry
 
@@ -39,14 +31,14 @@ behind : {X : Type 0} (e : ℕ × X) (es : List (ℕ × X)) → T (below_all nat
 behind e es h n x f = by (eq_by_cmp nat_cmp n e.0) refl
   where
     by : (b : Bool) → eq_by_cmp nat_cmp n e.0 ≡ b → cond b (Some e.1) (find nat_cmp n es) ≡ Some x
-    by true t = absurd (let g : None ≡ Some x = sym (missing e.0 es h) ∙ ap (λ k. find nat_cmp k es) (sym (tied n e.0 t)) ∙ f in cc)
+    by true t = absurd (let g : None ≡ Some x = sym (missing e.0 es h) ∙ ap (λ k. find nat_cmp k es) (sym (eq_by_nat_cmp-true n e.0 t)) ∙ f in cc)
     by false t = f
 
 each_entry : {X : Type 0} (P : ℕ → X → Type 0) (es : List (ℕ × X)) → T (is_sorted nat_cmp es) → ((n : ℕ) (x : X) → find nat_cmp n es ≡ Some x → P n x) → AllByRecursion (λ e. P e.0 e.1) es
 each_entry P [] s h = tt
 each_entry P (e ∷ es) s h = (
-  h e.0 e.1 (ap (λ b. cond b (Some e.1) (find nat_cmp e.0 es)) (itself e.0)),
-  each_entry P es (second _ _ s) (λ n x f. h n x (behind e es (first _ _ s) n x f)),
+  h e.0 e.1 (ap (λ b. cond b (Some e.1) (find nat_cmp e.0 es)) (eq_by_nat_cmp-self e.0)),
+  each_entry P es (T_second _ _ s) (λ n x f. h n x (behind e es (T_first _ _ s) n x f)),
 )
 
 -- what holds of what is found under each number holds of each entry
@@ -77,13 +69,6 @@ values-insert m n c h =
 
 -- ---- one candidate fewer
 
-turned : {X : Type 0} (b : Bool) (x y : X) → cond b x y ≡ cond (not b) y x
-turned true x y = refl
-turned false x y = refl
-
-flip : (a b : ℕ) → eq_by_cmp nat_cmp a b ≡ eq_by_cmp nat_cmp b a
-flip = (eq_by_cmp_equiv nat_cmp_total).symm
-
 entries-remove : (m : map.FinMap nat_cmp Candidate) (n : ℕ) → map.entries (map.remove m n) ≡ where_key nat_cmp (λ k. not (eq_by_cmp nat_cmp n k)) (map.entries m)
 entries-remove m n =
     let p : ℕ → Bool = λ k. not (eq_by_cmp nat_cmp n k) in
@@ -91,8 +76,8 @@ entries-remove m n =
     (entries_sorted (map.remove m n)) (is_sorted-where_key nat_cmp p (map.entries m) (entries_sorted m))
     (λ q.
     sym (get-entries (map.remove m n) q) ∙ get-remove nat_cmp_total m n q
-    ∙ turned (eq_by_cmp nat_cmp q n) None (map.get m q)
-    ∙ ap (λ b. cond (not b) (map.get m q) None) (flip q n)
+    ∙ cond_not (eq_by_cmp nat_cmp q n) None (map.get m q)
+    ∙ ap (λ b. cond (not b) (map.get m q) None) (eq_by_nat_cmp-flip q n)
     ∙ ap (λ o. cond (p q) o None) (get-entries m q)
     ∙ sym (find-where_key nat_cmp p q (λ x e. ap p (sym (nat_cmp-IsAntisymmetric q x e))) (map.entries m)))
 
@@ -126,18 +111,13 @@ none_passes q (e ∷ es) h = ap (λ b. b || list_any q (list_map (λ e. e.1) es)
 pub none_of : (m : map.FinMap nat_cmp Candidate) (q : Candidate → Bool) → ((k : ℕ) (c : Candidate) → map.get m k ≡ Some c → q c ≡ false) → list_any q (map.values m) ≡ false
 none_of m q h = none_passes q (map.entries m) (each m (λ k c. q c ≡ false) h)
 
--- a test that one passes
-or_true : (b : Bool) → (b || true) ≡ true
-or_true true = refl
-or_true false = refl
-
 one_passes : (q : Candidate → Bool) (es : List (ℕ × Candidate)) (n : ℕ) (c : Candidate) → find nat_cmp n es ≡ Some c → q c ≡ true → list_any q (list_map (λ e. e.1) es) ≡ true
 one_passes q [] n c f h = absurd (let g : None ≡ Some c = f in cc)
 one_passes q (e ∷ es) n c f h = by (eq_by_cmp nat_cmp n e.0) f (λ g. one_passes q es n c g h)
   where
     by : (b : Bool) → cond b (Some e.1) (find nat_cmp n es) ≡ Some c → (find nat_cmp n es ≡ Some c → list_any q (list_map (λ e. e.1) es) ≡ true) → (q e.1 || list_any q (list_map (λ e. e.1) es)) ≡ true
     by true g rest = let same : e.1 ≡ c = cc in ap (λ d. q d || list_any q (list_map (λ e. e.1) es)) same ∙ ap (λ b. b || list_any q (list_map (λ e. e.1) es)) h
-    by false g rest = ap (λ b. q e.1 || b) (rest g) ∙ or_true (q e.1)
+    by false g rest = ap (λ b. q e.1 || b) (rest g) ∙ or-true (q e.1)
 
 pub one_of : (m : map.FinMap nat_cmp Candidate) (q : Candidate → Bool) (n : ℕ) (c : Candidate) → map.get m n ≡ Some c → q c ≡ true → list_any q (map.values m) ≡ true
 one_of m q n c f h = one_passes q (map.entries m) n c (sym (get-entries m n) ∙ f) h
@@ -148,7 +128,7 @@ all_stay q [] h = refl
 all_stay q (x ∷ xs) h = by (q x) refl h (all_stay q xs)
   where
     by : (b : Bool) → q x ≡ b → (b || list_any q xs) ≡ false → (list_any q xs ≡ false → filter (λ c. not (q c)) xs ≡ xs) → cond (not b) (x ∷ filter (λ c. not (q c)) xs) (filter (λ c. not (q c)) xs) ≡ x ∷ xs
-    by true t g rest = torn true refl g
+    by true t g rest = both_ways_absurd true refl g
     by false t g rest = ap (λ ys. x ∷ ys) (rest g)
 
 -- all pass the test that is always true
@@ -172,9 +152,9 @@ below-picked : (q : Candidate → Bool) (n : ℕ) (es : List (ℕ × Candidate))
 unfolding picked
 below-picked q n [] h = tt
 below-picked q n (e ∷ es) h =
-    let rest = below-picked q n es (second _ _ h) in
+    let rest = below-picked q n es (T_second _ _ h) in
     elim (q e.1) as (λ b. T (below_all nat_cmp n (cond b ((e.0, e.1.0) ∷ picked q es) (picked q es)))) [
-      | true ↦ both _ _ (first _ _ h) rest
+      | true ↦ T_both _ _ (T_first _ _ h) rest
       | false ↦ rest
     ]
 
@@ -182,23 +162,23 @@ sorted-picked : (q : Candidate → Bool) (es : List (ℕ × Candidate)) → T (i
 unfolding picked
 sorted-picked q [] h = tt
 sorted-picked q (e ∷ es) h =
-    let rest = sorted-picked q es (second _ _ h) in
+    let rest = sorted-picked q es (T_second _ _ h) in
     elim (q e.1) as (λ b. T (is_sorted nat_cmp (cond b ((e.0, e.1.0) ∷ picked q es) (picked q es)))) [
-      | true ↦ both _ _ (below-picked q e.0 es (first _ _ h)) rest
+      | true ↦ T_both _ _ (below-picked q e.0 es (T_first _ _ h)) rest
       | false ↦ rest
     ]
 
 find-picked : (q : Candidate → Bool) (n : ℕ) (es : List (ℕ × Candidate)) → T (is_sorted nat_cmp es) → find nat_cmp n (picked q es) ≡ chosen q (find nat_cmp n es)
 unfolding picked
 find-picked q n [] s = refl
-find-picked q n (e ∷ es) s = by (q e.1) refl (eq_by_cmp nat_cmp n e.0) refl (find-picked q n es (second _ _ s))
+find-picked q n (e ∷ es) s = by (q e.1) refl (eq_by_cmp nat_cmp n e.0) refl (find-picked q n es (T_second _ _ s))
   where
     by : (a : Bool) → q e.1 ≡ a → (b : Bool) → eq_by_cmp nat_cmp n e.0 ≡ b → find nat_cmp n (picked q es) ≡ chosen q (find nat_cmp n es)
         → find nat_cmp n (cond a ((e.0, e.1.0) ∷ picked q es) (picked q es)) ≡ chosen q (cond b (Some e.1) (find nat_cmp n es))
     by true p true t rest = ap (λ b. cond b (Some e.1.0) (find nat_cmp n (picked q es))) t ∙ ap (λ b. cond b (Some e.1.0) None) (sym p)
     by true p false t rest = ap (λ b. cond b (Some e.1.0) (find nat_cmp n (picked q es))) t ∙ rest
     by false p true t rest =
-        rest ∙ ap (λ k. chosen q (find nat_cmp k es)) (tied n e.0 t) ∙ ap (chosen q) (missing e.0 es (first _ _ s)) ∙ ap (λ b. cond b (Some e.1.0) None) (sym p)
+        rest ∙ ap (λ k. chosen q (find nat_cmp k es)) (eq_by_nat_cmp-true n e.0 t) ∙ ap (chosen q) (missing e.0 es (T_first _ _ s)) ∙ ap (λ b. cond b (Some e.1.0) None) (sym p)
     by false p false t rest = rest
 
 values-picked : (q : Candidate → Bool) (es : List (ℕ × Candidate)) → values_of (picked q es) ≡ names_of (filter q (list_map (λ e. e.1) es))
@@ -214,12 +194,12 @@ values-picked q (e ∷ es) =
 -- entries whose keys rise are in order
 front : (n : ℕ) (es : List (ℕ × Named)) → AllByRecursion (λ k. nat_cmp n k ≡ Less) (keys_of es) → T (below_all nat_cmp n es)
 front n [] less = tt
-front n (e ∷ es) less = both _ _ (subst (λ o. T (is_lt o)) (sym less.0) tt) (front n es less.1)
+front n (e ∷ es) less = T_both _ _ (subst (λ o. T (is_lt o)) (sym less.0) tt) (front n es less.1)
 
 in_order : (es : List (ℕ × Named)) → IsStrictlySortedBy nat_cmp (keys_of es) → T (is_sorted nat_cmp es)
 unfolding IsStrictlySortedBy
 in_order [] sorted = tt
-in_order (e ∷ es) sorted = both _ _ (front e.0 es sorted.0) (in_order es sorted.1)
+in_order (e ∷ es) sorted = T_both _ _ (front e.0 es sorted.0) (in_order es sorted.1)
 
 find-lookup : (es : List (ℕ × Named)) (n : ℕ) → find nat_cmp n es ≡ lookup (is_at (nat_cmp n)) es
 find-lookup [] n = refl

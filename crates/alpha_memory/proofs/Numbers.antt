@@ -1,15 +1,16 @@
 -- Which candidate has which number, before and after one place is put in or taken out.
-use Rattle.alpha_memory.proofs.Common.{◌≡◌, ◌≢◌, ◌∙◌, sym, ap, refl, ℕ, suc, ◌<◌, List, [], ◌∷◌, Bool, true, false, cond, Option, Some, None, arith, eq-eqb, inl, inr, ◌⊎◌, nat_eq, Contains, is_some, nat_cmp, eq_by_cmp, nat_cmp_total, eq_by_cmp_equiv, nat_eq_equiv, find, get-insert, get-remove, nat_cmp-IsAntisymmetric, keys_of, lookup, eqb-true, exact_unsigned, lookup-from_Contains, Candidate, candidate, Place, unwrap_or, get-from_entries, same_map, IsDistinct, tells_apart, numbered_entry}
+use Rattle.alpha_memory.proofs.Common.{◌≡◌, ◌≢◌, ◌∙◌, sym, ap, refl, ℕ, suc, ◌<◌, List, [], ◌∷◌, Bool, true, false, cond, Option, Some, None, arith, eq-eqb}
+use Rattle.alpha_memory.proofs.Common.{inl, inr, ◌⊎◌, nat_eq, Contains, is_some, nat_cmp, eq_by_cmp, nat_cmp_total, nat_eq_equiv, find, get-insert, get-remove}
+use Rattle.alpha_memory.proofs.Common.{nat_cmp-IsAntisymmetric, keys_of, lookup, eqb-true, lookup-from_Contains, Candidate, candidate, Place, get-from_entries}
+use Rattle.alpha_memory.proofs.Common.{same_map, IsDistinct, numbered_entry}
 use Rattle.std.proofs.Common.{map as list_map}
 use Rattle.std.specs.FinMap as map
 use Rattle.alpha_memory.specs.Places.{numbered}
+use Rattle.fx_base.proofs.Orders.{eq_by_nat_cmp-self, eq_by_nat_cmp-true}
+use Rattle.fx_base.proofs.Sequences.{is_some-value, one_value}
+use Rattle.fx_base.proofs.Tests.{both_ways_absurd}
 
 -- ---- options, tests and numbers
-
--- true is not false
-pub torn : {X : Type 0} (b : Bool) → b ≡ true → b ≡ false → X
-torn true e f = let x : true ≡ false = f in absurd (cc)
-torn false e f = let x : false ≡ true = e in absurd (cc)
 
 -- options that are alike in each case are equal
 pub same_option : {X : Type 0} (o p : Option X) → ((x : X) → o ≡ Some x → p ≡ Some x) → ((x : X) → p ≡ Some x → o ≡ Some x) → o ≡ p
@@ -17,25 +18,9 @@ same_option None None f g = refl
 same_option None (Some y) f g = g y refl
 same_option (Some x) p f g = sym (f x refl)
 
--- what is there is something
-pub some : {X : Type 0} (o : Option X) → is_some o ≡ true → (x : X) × (o ≡ Some x)
-some None e = let x : false ≡ true = e in absurd (cc)
-some (Some x) e = (x, refl)
-
--- what stands in an option is one thing
-pub one : {X : Type 0} (o : Option X) (x y : X) → o ≡ Some x → o ≡ Some y → x ≡ y
-one o x y e f = ap (λ p. unwrap_or p x) (sym e ∙ f)
-
--- numbers that tie are equal, and a number ties with itself
-pub tied : (a b : ℕ) → eq_by_cmp nat_cmp a b ≡ true → a ≡ b
-tied = tells_apart exact_unsigned
-
-pub itself : (a : ℕ) → eq_by_cmp nat_cmp a a ≡ true
-itself = (eq_by_cmp_equiv nat_cmp_total).refl
-
 -- numbers that differ do not tie
 pub untied : (a b : ℕ) → a ≢ b → eq_by_cmp nat_cmp a b ≡ false
-untied a b differ = elim (eq_by_cmp nat_cmp a b) as (λ t. eq_by_cmp nat_cmp a b ≡ t → t ≡ false) [ true ↦ λ t. absurd (differ (tied a b t)) | false ↦ λ t. refl ] refl
+untied a b differ = elim (eq_by_cmp nat_cmp a b) as (λ t. eq_by_cmp nat_cmp a b ≡ t → t ≡ false) [ true ↦ λ t. absurd (differ (eq_by_nat_cmp-true a b t)) | false ↦ λ t. refl ] refl
 
 -- ---- entries by numbers
 
@@ -52,7 +37,7 @@ found (x ∷ xs) n c e = by (eq_by_cmp nat_cmp n x.1.number) refl e (found xs n 
     by : (b : Bool) → eq_by_cmp nat_cmp n x.1.number ≡ b → cond b (Some (candidate x.0 x.1)) (find nat_cmp n (list_map numbered_entry xs)) ≡ Some c
         → (find nat_cmp n (list_map numbered_entry xs) ≡ Some c → (tag : ℕ) × (place : Place) × Contains xs (tag, place) × (place.number ≡ n) × (candidate tag place ≡ c))
         → (tag : ℕ) × (place : Place) × Contains (x ∷ xs) (tag, place) × (place.number ≡ n) × (candidate tag place ≡ c)
-    by true t f rest = (x.0, x.1, (0, omega arith, refl), sym (tied n x.1.number t), one (Some (candidate x.0 x.1)) _ _ refl f)
+    by true t f rest = (x.0, x.1, (0, omega arith, refl), sym (eq_by_nat_cmp-true n x.1.number t), one_value (Some (candidate x.0 x.1)) _ _ refl f)
     by false t f rest = let r = rest f in (r.0, r.1, later x xs (r.0, r.1) r.2, r.3, r.4)
 
 -- something is found under the number of each place
@@ -68,8 +53,8 @@ there (x ∷ xs) tag place e = by (nat_eq tag x.0) refl e (there xs tag place)
         → (lookup (nat_eq tag) xs ≡ Some place → is_some (find nat_cmp place.number (list_map numbered_entry xs)) ≡ true)
         → is_some (cond (eq_by_cmp nat_cmp place.number x.1.number) (Some (candidate x.0 x.1)) (find nat_cmp place.number (list_map numbered_entry xs))) ≡ true
     by true t f rest =
-        let e : x.1 ≡ place = one (Some x.1) _ _ refl f in
-        let same : eq_by_cmp nat_cmp place.number x.1.number ≡ true = ap (λ (p : Place). eq_by_cmp nat_cmp p.number x.1.number) (sym e) ∙ itself x.1.number in
+        let e : x.1 ≡ place = one_value (Some x.1) _ _ refl f in
+        let same : eq_by_cmp nat_cmp place.number x.1.number ≡ true = ap (λ (p : Place). eq_by_cmp nat_cmp p.number x.1.number) (sym e) ∙ eq_by_nat_cmp-self x.1.number in
         ap (λ b. is_some (cond b (Some (candidate x.0 x.1)) (find nat_cmp place.number (list_map numbered_entry xs)))) same
     by false t f rest = either (eq_by_cmp nat_cmp place.number x.1.number) (rest f)
 
@@ -97,11 +82,11 @@ module _ (places : List (ℕ × Place)) (once : IsDistinct nat_eq (keys_of place
   pub number_has : Apart places → (n : ℕ) (c : Candidate) → HasNumber places n c → map.get (numbered places) n ≡ Some c
   unfolding numbered
   number_has apart n c h =
-      let s = some (find nat_cmp h.place.number (list_map numbered_entry places)) (there places h.tag h.place h.here) in
+      let s = is_some-value (find nat_cmp h.place.number (list_map numbered_entry places)) (there places h.tag h.place h.here) in
       let e : map.get (numbered places) h.place.number ≡ Some s.0 = get-from_entries nat_cmp_total (list_map numbered_entry places) h.place.number ∙ s.1 in
       let k = has_number h.place.number s.0 e in
       let tags : k.tag ≡ h.tag = apart k.tag h.tag k.place h.place k.here h.here k.own in
-      let same : k.place ≡ h.place = one (lookup (nat_eq h.tag) places) k.place h.place (ap (λ t. lookup (nat_eq t) places) (sym tags) ∙ k.here) h.here in
+      let same : k.place ≡ h.place = one_value (lookup (nat_eq h.tag) places) k.place h.place (ap (λ t. lookup (nat_eq t) places) (sym tags) ∙ k.here) h.here in
       let alike : s.0 ≡ c = sym k.is ∙ ap (λ t. candidate t k.place) tags ∙ ap (candidate h.tag) same ∙ h.is in
       ap (map.get (numbered places)) (sym h.own) ∙ e ∙ ap Some alike
 
@@ -135,7 +120,7 @@ module _ (was is : List (ℕ × Place)) (tag : ℕ) (place : Place) (once : IsDi
   told t p e = by (nat_eq tag t) refl (sym (put t) ∙ e)
     where
       by : (b : Bool) → nat_eq tag t ≡ b → cond b (Some place) (lookup (nat_eq t) was) ≡ Some p → ((tag ≡ t) × (place ≡ p)) ⊎ (lookup (nat_eq t) was ≡ Some p)
-      by true x f = inl (eqb-true tag t x, one (Some place) place p refl f)
+      by true x f = inl (eqb-true tag t x, one_value (Some place) place p refl f)
       by false x f = inr f
 
   -- the new place
@@ -182,7 +167,7 @@ module _ (was is : List (ℕ × Place)) (tag : ℕ) (place : Place) (once : IsDi
       forth n c h =
           elim (told h.tag h.place h.here) as (λ _. cond (eq_by_cmp nat_cmp n place.number) (Some (candidate tag place)) (map.get (numbered was) n) ≡ Some c) [
             | inl x ↦ ap (λ b. cond b (Some (candidate tag place)) (map.get (numbered was) n))
-                (ap (λ k. eq_by_cmp nat_cmp k place.number) (sym h.own ∙ ap (λ (r : Place). r.number) (sym x.1)) ∙ itself place.number)
+                (ap (λ k. eq_by_cmp nat_cmp k place.number) (sym h.own ∙ ap (λ (r : Place). r.number) (sym x.1)) ∙ eq_by_nat_cmp-self place.number)
                 ∙ ap Some (ap (λ t. candidate t place) x.0 ∙ ap (candidate h.tag) x.1 ∙ h.is)
             | inr x ↦ ap (λ b. cond b (Some (candidate tag place)) (map.get (numbered was) n))
                 (untied n place.number (λ e. let l = below h.tag h.place x in let m = h.own in omega arith))
@@ -190,7 +175,7 @@ module _ (was is : List (ℕ × Place)) (tag : ℕ) (place : Place) (once : IsDi
           ]
 
       back : (n : ℕ) (c : Candidate) (b : Bool) → eq_by_cmp nat_cmp n place.number ≡ b → cond b (Some (candidate tag place)) (map.get (numbered was) n) ≡ Some c → HasNumber is n c
-      back n c true t e = record { tag = tag; place = place; here = here; own = sym (tied n place.number t); is = one (Some (candidate tag place)) _ _ refl e }
+      back n c true t e = record { tag = tag; place = place; here = here; own = sym (eq_by_nat_cmp-true n place.number t); is = one_value (Some (candidate tag place)) _ _ refl e }
       back n c false t e = let h = has_number was once n c e in record { tag = h.tag; place = h.place; here = kept h.tag h.place h.here; own = h.own; is = h.is }
 
 -- ---- one place fewer
@@ -203,7 +188,7 @@ module _ (was is : List (ℕ × Place)) (tag : ℕ) (place : Place) (once : IsDi
     where
       by : (b : Bool) → nat_eq tag t ≡ b → cond b None (lookup (nat_eq t) was) ≡ Some p → (tag ≢ t) × (lookup (nat_eq t) was ≡ Some p)
       by true x f = absurd (let e : None ≡ Some p = f in cc)
-      by false x f = (λ same. torn (nat_eq tag t) (eq-eqb tag t same) x, f)
+      by false x f = (λ same. both_ways_absurd (nat_eq tag t) (eq-eqb tag t same) x, f)
 
   -- what is not taken is left
   stays : (t : ℕ) (p : Place) → tag ≢ t → lookup (nat_eq t) was ≡ Some p → lookup (nat_eq t) is ≡ Some p
@@ -238,6 +223,6 @@ module _ (was is : List (ℕ × Place)) (tag : ℕ) (place : Place) (once : IsDi
       back n c false t e =
           let h = has_number was once n c e in
           let differ : tag ≢ h.tag = λ same.
-          let places : place ≡ h.place = one (lookup (nat_eq tag) was) place h.place here (ap (λ k. lookup (nat_eq k) was) same ∙ h.here) in
-          torn (eq_by_cmp nat_cmp n place.number) (ap (λ k. eq_by_cmp nat_cmp k place.number) (sym h.own ∙ ap (λ (r : Place). r.number) (sym places)) ∙ itself place.number) t in
+          let places : place ≡ h.place = one_value (lookup (nat_eq tag) was) place h.place here (ap (λ k. lookup (nat_eq k) was) same ∙ h.here) in
+          both_ways_absurd (eq_by_cmp nat_cmp n place.number) (ap (λ k. eq_by_cmp nat_cmp k place.number) (sym h.own ∙ ap (λ (r : Place). r.number) (sym places)) ∙ eq_by_nat_cmp-self place.number) t in
           record { tag = h.tag; place = h.place; here = stays h.tag h.place differ h.here; own = h.own; is = h.is }

@@ -14,8 +14,8 @@ abbrev pub is_tagged : ℕ → Candidate → Bool
 is_tagged tag c = nat_eq tag c.0.tag.0
 
 -- whether one of the candidates has this tag
-abbrev pub has_tag : List Candidate → ℕ → Bool
-has_tag candidates tag = list_any (is_tagged tag) candidates
+abbrev pub has_candidate_tag : List Candidate → ℕ → Bool
+has_candidate_tag candidates tag = list_any (is_tagged tag) candidates
 
 -- the candidates without the one that has this tag
 abbrev pub without_tag : List Candidate → ℕ → List Candidate

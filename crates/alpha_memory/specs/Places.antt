@@ -30,7 +30,7 @@ under join None = None
 under join (Some c) = cond (same_value join c.1) (Some c.0) None
 
 -- tags stand once, numbers are those of one tag and below the next one, and the index has the candidates by their join values and numbers
-pub record Agree (places : List (ℕ × Place)) (next : ℕ) (index : JoinIndex Value ℕ Named) : Type 0 where
+pub record AgreePlaces (places : List (ℕ × Place)) (next : ℕ) (index : JoinIndex Value ℕ Named) : Type 0 where
   pub once : IsDistinct nat_eq (keys_of places)
   pub apart : (s t : ℕ) (p q : Place) → lookup (nat_eq s) places ≡ Some p → lookup (nat_eq t) places ≡ Some q → p.number ≡ q.number → s ≡ t
   pub below : (tag : ℕ) (place : Place) → lookup (nat_eq tag) places ≡ Some place → place.number < next

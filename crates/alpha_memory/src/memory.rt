@@ -7,7 +7,7 @@ ghost use Rattle.std.specs.Ordering.{nat_cmp};
 ghost use Rattle.fx_base.specs.Values.{same_value};
 ghost use Rattle.alpha_memory.specs.Bucket.{entries};
 ghost use Rattle.alpha_memory.specs.JoinIndex.{at};
-ghost use Rattle.alpha_memory.specs.Candidates.{has_tag, without_tag, with_join, names_of};
+ghost use Rattle.alpha_memory.specs.Candidates.{has_candidate_tag, without_tag, with_join, names_of};
 ghost use Rattle.alpha_memory.specs.Places.{name_entry};
 
 use crate::bucket::Bucket;
@@ -47,11 +47,11 @@ impl Model for AlphaMemory {
 
     ghost coded = { Prim.hlevel codes };
 
-    ghost use Rattle.alpha_memory.specs.Places.{numbered, Agree};
+    ghost use Rattle.alpha_memory.specs.Places.{numbered, AgreePlaces};
 
     ghost view = { λ m. map.values (numbered m.by_tag.entries) };
 
-    ghost invariant = { λ m. Agree m.by_tag.entries m.next m.by_join };
+    ghost invariant = { λ m. AgreePlaces m.by_tag.entries m.next m.by_join };
 }
 
 impl AlphaMemory {
@@ -70,7 +70,7 @@ impl AlphaMemory {
     /// Adds a candidate whose tag is new, as the last. Where memory is refused, nothing changes; it is also refused
     /// after 2^64 - 1 candidates.
     pub fn add(&mut self, who: Named, join: Value) -> Result<(), NoMemory>
-        requires { has_tag self.old who.tag.0 ≡ false }
+        requires { has_candidate_tag self.old who.tag.0 ≡ false }
         ensures ok { OnOk result (self.new ≡ self.old ++ (who, join) ∷ []) }
         ensures err { OnErr result (self.new ≡ self.old) }
     {
@@ -96,7 +96,7 @@ impl AlphaMemory {
 
     /// Takes out the candidate with this tag, and answers `false` exactly where there is none. Takes no memory.
     pub fn drop_tag(&mut self, tag: Tag) -> bool
-        ensures found { result ≡ has_tag self.old tag.0 }
+        ensures found { result ≡ has_candidate_tag self.old tag.0 }
         ensures rest { self.new ≡ without_tag self.old tag.0 }
         ensures unchanged { OnFalse result (self.new ≡ self.old) }
     {

@@ -3,9 +3,9 @@ use Rattle.beta_join.proofs.Common.{◌≡◌, ◌∙◌, sym, ap, refl, subst, 
 use Rattle.pair_memory.specs.Standing.{clean, cleaned, either, PassesAlike, StandsFor}
 use Rattle.pair_memory.proofs.Worlds.{made_clean, clean_either}
 use Rattle.pair_memory.proofs.Steps.{steps_law, forgets_law}
-use Rattle.beta_join.specs.Laws.{StepLaw, ForgetLaw}
+use Rattle.beta_join.specs.Laws.{JoinStepLaw, JoinForgetLaw}
 
-pub step_law : (S : Type 0) → StepLaw S
+pub step_law : (S : Type 0) → JoinStepLaw S
 step_law S m n look pass rows rows_now names names_now forgotten left right delta stands alike alike_now rows_lead names_lead changed is =
     let now : StandsFor n look rows_now names_now forgotten = steps_law S m n look rows rows_now names names_now forgotten left right stands rows_lead names_lead changed in
     let alike_too : PassesAlike n.pattern look pass rows_now names_now forgotten = subst (λ (p : Pattern). PassesAlike p look pass rows_now names_now forgotten) (sym changed.pattern) alike_now in (
@@ -29,7 +29,7 @@ less_name true true o h = h
 less_name true false o h = refl
 less_name false f o h = h
 
-pub forget_law : (S : Type 0) → ForgetLaw S
+pub forget_law : (S : Type 0) → JoinForgetLaw S
 forget_law S m n look pass rows names forgotten old dropped gone stands alike drops keeps gone_is =
     let now : StandsFor n look rows names (either forgotten old) = forgets_law S m n look rows names forgotten old dropped stands drops keeps in
     let alike_now : PassesAlike m.pattern look pass rows names (either forgotten old) =

@@ -1,11 +1,14 @@
 -- What one row more, or one less, on a side does to the rows that are made.
-use Rattle.beta_join.proofs.Common.{◌≡◌, ◌∙◌, sym, ap, refl, List, Bool, true, false, not, ◌&&◌, ◌||◌, Option, Some, None, eq_by_cmp, Pattern, Row, row_cmp, has, name_cmp, Look, Memories, has_left, has_right, made, Keeps, Turned, joins, unjoined, splits, row_absent, row_present, name_absent, name_present, keeps_then, leads_alike}
+use Rattle.beta_join.proofs.Common.{◌≡◌, ◌∙◌, sym, ap, refl, List, Bool, true, false, not, ◌&&◌, ◌||◌, Option, Some, None, eq_by_cmp, Pattern, Row, row_cmp}
+use Rattle.beta_join.proofs.Common.{has, name_cmp, Look, Memories, has_left, has_right, made, KeepsMemories, TurnedMemories, joins, unjoined, splits}
+use Rattle.beta_join.proofs.Common.{row_absent, row_present, name_absent, name_present, keeps_then, leads_alike}
 use Rattle.row_delta.specs.declared.row.Named.{Named}
-use Rattle.row_change.specs.Changes.{Leads, without, along}
+use Rattle.row_change.specs.Changes.{LeadsRows, without, along}
 use Rattle.row_change.specs.declared.change.Change.{Change}
 use Rattle.pair_memory.specs.Joined.{joined}
 use Rattle.pair_memory.proofs.Joining.{row_decides, name_decides, joined_alike}
 use Rattle.pair_memory.proofs.Keeping.{made_after}
+use Rattle.fx_base.proofs.Tests.{and_or_and}
 
 splits_imply : (t u : Row → Named → Bool) (b : Bool) → ((l : Row) (c : Named) → t l c ≡ true → u l c ≡ b) → (o : Option (Row × Named)) → splits t o ≡ true → splits u o ≡ b
 splits_imply t u b h None e = let f : false ≡ true = e in cc
@@ -45,13 +48,6 @@ right_minus true true true true = refl
 right_minus true true true false = refl
 right_minus true true false true = refl
 right_minus true true false false = refl
-
-right_plus : (a b e q : Bool) → (a && ((b || e) && q)) ≡ ((a && (b && q)) || (a && (e && q)))
-right_plus false b e q = refl
-right_plus true true e true = refl
-right_plus true true true false = refl
-right_plus true true false false = refl
-right_plus true false e q = refl
 
 inside_left : (a e b q : Bool) → (e ≡ true → a ≡ true) → (e && (b && q)) ≡ true → (a && (b && q)) ≡ true
 inside_left a true b q h e = ap (λ x. x && (b && q)) (h refl) ∙ e
@@ -106,12 +102,12 @@ module _ (pass : Row → Named → Bool) (left : Row → Bool) (right : Named �
 
   pub name_more : (who : Named) (r : Row) → joined pass left (λ c. right c || eq_by_cmp name_cmp who c) r ≡ (joined pass left right r || joined pass left (eq_by_cmp name_cmp who) r)
   unfolding joined
-  name_more who r = splits_plus _ _ _ (λ l c. right_plus (left l) (right c) (eq_by_cmp name_cmp who c) (pass l c)) (unjoined r)
+  name_more who r = splits_plus _ _ _ (λ l c. and_or_and (left l) (right c) (eq_by_cmp name_cmp who c) (pass l c)) (unjoined r)
 
 -- ---- what has changed leads on to the rows that are made then
-module _ {S : Type 0} (m n : Memories S) (look : Look) (left : Row → Bool) (right : Named → Bool) (keeps : Keeps m n look left right) (change changed : Change) where
+module _ {S : Type 0} (m n : Memories S) (look : Look) (left : Row → Bool) (right : Named → Bool) (keeps : KeepsMemories m n look left right) (change changed : Change) where
   -- nothing changes in the rows
-  pub unmoved : ((l : Row) → left l ≡ has_left m look l) → ((c : Named) → right c ≡ has_right m look c) → Turned m n look left right change change
+  pub unmoved : ((l : Row) → left l ≡ has_left m look l) → ((c : Named) → right c ≡ has_right m look c) → TurnedMemories m n look left right change change
   unmoved h k = record {
     keeps = keeps;
     leads = λ old before. leads_alike old (made m look) (made n look) change.gone.keys change.come.keys before
@@ -121,8 +117,8 @@ module _ {S : Type 0} (m n : Memories S) (look : Look) (left : Row → Bool) (ri
   -- these rows go
   pub rows_go : (rows : List Row) (gone : Row → Bool) → ((r : Row) → has rows r ≡ gone r)
       → ((r : Row) → joined (joins m.pattern look) left right r ≡ (made m look r && not (gone r))) → ((r : Row) → gone r ≡ true → made m look r ≡ true)
-      → ((old now : Row → Bool) → Leads old now change.gone.keys change.come.keys → ((r : Row) → has rows r ≡ true → now r ≡ true) → Leads old (without now rows) changed.gone.keys changed.come.keys)
-      → Turned m n look left right change changed
+      → ((old now : Row → Bool) → LeadsRows old now change.gone.keys change.come.keys → ((r : Row) → has rows r ≡ true → now r ≡ true) → LeadsRows old (without now rows) changed.gone.keys changed.come.keys)
+      → TurnedMemories m n look left right change changed
   rows_go rows gone are less inside leave = record {
     keeps = keeps;
     leads = λ old before. leads_alike old (without (made m look) rows) (made n look) changed.gone.keys changed.come.keys (leave old (made m look) before (λ r e. inside r (sym (are r) ∙ e)))
@@ -132,8 +128,8 @@ module _ {S : Type 0} (m n : Memories S) (look : Look) (left : Row → Bool) (ri
   -- these rows come
   pub rows_arrive : (rows : List Row) (come : Row → Bool) → ((r : Row) → has rows r ≡ come r)
       → ((r : Row) → joined (joins m.pattern look) left right r ≡ (made m look r || come r)) → ((r : Row) → come r ≡ true → made m look r ≡ false)
-      → ((old now : Row → Bool) → Leads old now change.gone.keys change.come.keys → ((r : Row) → has rows r ≡ true → now r ≡ false) → Leads old (along now rows) changed.gone.keys changed.come.keys)
-      → Turned m n look left right change changed
+      → ((old now : Row → Bool) → LeadsRows old now change.gone.keys change.come.keys → ((r : Row) → has rows r ≡ true → now r ≡ false) → LeadsRows old (along now rows) changed.gone.keys changed.come.keys)
+      → TurnedMemories m n look left right change changed
   rows_arrive rows come are more outside arrive = record {
     keeps = keeps;
     leads = λ old before. leads_alike old (along (made m look) rows) (made n look) changed.gone.keys changed.come.keys (arrive old (made m look) before (λ r e. outside r (sym (are r) ∙ e)))
@@ -143,65 +139,65 @@ module _ {S : Type 0} (m n : Memories S) (look : Look) (left : Row → Bool) (ri
 -- ---- one row or one candidate that goes or comes
 
 module _ {S : Type 0} (m n : Memories S) (look : Look) (row : Row) (change changed : Change) (rows : List Row) where
-  pub row_goes : Keeps m n look (λ r. has_left m look r && not (eq_by_cmp row_cmp row r)) (has_right m look) → has_left m look row ≡ true
+  pub row_goes : KeepsMemories m n look (λ r. has_left m look r && not (eq_by_cmp row_cmp row r)) (has_right m look) → has_left m look row ≡ true
       → ((r : Row) → has rows r ≡ joined (joins n.pattern look) (eq_by_cmp row_cmp row) (has_right n look) r)
-      → ((old now : Row → Bool) → Leads old now change.gone.keys change.come.keys → ((r : Row) → has rows r ≡ true → now r ≡ true) → Leads old (without now rows) changed.gone.keys changed.come.keys)
-      → Turned m n look (λ r. has_left m look r && not (eq_by_cmp row_cmp row r)) (has_right m look) change changed
+      → ((old now : Row → Bool) → LeadsRows old now change.gone.keys change.come.keys → ((r : Row) → has rows r ≡ true → now r ≡ true) → LeadsRows old (without now rows) changed.gone.keys changed.come.keys)
+      → TurnedMemories m n look (λ r. has_left m look r && not (eq_by_cmp row_cmp row r)) (has_right m look) change changed
   row_goes keeps there are leave =
       rows_go m n look _ (has_right m look) keeps change changed rows (joined (joins m.pattern look) (eq_by_cmp row_cmp row) (has_right m look))
       (λ r. are r ∙ ap (λ (p : Pattern). joined (joins p look) (eq_by_cmp row_cmp row) (has_right n look) r) keeps.pattern
       ∙ joined_alike (joins m.pattern look) (eq_by_cmp row_cmp row) (eq_by_cmp row_cmp row) (has_right n look) (has_right m look) (λ l. refl) keeps.names r)
       (row_less (joins m.pattern look) (has_left m look) (has_right m look) row) (row_inside (joins m.pattern look) (has_left m look) (has_right m look) row there) leave
 
-  pub row_arrives : Keeps m n look (λ r. has_left m look r || eq_by_cmp row_cmp row r) (has_right m look) → has_left m look row ≡ false
+  pub row_arrives : KeepsMemories m n look (λ r. has_left m look r || eq_by_cmp row_cmp row r) (has_right m look) → has_left m look row ≡ false
       → ((r : Row) → has rows r ≡ joined (joins m.pattern look) (eq_by_cmp row_cmp row) (has_right m look) r)
-      → ((old now : Row → Bool) → Leads old now change.gone.keys change.come.keys → ((r : Row) → has rows r ≡ true → now r ≡ false) → Leads old (along now rows) changed.gone.keys changed.come.keys)
-      → Turned m n look (λ r. has_left m look r || eq_by_cmp row_cmp row r) (has_right m look) change changed
+      → ((old now : Row → Bool) → LeadsRows old now change.gone.keys change.come.keys → ((r : Row) → has rows r ≡ true → now r ≡ false) → LeadsRows old (along now rows) changed.gone.keys changed.come.keys)
+      → TurnedMemories m n look (λ r. has_left m look r || eq_by_cmp row_cmp row r) (has_right m look) change changed
   row_arrives keeps new are arrive =
       rows_arrive m n look _ (has_right m look) keeps change changed rows (joined (joins m.pattern look) (eq_by_cmp row_cmp row) (has_right m look)) are
       (row_more (joins m.pattern look) (has_left m look) (has_right m look) row) (row_outside (joins m.pattern look) (has_left m look) (has_right m look) row new) arrive
 
 module _ {S : Type 0} (m n : Memories S) (look : Look) (row : Row) (change : Change) where
-  pub no_row_goes : Keeps m n look (λ r. has_left m look r && not (eq_by_cmp row_cmp row r)) (has_right m look) → has_left m look row ≡ false
-      → Turned m n look (λ r. has_left m look r && not (eq_by_cmp row_cmp row r)) (has_right m look) change change
+  pub no_row_goes : KeepsMemories m n look (λ r. has_left m look r && not (eq_by_cmp row_cmp row r)) (has_right m look) → has_left m look row ≡ false
+      → TurnedMemories m n look (λ r. has_left m look r && not (eq_by_cmp row_cmp row r)) (has_right m look) change change
   no_row_goes keeps absent = unmoved m n look _ (has_right m look) keeps change change (row_absent (has_left m look) row absent) (λ c. refl)
 
-  pub no_row_arrives : Keeps m n look (λ r. has_left m look r || eq_by_cmp row_cmp row r) (has_right m look) → has_left m look row ≡ true
-      → Turned m n look (λ r. has_left m look r || eq_by_cmp row_cmp row r) (has_right m look) change change
+  pub no_row_arrives : KeepsMemories m n look (λ r. has_left m look r || eq_by_cmp row_cmp row r) (has_right m look) → has_left m look row ≡ true
+      → TurnedMemories m n look (λ r. has_left m look r || eq_by_cmp row_cmp row r) (has_right m look) change change
   no_row_arrives keeps there = unmoved m n look _ (has_right m look) keeps change change (λ l. sym (row_present (has_left m look) row there l)) (λ c. refl)
 
 module _ {S : Type 0} (m n : Memories S) (look : Look) (who : Named) (change changed : Change) (rows : List Row) where
-  pub name_goes : Keeps m n look (has_left m look) (λ c. has_right m look c && not (eq_by_cmp name_cmp who c)) → has_right m look who ≡ true
+  pub name_goes : KeepsMemories m n look (has_left m look) (λ c. has_right m look c && not (eq_by_cmp name_cmp who c)) → has_right m look who ≡ true
       → ((r : Row) → has rows r ≡ joined (joins n.pattern look) (has_left n look) (eq_by_cmp name_cmp who) r)
-      → ((old now : Row → Bool) → Leads old now change.gone.keys change.come.keys → ((r : Row) → has rows r ≡ true → now r ≡ true) → Leads old (without now rows) changed.gone.keys changed.come.keys)
-      → Turned m n look (has_left m look) (λ c. has_right m look c && not (eq_by_cmp name_cmp who c)) change changed
+      → ((old now : Row → Bool) → LeadsRows old now change.gone.keys change.come.keys → ((r : Row) → has rows r ≡ true → now r ≡ true) → LeadsRows old (without now rows) changed.gone.keys changed.come.keys)
+      → TurnedMemories m n look (has_left m look) (λ c. has_right m look c && not (eq_by_cmp name_cmp who c)) change changed
   name_goes keeps there are leave =
       rows_go m n look (has_left m look) _ keeps change changed rows (joined (joins m.pattern look) (has_left m look) (eq_by_cmp name_cmp who))
       (λ r. are r ∙ ap (λ (p : Pattern). joined (joins p look) (has_left n look) (eq_by_cmp name_cmp who) r) keeps.pattern
       ∙ joined_alike (joins m.pattern look) (has_left n look) (has_left m look) (eq_by_cmp name_cmp who) (eq_by_cmp name_cmp who) keeps.rows (λ c. refl) r)
       (name_less (joins m.pattern look) (has_left m look) (has_right m look) who) (name_inside (joins m.pattern look) (has_left m look) (has_right m look) who there) leave
 
-  pub name_arrives : Keeps m n look (has_left m look) (λ c. has_right m look c || eq_by_cmp name_cmp who c) → has_right m look who ≡ false
+  pub name_arrives : KeepsMemories m n look (has_left m look) (λ c. has_right m look c || eq_by_cmp name_cmp who c) → has_right m look who ≡ false
       → ((r : Row) → has rows r ≡ joined (joins m.pattern look) (has_left m look) (eq_by_cmp name_cmp who) r)
-      → ((old now : Row → Bool) → Leads old now change.gone.keys change.come.keys → ((r : Row) → has rows r ≡ true → now r ≡ false) → Leads old (along now rows) changed.gone.keys changed.come.keys)
-      → Turned m n look (has_left m look) (λ c. has_right m look c || eq_by_cmp name_cmp who c) change changed
+      → ((old now : Row → Bool) → LeadsRows old now change.gone.keys change.come.keys → ((r : Row) → has rows r ≡ true → now r ≡ false) → LeadsRows old (along now rows) changed.gone.keys changed.come.keys)
+      → TurnedMemories m n look (has_left m look) (λ c. has_right m look c || eq_by_cmp name_cmp who c) change changed
   name_arrives keeps new are arrive =
       rows_arrive m n look (has_left m look) _ keeps change changed rows (joined (joins m.pattern look) (has_left m look) (eq_by_cmp name_cmp who)) are
       (name_more (joins m.pattern look) (has_left m look) (has_right m look) who) (name_outside (joins m.pattern look) (has_left m look) (has_right m look) who new) arrive
 
 module _ {S : Type 0} (m n : Memories S) (look : Look) (who : Named) (change : Change) where
-  pub no_name_goes : Keeps m n look (has_left m look) (λ c. has_right m look c && not (eq_by_cmp name_cmp who c)) → has_right m look who ≡ false
-      → Turned m n look (has_left m look) (λ c. has_right m look c && not (eq_by_cmp name_cmp who c)) change change
+  pub no_name_goes : KeepsMemories m n look (has_left m look) (λ c. has_right m look c && not (eq_by_cmp name_cmp who c)) → has_right m look who ≡ false
+      → TurnedMemories m n look (has_left m look) (λ c. has_right m look c && not (eq_by_cmp name_cmp who c)) change change
   no_name_goes keeps absent = unmoved m n look (has_left m look) _ keeps change change (λ l. refl) (name_absent (has_right m look) who absent)
 
-  pub no_name_arrives : Keeps m n look (has_left m look) (λ c. has_right m look c || eq_by_cmp name_cmp who c) → has_right m look who ≡ true
-      → Turned m n look (has_left m look) (λ c. has_right m look c || eq_by_cmp name_cmp who c) change change
+  pub no_name_arrives : KeepsMemories m n look (has_left m look) (λ c. has_right m look c || eq_by_cmp name_cmp who c) → has_right m look who ≡ true
+      → TurnedMemories m n look (has_left m look) (λ c. has_right m look c || eq_by_cmp name_cmp who c) change change
   no_name_arrives keeps there = unmoved m n look (has_left m look) _ keeps change change (λ l. refl) (λ c. sym (name_present (has_right m look) who there c))
 
 -- ---- one turn after the others
 pub turned_then : {S : Type 0} (first next last : Memories S) (look : Look) (left left_next left_now : Row → Bool) (right right_next right_now : Named → Bool) (change change_next change_now : Change)
-    → Turned first next look left right change change_next → Turned next last look left_next right_next change_next change_now
-    → ((r : Row) → left_next r ≡ left_now r) → ((c : Named) → right_next c ≡ right_now c) → Turned first last look left_now right_now change change_now
+    → TurnedMemories first next look left right change change_next → TurnedMemories next last look left_next right_next change_next change_now
+    → ((r : Row) → left_next r ≡ left_now r) → ((c : Named) → right_next c ≡ right_now c) → TurnedMemories first last look left_now right_now change change_now
 turned_then first next last look left left_next left_now right right_next right_now change change_next change_now k m h j = record {
   keeps = keeps_then first next last look left left_next left_now right right_next right_now k.keeps m.keeps h j;
   leads = λ old before. m.leads old (k.leads old before);

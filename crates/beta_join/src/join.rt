@@ -6,11 +6,11 @@ ghost use Rattle.row_delta.specs.Rows.{has, row_cmp, InOrder};
 ghost use Rattle.row_delta.specs.NameOrder.{name_cmp};
 ghost use Rattle.row_change.specs.Changes.{IsDifference};
 ghost use Rattle.join_tests.specs.Joins.{Look};
-ghost use Rattle.pair_memory.specs.Memories.{has_left, has_right, made, Keeps};
+ghost use Rattle.pair_memory.specs.Memories.{has_left, has_right, made, KeepsMemories};
 ghost use Rattle.pair_memory.specs.Joined.{has_name};
 ghost use Rattle.pair_memory.specs.Standing.{no_rows, no_names, StandsFor};
 ghost use Rattle.pair_memory.specs.Inputs.{IsStepped};
-ghost use Rattle.beta_join.specs.Turns.{Turned};
+ghost use Rattle.beta_join.specs.Turns.{TurnedMemories};
 
 use fx_base::{Copies, Facts, NoMemory, Seq};
 use pair_memory::{Memories, names_alone};
@@ -75,7 +75,7 @@ impl BetaJoin {
         old: &[Named],
         facts: &F,
     ) -> Result<Seq<Row>, NoMemory>
-        ensures kept { OnOk result (Keeps self.old.memories self.new.memories (F.map facts.now)
+        ensures kept { OnOk result (KeepsMemories self.old.memories self.new.memories (F.map facts.now)
             (λ row. has_left self.old.memories (F.map facts.now) row && not (has rows.now row)) (λ who. has_right self.old.memories (F.map facts.now) who && not (has_name old.now who))) }
         ensures dropped { IfOk result (λ dropped. (row : Row) → has dropped row ≡ (made self.old.memories (F.map facts.now) row && not (made self.new.memories (F.map facts.now) row))) }
         ensures in_order { IfOk result (λ dropped. InOrder dropped) }
@@ -116,7 +116,7 @@ impl BetaJoin {
         rows: &[Row],
         facts: &F,
     ) -> Result<(), NoMemory>
-        ensures { OnOk result (Turned self.old.memories self.new.memories (F.map facts.now)
+        ensures { OnOk result (TurnedMemories self.old.memories self.new.memories (F.map facts.now)
             (λ r. has_left self.old.memories (F.map facts.now) r && not (has rows.now r)) (has_right self.old.memories (F.map facts.now)) change.old change.new) }
     {
         for row in rows {
@@ -132,7 +132,7 @@ impl BetaJoin {
         rows: &[Row],
         facts: &F,
     ) -> Result<(), NoMemory>
-        ensures { OnOk result (Turned self.old.memories self.new.memories (F.map facts.now)
+        ensures { OnOk result (TurnedMemories self.old.memories self.new.memories (F.map facts.now)
             (λ r. has_left self.old.memories (F.map facts.now) r || has rows.now r) (has_right self.old.memories (F.map facts.now)) change.old change.new) }
     {
         for row in rows {
@@ -148,7 +148,7 @@ impl BetaJoin {
         names: &[Named],
         facts: &F,
     ) -> Result<(), NoMemory>
-        ensures { OnOk result (Turned self.old.memories self.new.memories (F.map facts.now)
+        ensures { OnOk result (TurnedMemories self.old.memories self.new.memories (F.map facts.now)
             (has_left self.old.memories (F.map facts.now)) (λ c. has_right self.old.memories (F.map facts.now) c && not (has_name names.now c)) change.old change.new) }
     {
         for who in names {
@@ -164,7 +164,7 @@ impl BetaJoin {
         names: &[Named],
         facts: &F,
     ) -> Result<(), NoMemory>
-        ensures { OnOk result (Turned self.old.memories self.new.memories (F.map facts.now)
+        ensures { OnOk result (TurnedMemories self.old.memories self.new.memories (F.map facts.now)
             (has_left self.old.memories (F.map facts.now)) (λ c. has_right self.old.memories (F.map facts.now) c || has_name names.now c) change.old change.new) }
     {
         for who in names {
@@ -180,7 +180,7 @@ impl BetaJoin {
         row: &Row,
         facts: &F,
     ) -> Result<(), NoMemory>
-        ensures { OnOk result (Turned self.old.memories self.new.memories (F.map facts.now)
+        ensures { OnOk result (TurnedMemories self.old.memories self.new.memories (F.map facts.now)
             (λ r. has_left self.old.memories (F.map facts.now) r && not (eq_by_cmp row_cmp row.now r)) (has_right self.old.memories (F.map facts.now)) change.old change.new) }
     {
         match self.memories.take_left(row, facts) {
@@ -199,7 +199,7 @@ impl BetaJoin {
         row: &Row,
         facts: &F,
     ) -> Result<(), NoMemory>
-        ensures { OnOk result (Turned self.old.memories self.new.memories (F.map facts.now)
+        ensures { OnOk result (TurnedMemories self.old.memories self.new.memories (F.map facts.now)
             (λ r. has_left self.old.memories (F.map facts.now) r || eq_by_cmp row_cmp row.now r) (has_right self.old.memories (F.map facts.now)) change.old change.new) }
     {
         let rows = self.memories.with_row(alloc, row, facts)?;
@@ -216,7 +216,7 @@ impl BetaJoin {
         who: Named,
         facts: &F,
     ) -> Result<(), NoMemory>
-        ensures { OnOk result (Turned self.old.memories self.new.memories (F.map facts.now)
+        ensures { OnOk result (TurnedMemories self.old.memories self.new.memories (F.map facts.now)
             (has_left self.old.memories (F.map facts.now)) (λ c. has_right self.old.memories (F.map facts.now) c && not (eq_by_cmp name_cmp who c)) change.old change.new) }
     {
         if self.memories.take_right(who, facts) {
@@ -234,7 +234,7 @@ impl BetaJoin {
         who: Named,
         facts: &F,
     ) -> Result<(), NoMemory>
-        ensures { OnOk result (Turned self.old.memories self.new.memories (F.map facts.now)
+        ensures { OnOk result (TurnedMemories self.old.memories self.new.memories (F.map facts.now)
             (has_left self.old.memories (F.map facts.now)) (λ c. has_right self.old.memories (F.map facts.now) c || eq_by_cmp name_cmp who c) change.old change.new) }
     {
         let rows = self.memories.with_candidate(alloc, who, facts)?;

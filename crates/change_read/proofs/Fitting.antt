@@ -1,22 +1,20 @@
 -- The values of the steps that changes ask for have the declared kinds.
-use Rattle.change_read.proofs.Common.{◌≡◌, ◌≤◌, ◌<◌, ◌==◌, ◌&&◌, ℕ, ℤ, true, false, cond, List, [], ◌∷◌, length, nat_le, Option, Some, None, option_map, Result, Ok, Err, refl, subst, lt-ltb, arith, slice_get, Kind, TypeInfo, type_named, entry_asked, values_step, new_step, insert_step, sets_step, modify_step, retract_step, promise_step, are_fields, are_some_fields, given_under, value_given, field_value, field_named, set_for}
+use Rattle.change_read.proofs.Common.{◌≡◌, ◌≤◌, ◌<◌, ◌==◌, ◌&&◌, ℕ, ℤ, true, false, cond, List, [], ◌∷◌, length, nat_le, Option, Some, None, option_map, Result}
+use Rattle.change_read.proofs.Common.{Ok, Err, refl, subst, lt-ltb, arith, slice_get, Kind, TypeInfo, type_named, entry_asked, values_step, new_step}
+use Rattle.change_read.proofs.Common.{insert_step, sets_step, modify_step, retract_step, promise_step, are_fields, are_some_fields, given_under, value_given}
+use Rattle.change_read.proofs.Common.{field_value, field_named, set_for, list_all, option_and_then, FactId, Value, EventFixed, ReferenceFixed, Absent}
+use Rattle.change_read.proofs.Common.{BadFields, Given}
 use Rattle.std.proofs.Common.{Bool as Truth}
+use Rattle.change_read.specs.Changes.{change_step}
+use Rattle.change_read.specs.Fields.{values_given, sets_given}
 use Rattle.std.proofs.lemmas.Bool.Decides.{Decides-eqb}
-use Rattle.std.specs.List.{list_all}
-use Rattle.std.specs.Option.{option_and_then}
 use Rattle.fx_base.specs.declared.fact.Fact.{Fact}
-use Rattle.fx_base.specs.declared.ids.FactId.{FactId}
-use Rattle.fx_base.specs.declared.value.Value.{Value}
 use Rattle.rule_world.specs.Kinds.{has_kind, have_kinds, set_fits, step_fits}
 use Rattle.rule_model.specs.declared.program.Program.{Program}
 use Rattle.rule_model.specs.declared.step.Step.{Step}
 use Rattle.rule_world.specs.declared.code.Code.{Code}
-use Rattle.rule_world.specs.declared.code.Code.TheVariants.{EventFixed, ReferenceFixed, Absent, BadFields}
 use Rattle.script_read.specs.declared.asked.Change.{Change}
 use Rattle.script_read.specs.declared.asked.Change.TheVariants.{Insert, Modify, Retract, Advance, At, Promise, Begin}
-use Rattle.script_read.specs.declared.given.Given.{Given}
-use Rattle.change_read.specs.Changes.{change_step}
-use Rattle.change_read.specs.Fields.{values_given, sets_given}
 use Rattle.change_read.proofs.Places.{some_is, stands, type_stands, entry_within, FieldAt, field_stands}
 use Rattle.fx_base.specs.declared.kind.Kind.TheVariants as kind
 use Rattle.rule_model.specs.declared.step.Step.TheVariants as step

@@ -1,6 +1,6 @@
 -- What a name finds in a list stands in its place.
-use Rattle.change_read.proofs.Common.{◌≡◌, ◌<◌, ◌+◌, ℕ, suc, Bool, true, false, cond, List, [], ◌∷◌, length, Option, Some, refl, subst, arith, slice_get, Kind, TypeInfo}
-use Rattle.std.specs.Str.{bytes_eq}
+use Rattle.change_read.proofs.Common.{◌≡◌, ◌<◌, ◌+◌, ℕ, suc, Bool, true, false, cond, List, [], ◌∷◌, length, Option, Some, refl, subst, arith, slice_get, Kind}
+use Rattle.change_read.proofs.Common.{TypeInfo, bytes_eq}
 use Rattle.rule_model.specs.declared.program.EntryInfo.{EntryInfo}
 use Rattle.change_read.specs.Changes.{type_named, entry_named}
 use Rattle.change_read.specs.Fields.{field_named}

@@ -57,8 +57,8 @@ pub(crate) fn has_some_fields(fields: &[(Text, Kind)], members: &[(Text, Given)]
     !members.is_empty() && all_declared(fields, members)
 }
 
-// The value that is given to a field of this kind.
-fn value_of(alloc: Global, kind: Kind, given: &Given) -> Result<Option<Value>, NoMemory>
+/// The value that is given to a field of this kind.
+pub(crate) fn value_of(alloc: Global, kind: Kind, given: &Given) -> Result<Option<Value>, NoMemory>
     ensures { IfOk result (λ value. value ≡ value_given kind given.now) }
 {
     match (kind, given) {
@@ -119,16 +119,15 @@ fn declared_field(fields: &[(Text, Kind)], name: &Text) -> Option<(usize, Kind)>
     None
 }
 
-// The value that is given to the field of this name, with the place of the field.
-fn set_for(
+/// The value that is given to the field of this place and kind, with the place.
+pub(crate) fn set_for(
     alloc: Global,
-    fields: &[(Text, Kind)],
-    name: &Text,
+    field: Option<(usize, Kind)>,
     given: &Given,
 ) -> Result<Option<(usize, Value)>, NoMemory>
-    ensures { IfOk result (λ set. set ≡ set_of (field_named name.now fields.now 0) given.now) }
+    ensures { IfOk result (λ set. set ≡ set_of field given.now) }
 {
-    let Some((place, kind)) = declared_field(fields, name) else {
+    let Some((place, kind)) = field else {
         return Ok(None);
     };
     match value_of(alloc, kind, given)? {
@@ -148,7 +147,7 @@ pub(crate) fn sets_for(
 {
     let mut sets = Vec::with_capacity(alloc, members.len())?;
     for member in members {
-        match set_for(alloc, fields, &member.0, &member.1)? {
+        match set_for(alloc, declared_field(fields, &member.0), &member.1)? {
             Some(set) => sets.push(set)?,
             None => return Ok(None),
         }

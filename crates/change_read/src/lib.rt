@@ -4,6 +4,7 @@
 
 mod fields;
 pub mod laws;
+mod merge;
 mod present;
 mod reading;
 

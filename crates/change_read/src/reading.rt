@@ -1,10 +1,11 @@
 ghost use Rattle.std.specs.Prelude.{◌≡◌, ◌≤◌, ◌^◌, length, option_map, IfOk};
 ghost use Rattle.rule_world.specs.Worlds.{is_of_type};
-ghost use Rattle.change_read.specs.Changes.{type_named, entry_named, entry_asked, insert_step, modify_step, retract_step, promise_step, change_step};
+ghost use Rattle.change_read.specs.Changes.{type_named, entry_named, entry_asked, new_step, fields_step, insert_step, modify_step, retract_step, promise_step, change_step};
 
 use crate::Present;
 use crate::fields::{has_fields, has_some_fields, sets_for, values_for};
-use fx_base::{EntryId, FactId, Millis, NoMemory, Text, TypeId};
+use crate::merge::{inserted, is_mergeable, modified};
+use fx_base::{EntryId, FactId, Kind, Millis, NoMemory, Text, TypeId};
 use rule_model::{EntryInfo, Program, Step, TypeInfo};
 use rule_world::Code;
 use script_read::{Change, Given};
@@ -59,6 +60,49 @@ fn is_present<P: Present>(present: &P, id: FactId, ty: TypeId) -> bool
     }
 }
 
+// The step of an insertion of these members, or its fault.
+fn new_fact(
+    alloc: Global,
+    ty: TypeId,
+    entry: EntryId,
+    fields: &[(Text, Kind)],
+    members: &[(Text, Given)],
+) -> Result<Result<Step, Code>, NoMemory>
+    ensures { IfOk result (λ step. step ≡ new_step ty.0 entry.0 fields.now members.now) }
+{
+    if is_mergeable(members) {
+        return inserted(alloc, ty, entry, fields, members);
+    }
+    if !has_fields(fields, members) {
+        return Ok(Err(Code::BadFields));
+    }
+    match values_for(alloc, fields, members)? {
+        Some(fields) => Ok(Ok(Step::Insert { ty, entry, fields })),
+        None => Ok(Err(Code::BadValue)),
+    }
+}
+
+// The step of a modification by these members, or its fault.
+fn new_values(
+    alloc: Global,
+    id: FactId,
+    fields: &[(Text, Kind)],
+    members: &[(Text, Given)],
+) -> Result<Result<Step, Code>, NoMemory>
+    ensures { IfOk result (λ step. step ≡ fields_step id fields.now members.now) }
+{
+    if is_mergeable(members) {
+        return modified(alloc, id, fields, members);
+    }
+    if !has_some_fields(fields, members) {
+        return Ok(Err(Code::BadFields));
+    }
+    match sets_for(alloc, fields, members)? {
+        Some(sets) => Ok(Ok(Step::Modify { id, sets })),
+        None => Ok(Err(Code::BadValue)),
+    }
+}
+
 // The step of an insertion, or its fault.
 fn read_insert(
     alloc: Global,
@@ -82,13 +126,7 @@ fn read_insert(
     if info.reference && begun {
         return Ok(Err(Code::ReferenceFixed));
     }
-    if !has_fields(info.fields.as_slice(), members) {
-        return Ok(Err(Code::BadFields));
-    }
-    match values_for(alloc, info.fields.as_slice(), members)? {
-        Some(fields) => Ok(Ok(Step::Insert { ty, entry, fields })),
-        None => Ok(Err(Code::BadValue)),
-    }
+    new_fact(alloc, ty, entry, info.fields.as_slice(), members)
 }
 
 // The step of a modification, or its fault.
@@ -115,13 +153,7 @@ fn read_modify<P: Present>(
     if !is_present(present, id, ty) {
         return Ok(Err(Code::Absent));
     }
-    if !has_some_fields(info.fields.as_slice(), members) {
-        return Ok(Err(Code::BadFields));
-    }
-    match sets_for(alloc, info.fields.as_slice(), members)? {
-        Some(sets) => Ok(Ok(Step::Modify { id, sets })),
-        None => Ok(Err(Code::BadValue)),
-    }
+    new_values(alloc, id, info.fields.as_slice(), members)
 }
 
 // The step of a retraction, or its fault.

@@ -1,5 +1,10 @@
 -- What is read is spelled so, and what is spelled so is read: numbers, and values made of values.
-use Rattle.checkpoint.proofs.Common.{◌≡◌, ℕ, zero, suc, ◌^◌, ◌<◌, ◌≤◌, ℤ, pos, negsuc, FitsSigned, Bool, true, false, cond, ltb, List, [], ◌∷◌, ◌++◌, length, get_or, take, drop, Option, Some, None, refl, sym, ap, subst, ◌∙◌, append_assoc, arith, inl, inr, Width, w16, w64, byte_len, from_be_bytes, to_be_bytes, cast_signed, cast_unsigned, cases_lt, ltb-false, le-ltb, take_at, drop_at, take-append-drop, length-append, length-take, get_or-take, get_or_past, be_bytes_2, be_bytes_8, from_be_bytes-to_be_bytes_2, from_be_bytes-to_be_bytes_8, byte_bytes, short_bytes, long_bytes, signed_bytes, flag_bytes, IsByte, IsShort, IsLong, IsSigned, IsFlag, ◌>>=◌, Read, byte_at, number_at, both_at, made_at}
+use Rattle.checkpoint.proofs.Common.{◌≡◌, ℕ, zero, suc, ◌^◌, ◌<◌, ◌≤◌, ℤ, pos, negsuc, FitsSigned, Bool, true, false, cond, ltb, List, [], ◌∷◌, ◌++◌, length}
+use Rattle.checkpoint.proofs.Common.{get_or, take, drop, Option, Some, None, refl, sym, ap, subst, ◌∙◌, append_assoc, arith, inl, inr, Width, w16, w64}
+use Rattle.checkpoint.proofs.Common.{byte_len, from_be_bytes, to_be_bytes, cast_signed, cast_unsigned, cases_lt, ltb-false, le-ltb, take_at, drop_at}
+use Rattle.checkpoint.proofs.Common.{take-append-drop, length-append, length-take, get_or-take, get_or_past, be_bytes_2, be_bytes_8}
+use Rattle.checkpoint.proofs.Common.{from_be_bytes-to_be_bytes_2, from_be_bytes-to_be_bytes_8, byte_bytes, short_bytes, long_bytes, signed_bytes, flag_bytes}
+use Rattle.checkpoint.proofs.Common.{IsByte, FitsShort, FitsLong, IsSigned, IsFlag, ◌>>=◌, ReadBytes, byte_at, read_number, both_at, made_at}
 use Rattle.std.proofs.lemmas.Int.{to_z-of_z, of_z-to_z, ints}
 use Rattle.checkpoint.specs.Reading.{signed_at, flag_at}
 
@@ -41,11 +46,11 @@ some_is x y e = cc
 -- ---- exact readers
 
 -- What is read stands at the front and is fit, and what is fit and stands at the front is read.
-pub record Exact {A : Type 0} (spelling : A → List ℕ) (at : List ℕ → Read A) (Fit : A → Type 0) : Type 0 where
+pub record Exact {A : Type 0} (spelling : A → List ℕ) (at : List ℕ → ReadBytes A) (Fit : A → Type 0) : Type 0 where
   pub takes : (bytes : List ℕ) (x : A) (rest : List ℕ) → AreOctets bytes → at bytes ≡ Some (x, rest) → (bytes ≡ spelling x ++ rest) × Fit x
   pub again : (x : A) (rest : List ℕ) → Fit x → at (spelling x ++ rest) ≡ Some (x, rest)
 
-pub both_exact : {A B : Type 0} {s : A → List ℕ} {t : B → List ℕ} {a : List ℕ → Read A} {b : List ℕ → Read B} {F : A → Type 0} {G : B → Type 0}
+pub both_exact : {A B : Type 0} {s : A → List ℕ} {t : B → List ℕ} {a : List ℕ → ReadBytes A} {b : List ℕ → ReadBytes B} {F : A → Type 0} {G : B → Type 0}
     → Exact s a F → Exact t b G → Exact (λ (p : A × B). s p.0 ++ t p.1) (both_at a b) (λ (p : A × B). F p.0 × G p.1)
 both_exact {A} {B} {s} {t} {a} {b} {F} {G} first second = record { takes = takes; again = again }
   where
@@ -61,10 +66,10 @@ both_exact {A} {B} {s} {t} {a} {b} {F} {G} first second = record { takes = takes
     again : (p : A × B) (rest : List ℕ) → F p.0 × G p.1 → both_at a b ((s p.0 ++ t p.1) ++ rest) ≡ Some (p, rest)
     again p rest f =
         ap (both_at a b) (append_assoc (s p.0) (t p.1) rest)
-        ∙ ap (λ (o : Read A). o >>= λ x. b x.1 >>= λ y. Some ((x.0, y.0), y.1)) (first.again p.0 (t p.1 ++ rest) f.0)
-        ∙ ap (λ (o : Read B). o >>= λ y. Some ((p.0, y.0), y.1)) (second.again p.1 rest f.1)
+        ∙ ap (λ (o : ReadBytes A). o >>= λ x. b x.1 >>= λ y. Some ((x.0, y.0), y.1)) (first.again p.0 (t p.1 ++ rest) f.0)
+        ∙ ap (λ (o : ReadBytes B). o >>= λ y. Some ((p.0, y.0), y.1)) (second.again p.1 rest f.1)
 
-pub made_exact : {A B : Type 0} {s : A → List ℕ} {a : List ℕ → Read A} {F : A → Type 0} (make : A → B) (parts : B → A) (G : B → Type 0)
+pub made_exact : {A B : Type 0} {s : A → List ℕ} {a : List ℕ → ReadBytes A} {F : A → Type 0} (make : A → B) (parts : B → A) (G : B → Type 0)
     → ((x : A) → F x → G (make x)) → ((y : B) → G y → F (parts y)) → ((x : A) → F x → parts (make x) ≡ x) → ((y : B) → G y → make (parts y) ≡ y)
     → Exact s a F → Exact (λ (y : B). s (parts y)) (made_at make a) G
 made_exact {A} {B} {s} {a} {F} make parts G to from back there of = record { takes = takes; again = again }
@@ -78,7 +83,7 @@ made_exact {A} {B} {s} {a} {F} make parts G to from back there of = record { tak
 
     again : (y : B) (rest : List ℕ) → G y → made_at make a (s (parts y) ++ rest) ≡ Some (y, rest)
     again y rest g =
-        ap (λ (o : Read A). o >>= λ x. Some (make x.0, x.1)) (of.again (parts y) rest (from y g)) ∙ ap (λ (z : B). Some (z, rest)) (there y g)
+        ap (λ (o : ReadBytes A). o >>= λ x. Some (make x.0, x.1)) (of.again (parts y) rest (from y g)) ∙ ap (λ (z : B). Some (z, rest)) (there y g)
 
 -- ---- numbers
 
@@ -112,7 +117,7 @@ wide64 = record {
   below = λ bytes octets. omega (arith, octets 0, octets 1, octets 2, octets 3, octets 4, octets 5, octets 6, octets 7);
 }
 
-number_takes : (w : Width) (limit : ℕ) (wide : IsWide w limit) (bytes : List ℕ) (n : ℕ) (rest : List ℕ) → AreOctets bytes → number_at w bytes ≡ Some (n, rest)
+number_takes : (w : Width) (limit : ℕ) (wide : IsWide w limit) (bytes : List ℕ) (n : ℕ) (rest : List ℕ) → AreOctets bytes → read_number w bytes ≡ Some (n, rest)
     → (bytes ≡ to_be_bytes w n ++ rest) × (n < limit)
 number_takes w limit wide bytes n rest octets e =
     let g = guard_some (ltb (length bytes) (byte_len w)) (from_be_bytes w (take (byte_len w) bytes), drop (byte_len w) bytes) (n, rest) e in
@@ -123,25 +128,25 @@ number_takes w limit wide bytes n rest octets e =
     sym (take-append-drop (byte_len w) bytes) ∙ ap (λ (z : List ℕ). z ++ drop (byte_len w) bytes) (sym front) in
     subst (λ (z : ℕ × List ℕ). (bytes ≡ to_be_bytes w z.0 ++ z.1) × (z.0 < limit)) g.1 (parts, wide.below (take (byte_len w) bytes) (octets_take (byte_len w) bytes octets))
 
-number_again : (w : Width) (limit : ℕ) (wide : IsWide w limit) (n : ℕ) (rest : List ℕ) → n < limit → number_at w (to_be_bytes w n ++ rest) ≡ Some (n, rest)
+number_again : (w : Width) (limit : ℕ) (wide : IsWide w limit) (n : ℕ) (rest : List ℕ) → n < limit → read_number w (to_be_bytes w n ++ rest) ≡ Some (n, rest)
 number_again w limit wide n rest lt =
     let len = wide.len n in
     let long : ltb (length (to_be_bytes w n ++ rest)) (byte_len w) ≡ false = le-ltb _ _ (omega (arith, length-append (to_be_bytes w n) rest)) in
     rw (long, take_at (to_be_bytes w n) rest (byte_len w) len, drop_at (to_be_bytes w n) rest (byte_len w) len, wide.once_more n lt) refl
 
-pub short_exact : Exact short_bytes (number_at w16) IsShort
+pub short_exact : Exact short_bytes (read_number w16) FitsShort
 short_exact = record { takes = number_takes w16 (2 ^ 16) wide16; again = number_again w16 (2 ^ 16) wide16 }
 
-pub long_exact : Exact long_bytes (number_at w64) IsLong
+pub long_exact : Exact long_bytes (read_number w64) FitsLong
 long_exact = record { takes = number_takes w64 (2 ^ 64) wide64; again = number_again w64 (2 ^ 64) wide64 }
 
 signed_within : (w : Width) (n : ℕ) → FitsSigned w (cast_signed w n)
 signed_within w n = omega (arith, ints)
 
-signed_fits : (n : ℕ) → IsLong n → IsSigned (cast_signed w64 n)
+signed_fits : (n : ℕ) → FitsLong n → IsSigned (cast_signed w64 n)
 signed_fits n h = signed_within w64 n
 
-unsigned_fits : (z : ℤ) → IsSigned z → IsLong (cast_unsigned w64 z)
+unsigned_fits : (z : ℤ) → IsSigned z → FitsLong (cast_unsigned w64 z)
 unsigned_fits (pos n) h = let s = h.sfits in omega arith
 unsigned_fits (negsuc n) h = omega arith
 

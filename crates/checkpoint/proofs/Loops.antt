@@ -1,37 +1,39 @@
 -- The loops over the items of a list.
-use Rattle.checkpoint.proofs.Common.{◌≡◌, ℕ, suc, ◌-◌, ◌+◌, ◌<◌, ◌≤◌, List, [], ◌∷◌, ◌++◌, length, get_or, take, drop, Some, None, Result, Ok, Err, refl, sym, ap, subst, ◌∙◌, append_assoc, add-one, take-suc, arith, append-nil, drop_more, IsErrAnd, IfErr, DecodeFault, BadImage, NoMemory, each_bytes, Each, ◌>>=◌, Read, Tells}
-use Rattle.checkpoint.specs.Reading.{items_at}
+use Rattle.checkpoint.proofs.Common.{◌≡◌, ℕ, suc, ◌-◌, ◌+◌, ◌<◌, ◌≤◌, List, [], ◌∷◌, ◌++◌, length, get_or, take, drop, Some, None, Result, Ok, Err, refl, sym}
+use Rattle.checkpoint.proofs.Common.{ap, subst, ◌∙◌, append_assoc, add-one, take-suc, arith, append-nil, drop_more, IsErrAnd, IfErr, DecodeFault, BadImage}
+use Rattle.checkpoint.proofs.Common.{NoMemory, each_bytes, Each, ◌>>=◌, ReadBytes, TellsDecodeFault}
+use Rattle.checkpoint.specs.Reading.{read_items}
 
 -- the items read so far, before those that are read next
-abbrev pub with_front : {A : Type 0} → List A → Read (List A) → Read (List A)
+abbrev pub with_front : {A : Type 0} → List A → ReadBytes (List A) → ReadBytes (List A)
 with_front front read = read >>= λ xs. Some (front ++ xs.0, xs.1)
 
-regroup : {A : Type 0} (front : List A) (x : A) (read : Read (List A)) → with_front front (read >>= λ xs. Some (x ∷ xs.0, xs.1)) ≡ with_front (front ++ x ∷ []) read
+regroup : {A : Type 0} (front : List A) (x : A) (read : ReadBytes (List A)) → with_front front (read >>= λ xs. Some (x ∷ xs.0, xs.1)) ≡ with_front (front ++ x ∷ []) read
 regroup front x None = refl
 regroup {A} front x (Some xs) = ap (λ (ys : List A). Some (ys, xs.1)) (simp append_assoc)
 
-pub begins : {A : Type 0} (read : List ℕ → Read A) (count : ℕ) (bytes : List ℕ) → with_front [] (items_at read (count - 0) bytes) ≡ items_at read count bytes
-begins read count bytes = let k : count - 0 ≡ count = omega arith in rw k (nothing (items_at read count bytes))
+pub begins : {A : Type 0} (read : List ℕ → ReadBytes A) (count : ℕ) (bytes : List ℕ) → with_front [] (read_items read (count - 0) bytes) ≡ read_items read count bytes
+begins read count bytes = let k : count - 0 ≡ count = omega arith in rw k (nothing (read_items read count bytes))
   where
-    nothing : {A : Type 0} (o : Read (List A)) → with_front [] o ≡ o
+    nothing : {A : Type 0} (o : ReadBytes (List A)) → with_front [] o ≡ o
     nothing None = refl
     nothing (Some x) = refl
 
-pub goes_on : {A : Type 0} (read : List ℕ → Read A) (front : List A) (count i : ℕ) (bytes rest : List ℕ) (x : A) (total : Read (List A)) → i < count → read bytes ≡ Some (x, rest)
-    → with_front front (items_at read (count - i) bytes) ≡ total → with_front (front ++ x ∷ []) (items_at read (count - (i + 1)) rest) ≡ total
-unfolding items_at
+pub goes_on : {A : Type 0} (read : List ℕ → ReadBytes A) (front : List A) (count i : ℕ) (bytes rest : List ℕ) (x : A) (total : ReadBytes (List A)) → i < count → read bytes ≡ Some (x, rest)
+    → with_front front (read_items read (count - i) bytes) ≡ total → with_front (front ++ x ∷ []) (read_items read (count - (i + 1)) rest) ≡ total
+unfolding read_items
 goes_on read front count i bytes rest x total lt is_x so_far =
     let k : count - i ≡ suc (count - (i + 1)) = omega arith in
-    let turn : with_front front (items_at read (count - i) bytes) ≡ with_front (front ++ x ∷ []) (items_at read (count - (i + 1)) rest) =
-    rw (k, is_x) (regroup front x (items_at read (count - (i + 1)) rest)) in
+    let turn : with_front front (read_items read (count - i) bytes) ≡ with_front (front ++ x ∷ []) (read_items read (count - (i + 1)) rest) =
+    rw (k, is_x) (regroup front x (read_items read (count - (i + 1)) rest)) in
     sym turn ∙ so_far
 
-pub stops : {A : Type 0} (read : List ℕ → Read A) (front : List A) (count i : ℕ) (bytes : List ℕ) (total : Read (List A)) (fault : DecodeFault) → i < count → Tells (read bytes) fault
-    → with_front front (items_at read (count - i) bytes) ≡ total → Tells total fault
-unfolding items_at
+pub stops : {A : Type 0} (read : List ℕ → ReadBytes A) (front : List A) (count i : ℕ) (bytes : List ℕ) (total : ReadBytes (List A)) (fault : DecodeFault) → i < count → TellsDecodeFault (read bytes) fault
+    → with_front front (read_items read (count - i) bytes) ≡ total → TellsDecodeFault total fault
+unfolding read_items
 stops read front count i bytes total BadImage lt none so_far =
     let k : count - i ≡ suc (count - (i + 1)) = omega arith in
-    let turn : with_front front (items_at read (count - i) bytes) ≡ None = rw (k, none) refl in
+    let turn : with_front front (read_items read (count - i) bytes) ≡ None = rw (k, none) refl in
     sym so_far ∙ turn
 stops read front count i bytes total NoMemory lt told so_far = tt
 
@@ -40,12 +42,12 @@ pub passed_on : {A : Type 0} (r : Result A DecodeFault) (fault : DecodeFault) (P
 passed_on (Ok x) fault P same told = tt
 passed_on (Err e) fault P same told = subst P (sym same) told
 
-pub ends : {A : Type 0} (read : List ℕ → Read A) (front : List A) (count i : ℕ) (bytes : List ℕ) (total : Read (List A)) → count ≤ i
-    → with_front front (items_at read (count - i) bytes) ≡ total → total ≡ Some (front, bytes)
-unfolding items_at
+pub ends : {A : Type 0} (read : List ℕ → ReadBytes A) (front : List A) (count i : ℕ) (bytes : List ℕ) (total : ReadBytes (List A)) → count ≤ i
+    → with_front front (read_items read (count - i) bytes) ≡ total → total ≡ Some (front, bytes)
+unfolding read_items
 ends {A} read front count i bytes total le so_far =
     let k : count - i ≡ 0 = omega arith in
-    let turn : with_front front (items_at read (count - i) bytes) ≡ Some (front, bytes) = rw k (ap (λ (ys : List A). Some (ys, bytes)) (append-nil front)) in
+    let turn : with_front front (read_items read (count - i) bytes) ≡ Some (front, bytes) = rw k (ap (λ (ys : List A). Some (ys, bytes)) (append-nil front)) in
     sym so_far ∙ turn
 
 -- ---- writing

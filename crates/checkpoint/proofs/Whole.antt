@@ -1,15 +1,13 @@
 -- The bytes of an image, and the image of bytes.
-use Rattle.checkpoint.proofs.Common.{◌≡◌, ℕ, ◌==◌, ◌&&◌, Bool, true, false, cond, List, [], ◌∷◌, ◌++◌, Option, Some, None, Result, Ok, Err, refl, sym, ap, subst, ◌∙◌, codes, IfOk, IfErr, eqb-true, append-nil, DecodeFault, BadImage, field_bytes, AreFields, ◌>>=◌, Read, fields_at, if_last, Tells}
+use Rattle.checkpoint.proofs.Common.{◌≡◌, ℕ, ◌==◌, ◌&&◌, Bool, true, false, cond, List, [], ◌∷◌, ◌++◌, Option, Some, None, Result, Ok, Err, refl, sym, ap}
+use Rattle.checkpoint.proofs.Common.{subst, ◌∙◌, codes, IfOk, IfErr, eqb-true, append-nil, DecodeFault, BadImage, field_bytes, AreFields, ◌>>=◌, ReadBytes}
+use Rattle.checkpoint.proofs.Common.{fields_at, if_no_byte_left, TellsDecodeFault}
+use Rattle.std.proofs.lemmas.Bool.{and_parts}
 use Rattle.checkpoint.specs.declared.image.Image.{Image}
 use Rattle.checkpoint.specs.Bytes.{image_bytes, IsImage}
 use Rattle.checkpoint.specs.Reading.{behind_header, decoded}
 use Rattle.checkpoint.proofs.Exact.{AreOctets, behind, bind_some, some_is}
 use Rattle.checkpoint.proofs.Structs.{fields_exact}
-
-both_of : (a b : Bool) → (a && b) ≡ true → (a ≡ true) × (b ≡ true)
-both_of true true e = (refl, refl)
-both_of true false e = absurd cc
-both_of false b e = absurd cc
 
 if_some : {A : Type 0} (b : Bool) (x y : A) → cond b (Some x) None ≡ Some y → (b ≡ true) × (x ≡ y)
 if_some true x y e = (refl, cc)
@@ -19,9 +17,9 @@ header_takes : (bytes rest : List ℕ) → behind_header bytes ≡ Some rest →
 unfolding behind_header
 header_takes (a ∷ (b ∷ (c ∷ (d ∷ bytes)))) rest e =
     let g = if_some (a == 70 && (b == 88 && (c == 67 && d == 49))) bytes rest e in
-    let p = both_of (a == 70) (b == 88 && (c == 67 && d == 49)) g.0 in
-    let q = both_of (b == 88) (c == 67 && d == 49) p.1 in
-    let r = both_of (c == 67) (d == 49) q.1 in
+    let p = and_parts (a == 70) (b == 88 && (c == 67 && d == 49)) g.0 in
+    let q = and_parts (b == 88) (c == 67 && d == 49) p.1 in
+    let r = and_parts (c == 67) (d == 49) q.1 in
     rw (eqb-true a 70 p.0, eqb-true b 88 q.0, eqb-true c 67 r.0, eqb-true d 49 r.1, g.1) refl
 header_takes [] rest e = absurd cc
 header_takes (a ∷ []) rest e = absurd cc
@@ -32,15 +30,15 @@ header_again : (rest : List ℕ) → behind_header (codes "FXC1" ++ rest) ≡ So
 unfolding behind_header
 header_again rest = refl
 
-last_takes : (x y : Image) (rest : List ℕ) → if_last x rest ≡ Some y → (x ≡ y) × (rest ≡ [])
+last_takes : (x y : Image) (rest : List ℕ) → if_no_byte_left x rest ≡ Some y → (x ≡ y) × (rest ≡ [])
 last_takes x y [] e = (some_is x y e, refl)
 last_takes x y (b ∷ rest) e = absurd cc
 
 pub decoded_takes : (bytes : List ℕ) (image : Image) → AreOctets bytes → decoded bytes ≡ Some image → IsImage image × (image_bytes image ≡ bytes)
 unfolding decoded image_bytes IsImage
 decoded_takes bytes image octets e =
-    let o = bind_some (behind_header bytes) (λ rest. fields_at rest >>= λ x. if_last x.0 x.1) image e in
-    let q = bind_some (fields_at o.0) (λ x. if_last x.0 x.1) image o.2 in
+    let o = bind_some (behind_header bytes) (λ rest. fields_at rest >>= λ x. if_no_byte_left x.0 x.1) image e in
+    let q = bind_some (fields_at o.0) (λ x. if_no_byte_left x.0 x.1) image o.2 in
     let head = header_takes bytes o.0 o.1 in
     let one = fields_exact.takes o.0 q.0.0 q.0.1 (behind (codes "FXC1") o.0 (subst AreOctets head octets)) q.1 in
     let last = last_takes q.0.0 image q.0.1 q.2 in
@@ -50,9 +48,9 @@ decoded_takes bytes image octets e =
 pub decoded_again : (image : Image) → IsImage image → decoded (image_bytes image) ≡ Some image
 unfolding decoded image_bytes IsImage
 decoded_again image is =
-    ap (λ (o : Option (List ℕ)). o >>= λ rest. fields_at rest >>= λ x. if_last x.0 x.1) (header_again (field_bytes image))
-    ∙ ap (λ (z : List ℕ). fields_at z >>= λ x. if_last x.0 x.1) (sym (append-nil (field_bytes image)))
-    ∙ ap (λ (o : Read Image). o >>= λ x. if_last x.0 x.1) (fields_exact.again image [] is)
+    ap (λ (o : Option (List ℕ)). o >>= λ rest. fields_at rest >>= λ x. if_no_byte_left x.0 x.1) (header_again (field_bytes image))
+    ∙ ap (λ (z : List ℕ). fields_at z >>= λ x. if_no_byte_left x.0 x.1) (sym (append-nil (field_bytes image)))
+    ∙ ap (λ (o : ReadBytes Image). o >>= λ x. if_no_byte_left x.0 x.1) (fields_exact.again image [] is)
 
 pub one_spelling : (a b : Image) → IsImage a → IsImage b → image_bytes a ≡ image_bytes b → a ≡ b
 one_spelling a b is_a is_b e = some_is a b (sym (decoded_again a is_a) ∙ ap decoded e ∙ decoded_again b is_b)
@@ -69,9 +67,9 @@ pub is_only : (bytes : List ℕ) (r : Result Image DecodeFault) → IfOk r (λ x
 is_only bytes (Ok x) is = λ other is_other e. some_is x other (sym is ∙ ap decoded (sym e) ∙ decoded_again other is_other)
 is_only bytes (Err fault) is = tt
 
-pub is_bad : (bytes : List ℕ) (r : Result Image DecodeFault) → IfErr r (Tells (decoded bytes))
+pub is_bad : (bytes : List ℕ) (r : Result Image DecodeFault) → IfErr r (TellsDecodeFault (decoded bytes))
     → r ≡ Err BadImage → (image : Image) → IsImage image → image_bytes image ≡ bytes → ⊥
 is_bad bytes r told bad image is e =
-    let none : decoded bytes ≡ None = subst (λ (r : Result Image DecodeFault). IfErr r (Tells (decoded bytes))) bad told in
+    let none : decoded bytes ≡ None = subst (λ (r : Result Image DecodeFault). IfErr r (TellsDecodeFault (decoded bytes))) bad told in
     let n : None ≡ Some image = sym none ∙ ap decoded (sym e) ∙ decoded_again image is in
     cc

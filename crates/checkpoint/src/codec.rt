@@ -1,7 +1,7 @@
 ghost use Rattle.std.specs.Prelude.{◌≡◌, IfOk, IfErr, Some, Err};
 ghost use Rattle.checkpoint.specs.declared.image.Image.{Image as ImageData};
 ghost use Rattle.checkpoint.specs.Bytes.{image_bytes, IsImage};
-ghost use Rattle.checkpoint.specs.Reading.{behind_header, decoded, Tells};
+ghost use Rattle.checkpoint.specs.Reading.{behind_header, decoded, TellsDecodeFault};
 
 use crate::fault::DecodeFault;
 use crate::image::Image;
@@ -27,7 +27,7 @@ pub fn encode(alloc: Global, image: &Image) -> Result<Vec<u8>, NoMemory>
 #[tactic(auto, unfolding(crate::specs::Reading::behind_header))]
 fn behind_header(bytes: &[u8]) -> Result<&[u8], DecodeFault>
     ensures found { IfOk result (λ rest. behind_header bytes.now ≡ Some rest.now) }
-    ensures bad { IfErr result (Tells (behind_header bytes.now)) }
+    ensures bad { IfErr result (TellsDecodeFault (behind_header bytes.now)) }
 {
     match bytes {
         [a, b, c, d, rest @ ..] => {
@@ -45,7 +45,7 @@ fn behind_header(bytes: &[u8]) -> Result<&[u8], DecodeFault>
 #[tactic(auto, unfolding(crate::specs::Reading::decoded))]
 fn image_of(alloc: Global, bytes: &[u8]) -> Result<Image, DecodeFault>
     ensures found { IfOk result (λ image. decoded bytes.now ≡ Some image) }
-    ensures bad { IfErr result (Tells (decoded bytes.now)) }
+    ensures bad { IfErr result (TellsDecodeFault (decoded bytes.now)) }
 {
     let rest = behind_header(bytes)?;
     let (image, behind) = Image::take(alloc, rest)?;

@@ -1,6 +1,6 @@
 ghost use Rattle.std.specs.Prelude.{◌≡◌, ◌≤◌, ◌++◌, length, option_map, OnOk, IfOk, IfErr, Some};
 ghost use Rattle.checkpoint.specs.Bytes.{string_bytes, each_bytes, AreBytes, Each};
-ghost use Rattle.checkpoint.specs.Reading.{string_at, utf8_text, items_at, Tells};
+ghost use Rattle.checkpoint.specs.Reading.{string_at, utf8_text, read_items, TellsDecodeFault};
 
 use crate::fault::DecodeFault;
 use crate::spelled::{Listed, Readable, Spelled};
@@ -22,7 +22,7 @@ pub(crate) fn put_string(string: &[u8], out: &mut Vec<u8>) -> Result<(), NoMemor
 #[tactic(auto, unfolding(crate::specs::Reading::string_at))]
 pub(crate) fn string_at(alloc: Global, from: &[u8]) -> Result<(&[u8], &[u8]), DecodeFault>
     ensures found { IfOk result (λ f. string_at from.now ≡ Some (f.0.now, f.1.now)) }
-    ensures bad { IfErr result (Tells (string_at from.now)) }
+    ensures bad { IfErr result (TellsDecodeFault (string_at from.now)) }
 {
     let (count, rest) = u64::take(alloc, from)?;
     if (rest.len() as u64) < count {
@@ -40,11 +40,11 @@ fn as_text(bytes: &[u8]) -> Option<&str>
 }
 
 impl Spelled for Text {
-    ghost use Rattle.checkpoint.specs.Bytes.{IsText};
+    ghost use Rattle.checkpoint.specs.Bytes.{IsImageText};
 
     ghost spelling = { string_bytes };
 
-    ghost is_fit = { IsText };
+    ghost is_fit = { IsImageText };
 
     fn put(&self, out: &mut Vec<u8>) -> Result<(), NoMemory> {
         put_string(self.as_str().as_bytes(), out)?;
@@ -53,11 +53,11 @@ impl Spelled for Text {
 }
 
 impl Readable for Text {
-    ghost use Rattle.checkpoint.specs.Reading.{text_at};
+    ghost use Rattle.checkpoint.specs.Reading.{read_text};
 
-    ghost at = { text_at };
+    ghost at = { read_text };
 
-    #[tactic(auto, unfolding(crate::specs::Reading::text_at))]
+    #[tactic(auto, unfolding(crate::specs::Reading::read_text))]
     fn take(alloc: Global, from: &[u8]) -> Result<(Text, &[u8]), DecodeFault> {
         let (string, behind) = string_at(alloc, from)?;
         match as_text(string) {
@@ -103,8 +103,8 @@ fn items_at<T: Readable>(
     from: &[u8],
 ) -> Result<(Seq<T>, &[u8]), DecodeFault>
     requires { count ≤ length from.now }
-    ensures found { IfOk result (λ f. items_at T.at count from.now ≡ Some (f.0, f.1.now)) }
-    ensures bad { IfErr result (Tells (items_at T.at count from.now)) }
+    ensures found { IfOk result (λ f. read_items T.at count from.now ≡ Some (f.0, f.1.now)) }
+    ensures bad { IfErr result (TellsDecodeFault (read_items T.at count from.now)) }
 {
     let mut items = Vec::with_capacity(alloc, count as usize)?;
     let mut rest = from;

@@ -5,7 +5,7 @@ use Rattle.std.specs.List.{list_all}
 use Rattle.std.specs.Result.{result_ok}
 use Rattle.std.specs.Str.Parse.{digits_value, ParsesUnsigned}
 use Rattle.std.proofs.lemmas.Str.Parse.{IsNumeralModel, numerals_by_value, digits_value_short, parse_gives}
-use Rattle.command_words.specs.Asked.{number_of}
+use Rattle.command_words.specs.Asked.{number_in_digits}
 
 decimal : IsNumeralModel (λ ds. list_all is_ascii_digit ds ≡ true) (digits_value 10)
 decimal = numerals_by_value _ (search rules)
@@ -17,11 +17,11 @@ read_short text r parsed digits some short =
     let small = digits_value_short decimal text 10 digits short in
     parse_gives decimal 64 text r parsed digits (omega arith) (omega (arith, small))
 
-number_written : (most : ℕ) (text : List ℕ) → list_all is_ascii_digit text ≡ true → 1 ≤ length text → length text ≤ most → number_of most text ≡ Some (digits_value 10 text)
-unfolding number_of
+number_written : (most : ℕ) (text : List ℕ) → list_all is_ascii_digit text ≡ true → 1 ≤ length text → length text ≤ most → number_in_digits most text ≡ Some (digits_value 10 text)
+unfolding number_in_digits
 number_written most text digits some short = search (rules, digits, some, short)
 
 pub number_read : {E : Type 0} (most : ℕ) (text : List ℕ) (r : Result ℕ E) → most ≤ 10 → ParsesUnsigned 64 10 text r → list_all is_ascii_digit text ≡ true → 1 ≤ length text → length text ≤ most
-    → result_ok r ≡ number_of most text
+    → result_ok r ≡ number_in_digits most text
 number_read most text r few parsed digits some short =
     ap result_ok (read_short text r parsed digits some (omega (arith, few, short))) ∙ sym (number_written most text digits some short)

@@ -1,5 +1,6 @@
 -- What the program's command makes of words, by what clap says of a parse.
-use Rattle.command_words.proofs.Common.{◌≡◌, true, List, [], ◌∷◌, Some, None, refl, IsAmong, Kinds, Row, Text, fault_of, is_simple, is_simple_and_free, matches_of, ErrorKind}
+use Rattle.command_words.proofs.Common.{◌≡◌, true, List, [], ◌∷◌, Some, None, refl, IsAmong, Kinds, Row, Text, fault_of, is_simple, is_simple_and_free}
+use Rattle.command_words.proofs.Common.{matches_of, ErrorKind}
 use Rattle.clap.proofs.OnLiterals.{clap_on_literals}
 use Rattle.command_words.specs.Command.{replay_app, without_fault, matched}
 

@@ -1,18 +1,20 @@
 -- What words ask for has a limit from 1 to 1,000,000, and a load a number below 2^31.
-use Rattle.command_words.proofs.Common.{ℕ, List, Option, Some, None, IfSome, option_map, option_and_then, rules, Row, Text, first_of, IsLimit, IsLoadNumber, IsWithinBounds, asks_file, asks_resumed, asks_load, asks_parts, given_or, limited, load_numbered, mode_of, number_of}
+use Rattle.command_words.proofs.Common.{ℕ, List, Option, Some, None, IfSome, option_map, option_and_then, rules, Row, Text, first_of, IsLimit, IsLoadNumber}
+use Rattle.command_words.proofs.Common.{IsWithinBounds, asks_file, asks_resumed, asks_load, asks_parts, given_or, limited, load_numbered, mode_of}
+use Rattle.command_words.proofs.Common.{number_in_digits}
 use Rattle.std.specs.Prelude.{codes}
 use Rattle.std.proofs.lemmas.Bool.Decides.{nat_tests}
 use Rattle.command_words.specs.declared.asking.Asked.TheVariants.{Load}
 use Rattle.command_words.specs.declared.asking.Mode.{Mode}
 use Rattle.command_words.specs.declared.asking.Mode.TheVariants.{Run, Check, Lives, Proof, Save}
-use Rattle.command_words.specs.Asked.{asked_rows, limit_of, load_number_of}
+use Rattle.command_words.specs.Asked.{asked_rows, limit_written, load_number_of}
 
 limited_within : (n : ℕ) → IfSome (limited n) IsLimit
 limited_within n = search rules
 
-limit_within : (text : Text) → IfSome (limit_of text) IsLimit
-unfolding limit_of
-limit_within text = go (number_of 7 text)
+limit_within : (text : Text) → IfSome (limit_written text) IsLimit
+unfolding limit_written
+limit_within text = go (number_in_digits 7 text)
   where
     go : (number : Option ℕ) → IfSome (option_and_then limited number) IsLimit
     go None = tt
@@ -23,7 +25,7 @@ load_numbered_within n = search (rules, nat_tests)
 
 load_number_within : (text : Text) → IfSome (load_number_of text) IsLoadNumber
 unfolding load_number_of
-load_number_within text = go (number_of 10 text)
+load_number_within text = go (number_in_digits 10 text)
   where
     go : (number : Option ℕ) → IfSome (option_and_then load_numbered number) IsLoadNumber
     go None = tt

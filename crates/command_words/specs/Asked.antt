@@ -1,5 +1,6 @@
 -- What the words behind the program's own name ask for.
-use Rattle.std.specs.Prelude.{ℕ, ◌<◌, ◌≤◌, ◌^◌, ◌&&◌, Bool, List, length, map, nat_lt, nat_le, Option, Some, None, option_map, option_and_then, unwrap_or, if◌then◌else◌, codes, string_bytes}
+use Rattle.std.specs.Prelude.{ℕ, ◌<◌, ◌≤◌, ◌^◌, ◌&&◌, Bool, List, length, map, nat_lt, nat_le, Option, Some, None, option_map, option_and_then, unwrap_or}
+use Rattle.std.specs.Prelude.{if◌then◌else◌, codes, string_bytes}
 use Rattle.std.proofs.Common.{String, Global}
 use Rattle.std.specs.Char.{is_ascii_digit}
 use Rattle.std.specs.List.{list_all}
@@ -25,8 +26,8 @@ abbrev pub is_numeral : ℕ → Text → Bool
 is_numeral most text = nat_le 1 (length text) && (nat_le (length text) most && list_all is_ascii_digit text)
 
 -- the number that the text writes in at most so many digits
-unfoldable pub number_of : ℕ → Text → Option ℕ
-number_of most text = if is_numeral most text then Some (digits_value 10 text) else None
+unfoldable pub number_in_digits : ℕ → Text → Option ℕ
+number_in_digits most text = if is_numeral most text then Some (digits_value 10 text) else None
 
 -- a limit is from 1 to 1,000,000
 abbrev pub IsLimit : ℕ → Type 0
@@ -37,8 +38,8 @@ abbrev pub limited : ℕ → Option ℕ
 limited n = if nat_le 1 n && nat_le n 1000000 then Some n else None
 
 -- the limit that the text writes
-unfoldable pub limit_of : Text → Option ℕ
-limit_of text = option_and_then limited (number_of 7 text)
+unfoldable pub limit_written : Text → Option ℕ
+limit_written text = option_and_then limited (number_in_digits 7 text)
 
 -- the number of a load is from 0 to 2,147,483,647
 abbrev pub IsLoadNumber : ℕ → Type 0
@@ -50,7 +51,7 @@ load_numbered n = if nat_lt n (2 ^ 31) then Some n else None
 
 -- the number of a load that the text writes
 unfoldable pub load_number_of : Text → Option ℕ
-load_number_of text = option_and_then load_numbered (number_of 10 text)
+load_number_of text = option_and_then load_numbered (number_in_digits 10 text)
 
 -- what an option was given, or its default
 abbrev pub given_or : Text → Text → List Row → Text
@@ -89,7 +90,7 @@ unfoldable pub asked_rows : List Row → Option Asked
 asked_rows rows = asks_parts (first_of (codes "gen") rows)
     (first_of (codes "resume") rows)
     (mode_of (given_or (codes "mode") (codes "run") rows))
-    (limit_of (given_or (codes "limit") (codes "100000") rows))
+    (limit_written (given_or (codes "limit") (codes "100000") rows))
     (first_of (codes "rules") rows)
 
 -- what words with these bytes ask for, or nothing where they are refused

@@ -1,7 +1,7 @@
 ghost use Rattle.std.specs.Prelude.{◌≡◌, ◌≤◌};
 ghost use Rattle.std.specs.Char.{is_ascii_digit};
 ghost use Rattle.std.specs.List.{list_all};
-ghost use Rattle.command_words.specs.Asked.{number_of, limit_of, load_number_of};
+ghost use Rattle.command_words.specs.Asked.{number_in_digits, limit_written, load_number_of};
 
 /// The most digits of a limit.
 const LIMIT_DIGITS: usize = 7;
@@ -22,10 +22,10 @@ fn are_digits(text: &str) -> bool
 }
 
 /// The number that decimal digits write, from 1 to so many.
-#[tactic(auto, unfolding(crate::specs::Asked::number_of))]
+#[tactic(auto, unfolding(crate::specs::Asked::number_in_digits))]
 fn number_of(text: &str, most: usize) -> Option<u64>
     requires { most ≤ 10 }
-    ensures { result ≡ number_of most text.now }
+    ensures { result ≡ number_in_digits most text.now }
 {
     if text.is_empty() || text.len() > most || !are_digits(text) {
         return None;
@@ -34,9 +34,9 @@ fn number_of(text: &str, most: usize) -> Option<u64>
 }
 
 /// The limit from 1 to 1,000,000 that the text writes.
-#[tactic(auto, unfolding(crate::specs::Asked::limit_of))]
+#[tactic(auto, unfolding(crate::specs::Asked::limit_written))]
 pub(crate) fn limit_of(text: &str) -> Option<u64>
-    ensures { result ≡ limit_of text.now }
+    ensures { result ≡ limit_written text.now }
 {
     let limit = number_of(text, LIMIT_DIGITS)?;
     if 1 <= limit && limit <= LIMIT_MAX {

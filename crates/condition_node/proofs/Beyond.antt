@@ -1,15 +1,22 @@
 -- What a node that stands for a snapshot counts of forgotten facts.
-use Rattle.condition_node.proofs.Common.{◌≡◌, ◌∙◌, sym, ap, refl, subst, ⊎_elim, inl, inr, ◌⊎◌, ℕ, arith, map, length, List, [], ◌∷◌, Bool, true, false, cond, ◌&&◌, ◌||◌, Option, Some, None, ℤ, pos, eq_by_cmp, In, Fact, in_rising_order, Extra, Named, name_equiv, Row, row_cmp, InOrder, Accumulate, Condition, Negated, Existing, Folded, Pattern, Program, HaveDistinctTags, Holds, pattern_of, Snapshot, name_of, of_filter, one_fact, once_filter, once_map, Look, joins, Memories, has_name, cleaned, row_decides, BetaJoin, Witnesses, TallyNode, AreDistinct, counts_blockers, counts_witnesses, argument_given, argument_of, gathers, extra_for, nothing_gathered, arguments_gathered, NotNode, HasAllOf, NameHeld, held, candidates_of, held_all, values_gathered, IsAside, FoldNode, Node, condition_of, Counts, NodeStands, AllByRecursion, is_eq, argument, IsBeyond, IsExtraFor, AreExtrasOf, CountsOthers, rows_of_extras, lost_passing, others_law, partners, lost_partners, IsLost, IsExtraBeside, AreExtrasBeside}
+use Rattle.condition_node.proofs.Common.{◌≡◌, ◌∙◌, sym, ap, refl, subst, ⊎_elim, inl, inr, ◌⊎◌, ℕ, arith, map, length, List, [], ◌∷◌, Bool, true, false, cond}
+use Rattle.condition_node.proofs.Common.{◌&&◌, ◌||◌, Option, Some, None, ℤ, pos, eq_by_cmp, is_eq, In, Fact, in_rising_order, Extra, Named, name_equiv, Row}
+use Rattle.condition_node.proofs.Common.{row_cmp, InOrder, Accumulate, Condition, Negated, Existing, Folded, Pattern, Program, HaveDistinctTags, Holds}
+use Rattle.condition_node.proofs.Common.{pattern_of, argument, Snapshot, name_of, one_fact, once_filter, once_map, Look, joins, Memories, has_name, cleaned}
+use Rattle.condition_node.proofs.Common.{row_decides, BetaJoin, Witnesses, TallyNode, AreDistinct, counts_blockers, counts_witnesses, argument_given}
+use Rattle.condition_node.proofs.Common.{argument_of, gathers, extra_for, nothing_gathered, arguments_gathered, IsBeyond, IsExtraFor, AreExtrasOf, CountsOthers}
+use Rattle.condition_node.proofs.Common.{rows_of_extras, NotNode, HasAllOf, NameHeld, held, candidates_of, partners, held_all, values_gathered, lost_partners}
+use Rattle.condition_node.proofs.Common.{IsAside, IsLost, IsExtraBeside, AreExtrasBeside, FoldNode, Node, condition_of, CountsPartners, NodeStands}
+use Rattle.condition_node.proofs.Common.{AllByRecursion, lost_passing, others_law, length-rising, same_values, held_known, joining_alike, remembered_alike}
+use Rattle.condition_node.proofs.Common.{partner_in, partners_once}
+use Rattle.rule_model.proofs.Named.{of_filter}
 use Rattle.std.specs.declared.cmp.Ordering.TheVariants.{Less}
 use Rattle.std.specs.List.Sorted.{IsStrictlySortedBy}
 use Rattle.std.proofs.lemmas.List.{length-map}
 use Rattle.fx_base.specs.declared.ids.RuleId.{RuleId}
-use Rattle.fold_fn.proofs.ResultLemmas.{length-rising}
 use Rattle.row_delta.specs.RowOrder.{same_equiv}
-use Rattle.tally_node.proofs.Gathering.{same_values}
+use Rattle.condition_node.proofs.Folding.{distinct, named_where, partners_named}
 use Rattle.condition_node.specs.declared.node.Node.TheVariants as node
-use Rattle.condition_node.proofs.Folding.{distinct, named_where, partner_in, partners_once, partners_named}
-use Rattle.condition_node.proofs.Knowing.{held_known, joining_alike, remembered_alike}
 
 -- ---- extras in the order of their rows
 less_in : (row : Row) (extras : List Extra) → AllByRecursion (λ y. row_cmp row y ≡ Less) (rows_of_extras extras) → (e : Extra) → In e extras → row_cmp row e.row ≡ Less
@@ -81,7 +88,7 @@ module _ (p : Program) (look : Look) (s : Snapshot) (rows : Row → Bool) (forgo
   module _ {T : Type 0} (holds : T → Look → (Named → Bool) → Type 0) (gathered : Look → List Named → List ℤ) (c : Condition) (m : Memories T) (meant : m.pattern ≡ pattern_of c) (aside : IsAside c)
       (same_gathered : (xs ys : List Named) → AreDistinct xs → AreDistinct ys → ((who : Named) → has_name xs who ≡ has_name ys who) → gathered (held s) xs ≡ gathered (held s) ys)
       (told_values : (facts : List Fact) → Holds (held s) facts → gathered (held s) (map name_of facts) ≡ values_gathered c facts)
-      (counts : Counts holds p m look s rows forgotten) (under : RuleId) (place : ℕ) (extras : List Extra) (are : AreExtrasOf holds gathered m look under place extras) where
+      (counts : CountsPartners holds p m look s rows forgotten) (under : RuleId) (place : ℕ) (extras : List Extra) (are : AreExtrasOf holds gathered m look under place extras) where
     others : CountsOthers holds m look (held s) (lost_passing (joins m.pattern (held s)) (candidates_of p m.pattern s) forgotten)
     others =
         others_law holds (λ t world set e. Unit {0}) m look (held s) (joins m.pattern (held s)) rows (candidates_of p m.pattern s) forgotten counts

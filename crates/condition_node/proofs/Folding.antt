@@ -1,41 +1,27 @@
 -- The rows of the node of an accumulate, and the facts over which its function goes.
-use Rattle.condition_node.proofs.Common.{◌≡◌, ◌∙◌, sym, ap, refl, cond, map, ℤ, int_eq, slice_get, ℕ, List, [], ◌∷◌, Bool, true, false, ◌&&◌, ◌||◌, Option, Some, None, if◌then◌else◌, fun_ext, eq_by_cmp, In, Fact, name_cmp, Named, Row, Accumulate, Folded, Pattern, Program, HaveDistinctTags, Holds, bound_in, Snapshot, name_of, of_filter, one_fact, once_filter, once_map, Look, joins, has_name, clean, cleaned, AlikeOn, without_value, shows_value, name_decides, AreDistinct, result_for, all_passing, shown, line, HasAllOf, NameHeld, held, candidates_of, held_all, candidates_named, FoldNode, FoldsFor, filter, Decides-int_eq, EachOnce, result_of, Bindings, once_facts, unvalued, splits_value, named_alike, tested, is_result, gathered_shown}
-use Rattle.rule_model.specs.Candidates.{is_candidate, candidates}
-use Rattle.rule_model.specs.Tests.{results_hold}
-use Rattle.pair_memory.specs.Valued.{valued}
-use Rattle.pair_memory.proofs.Valued.{from_unvalued}
+use Rattle.condition_node.proofs.Common.{◌≡◌, ◌∙◌, sym, ap, refl, cond, map, ℤ, int_eq, slice_get, ℕ, List, [], ◌∷◌, Bool, true, false, ◌&&◌, ◌||◌, Option}
+use Rattle.condition_node.proofs.Common.{Some, None, if◌then◌else◌, fun_ext, eq_by_cmp, EachOnce, Fact, name_cmp, Named, Row, Accumulate, Folded, Pattern}
+use Rattle.condition_node.proofs.Common.{Program, HaveDistinctTags, Holds, bound_in, Snapshot, name_of, Bindings, one_fact, once_map, Look, joins, has_name}
+use Rattle.condition_node.proofs.Common.{cleaned, AlikeOn, without_value, shows_value, name_decides, AreDistinct, result_for, tested, is_result, all_passing}
+use Rattle.condition_node.proofs.Common.{shown, line, HasAllOf, NameHeld, held, candidates_of, held_all, candidates_named, FoldNode, FoldsFor, filter}
+use Rattle.condition_node.proofs.Common.{Decides-int_eq, result_of, named_alike, gathered_shown, false_from_ne_true, results_hold, name_in, held_known}
+use Rattle.condition_node.proofs.Common.{row_alike, and_implied, or_and_excluded, or_and_implied, partner_in, partners_once, valued_clean}
 use Rattle.condition_rows.specs.Lines.{is_result as is_given, gives}
 use Rattle.condition_rows.specs.Sets.{partners}
-use Rattle.condition_rows.proofs.Ends.{name_in}
-use Rattle.condition_node.proofs.Knowing.{held_known, row_alike}
-use Rattle.condition_node.proofs.Shown.{asked_first}
-
--- ---- the candidates that join a row
-absent : (b : Bool) → (b ≡ true → ⊥) → b ≡ false
-absent true h = absurd (h refl)
-absent false h = refl
+use Rattle.rule_model.specs.Candidates.{candidates}
 
 pub distinct : (names : List Named) → EachOnce names → AreDistinct names
 distinct [] once = tt
-distinct (n ∷ names) once = (absent (has_name names n) (λ e. once.0 (name_in n names e)), distinct names once.1)
-
-kept_one : (e h t : Bool) → (e ≡ true → t ≡ true) → (e || (h && t)) ≡ ((e || h) && t)
-kept_one true h t k = sym (k refl)
-kept_one false h t k = refl
-
-kept_none : (e h t : Bool) → (e ≡ true → t ≡ false) → (h && t) ≡ ((e || h) && t)
-kept_none true true t k = refl
-kept_none true false t k = sym (k refl)
-kept_none false h t k = refl
+distinct (n ∷ names) once = (false_from_ne_true (has_name names n) (λ e. once.0 (name_in n names e)), distinct names once.1)
 
 module _ (test : Named → Bool) (who : Named) where
   named_step : (b : Bool) (f : Fact) (kept : List Fact) (h : Bool) → test (name_of f) ≡ b → has_name (map name_of kept) who ≡ (h && test who)
       → has_name (map name_of (cond b (f ∷ kept) kept)) who ≡ ((eq_by_cmp name_cmp who (name_of f) || h) && test who)
   named_step true f kept h is rest =
       ap (λ b. eq_by_cmp name_cmp who (name_of f) || b) rest
-      ∙ kept_one (eq_by_cmp name_cmp who (name_of f)) h (test who) (λ e. ap test ((name_decides who (name_of f)).0 e) ∙ is)
+      ∙ or_and_implied (eq_by_cmp name_cmp who (name_of f)) h (test who) (λ e. ap test ((name_decides who (name_of f)).0 e) ∙ is)
   named_step false f kept h is rest =
-      rest ∙ kept_none (eq_by_cmp name_cmp who (name_of f)) h (test who) (λ e. ap test ((name_decides who (name_of f)).0 e) ∙ is)
+      rest ∙ or_and_excluded (eq_by_cmp name_cmp who (name_of f)) h (test who) (λ e. ap test ((name_decides who (name_of f)).0 e) ∙ is)
 
   -- the names of the facts whose names pass a test are the names that pass it
   pub named_where : (facts : List Fact) → has_name (map name_of (filter (λ (f : Fact). test (name_of f)) facts)) who ≡ (has_name (map name_of facts) who && test who)
@@ -43,21 +29,13 @@ module _ (test : Named → Bool) (who : Named) where
   named_where (f ∷ facts) = named_step (test (name_of f)) f (filter (λ (f : Fact). test (name_of f)) facts) (has_name (map name_of facts) who) refl (named_where facts)
 
 module _ (p : Program) (s : Snapshot) (tags : HaveDistinctTags s.facts) (q : Pattern) (row : Row) where
-  pub partner_in : (f : Fact) → In f (partners p q s row) → In f s.facts
-  unfolding partners
-  partner_in f i = of_filter (is_candidate p q s) f s.facts (of_filter (λ (g : Fact). joins q (held s) row (name_of g)) f (candidates p q s) i)
-
   pub partners_held : Holds (held s) (partners p q s row)
-  partners_held = held_all s tags (partners p q s row) partner_in
-
-  pub partners_once : EachOnce (partners p q s row)
-  unfolding partners
-  partners_once = once_filter (λ (g : Fact). joins q (held s) row (name_of g)) (candidates p q s) (once_filter (is_candidate p q s) s.facts (once_facts s.facts tags))
+  partners_held = held_all s tags (partners p q s row) (partner_in p s tags q row)
 
   pub partners_distinct : AreDistinct (map name_of (partners p q s row))
   partners_distinct =
       distinct (map name_of (partners p q s row))
-      (once_map name_of (partners p q s row) partners_once (λ f g i j e. one_fact s.facts tags f g (partner_in f i) (partner_in g j) (ap (λ (n : Named). n.tag) e)))
+      (once_map name_of (partners p q s row) (partners_once p s tags q row) (λ f g i j e. one_fact s.facts tags f g (partner_in p s tags q row f i) (partner_in p s tags q row g j) (ap (λ (n : Named). n.tag) e)))
 
   pub partners_named : (who : Named) → has_name (map name_of (partners p q s row)) who ≡ all_passing (joins q (held s)) (candidates_of p q s) row who
   unfolding partners
@@ -71,10 +49,6 @@ looking facts row = record { fact = facts; result = slice_get row.values }
 bound_alike : (look other : Look) (row : Row) → AlikeOn look other row.facts → bound_in look row ≡ bound_in other row
 bound_alike look other row h = ap (λ facts. looking facts row) (fun_ext (named_alike look other row.facts h))
 
-all_of_one : (e r : Bool) → (e ≡ true → r ≡ true) → e ≡ (e && r)
-all_of_one true r h = sym (h refl)
-all_of_one false r h = refl
-
 none_of_one : (e r : Bool) → (e ≡ true → r ≡ false) → false ≡ (e && r)
 none_of_one true r h = sym (h refl)
 none_of_one false r h = refl
@@ -87,23 +61,10 @@ tested_given a bound (Some n) v = by (results_hold bound n a.tests) refl
     same e = ap (λ n. results_hold bound n a.tests) (sym ((Decides-int_eq n v).0 e))
 
     by : (b : Bool) → results_hold bound n a.tests ≡ b → is_result (if b then Some n else None) v ≡ (int_eq n v && results_hold bound v a.tests)
-    by true h = all_of_one (int_eq n v) (results_hold bound v a.tests) (λ e. same e ∙ h)
+    by true h = and_implied (int_eq n v) (results_hold bound v a.tests) (λ e. same e ∙ h)
     by false h = none_of_one (int_eq n v) (results_hold bound v a.tests) (λ e. same e ∙ h)
 
 -- ---- the rows of the node
-module _ (rows : Row → Bool) (forgotten : Named → Bool) (here given : Row → ℤ → Bool) (same : (left : Row) (v : ℤ) → cleaned rows forgotten left ≡ true → here left v ≡ given left v) where
-  split_clean : (row : Row) (o : Option (Row × ℤ)) → unvalued row ≡ o
-      → splits_value (λ left v. cleaned rows forgotten left && here left v) o ≡ (splits_value (λ left v. rows left && given left v) o && clean forgotten row)
-  split_clean row None e = refl
-  split_clean row (Some r) e =
-      asked_first (rows r.0) (clean forgotten r.0) (here r.0 r.1) (given r.0 r.1) (same r.0 r.1)
-      ∙ ap (λ b. (rows r.0 && given r.0 r.1) && b) (sym (ap (clean forgotten) (from_unvalued row r e)))
-
-  -- a test of what is clean and a value makes the clean rows
-  pub valued_clean : (row : Row) → valued (λ left v. cleaned rows forgotten left && here left v) row ≡ cleaned (valued (λ left v. rows left && given left v)) forgotten row
-  unfolding valued
-  valued_clean row = split_clean row (unvalued row) refl
-
 module _ (p : Program) (look : Look) (s : Snapshot) (rows : Row → Bool) (forgotten : Named → Bool) (known : HasAllOf look s forgotten) (named : NameHeld s rows) (tags : HaveDistinctTags s.facts) where
   given_alike : (a : Accumulate) (q : Pattern) → q ≡ a.pattern → (left : Row) (v : ℤ) → cleaned rows forgotten left ≡ true
       → is_result (tested a (bound_in look left) (result_of a (partners p q s left))) v ≡ gives p a s left v

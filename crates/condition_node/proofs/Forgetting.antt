@@ -1,18 +1,23 @@
 -- A node that has dropped what is old stands for the same with more facts forgotten, and what it dropped names an old fact.
-use Rattle.condition_node.proofs.Common.{◌≡◌, ◌∙◌, sym, ap, refl, subst, cond, ℤ, ◌≤ℤ◌, Bool, true, false, not, ◌&&◌, ◌||◌, List, [], ◌∷◌, length, ◌==◌, None, arith, fun_ext, list_any, Held, Named, Row, has, InOrder, Accumulate, Pattern, Program, Snapshot, floor, both_of, Look, joins, Memories, has_name, has_left, has_right, made, Keeps, clean, cleaned, either, StandsFor, without_value, shows_value, BetaJoin, counts_blockers, counts_witnesses, where_witnessed, gathers, result_for, StandsCounted, itself, shows_any, shown, Witnesses, TallyNode, NotNode, IsInStep, not_rows, NoneDue, line, held, candidates_of, FoldNode, Node, condition_of, Counts, NodeStands, Decides-eqb, left_at, drop_law, itself_facts, without_value_facts, dropped_none_due}
+use Rattle.condition_node.proofs.Common.{◌≡◌, ◌∙◌, sym, ap, refl, subst, cond, ℤ, ◌≤ℤ◌, Bool, true, false, not, ◌&&◌, ◌||◌, List, [], ◌∷◌, length, ◌==◌, None}
+use Rattle.condition_node.proofs.Common.{arith, fun_ext, list_any, Held, Named, Row, has, InOrder, Accumulate, Pattern, Program, Snapshot, floor, Look, joins}
+use Rattle.condition_node.proofs.Common.{Memories, has_name, has_left, has_right, made, KeepsMemories, left_at, clean, cleaned, either, StandsFor}
+use Rattle.condition_node.proofs.Common.{without_value, shows_value, BetaJoin, counts_blockers, counts_witnesses, where_witnessed, gathers, result_for}
+use Rattle.condition_node.proofs.Common.{StandsCounted, itself, shows_any, shown, Witnesses, TallyNode, NotNode, IsInStep, not_rows, NoneDue, line, held}
+use Rattle.condition_node.proofs.Common.{candidates_of, FoldNode, Node, condition_of, CountsPartners, NodeStands, Decides-eqb, drop_law, itself_facts}
+use Rattle.condition_node.proofs.Common.{without_value_facts, dropped_none_due, and_parts, held_known, joining_alike}
+use Rattle.tally_node.proofs.Lawful.{forget_law as tally_forgets}
 use Rattle.std.specs.List.Sorted.{IsStrictlySortedBy}
 use Rattle.beta_join.proofs.Lawful.{forget_law as join_forgets}
-use Rattle.tally_node.proofs.Lawful.{forget_law as tally_forgets}
 use Rattle.not_node.proofs.Lawful.{drop_law as not_drops}
-use Rattle.condition_node.specs.declared.node.Node.TheVariants as node
 use Rattle.condition_node.specs.Forgetting.{ForgetsIn}
 use Rattle.condition_node.proofs.Folding.{fold_shown}
-use Rattle.condition_node.proofs.Knowing.{held_known, joining_alike}
 use Rattle.condition_node.proofs.Shown.{join_shown, exists_shown, not_shown}
+use Rattle.condition_node.specs.declared.node.Node.TheVariants as node
 
 -- what goes of the rows of a node was one of them
 went : (a b gone : Bool) → gone ≡ (a && not b) → gone ≡ true → a ≡ true
-went a b gone e f = (both_of a (not b) (sym e ∙ f)).0
+went a b gone e f = (and_parts a (not b) (sym e ∙ f)).0
 
 module _ (p : Program) (look : Look) (old : Named → Bool) (dropped gone : List Row) where
   -- for each snapshot and rows for which the node stands, where these rows are those that name an old fact
@@ -28,7 +33,7 @@ module _ (p : Program) (look : Look) (old : Named → Bool) (dropped gone : List
 
   -- the memories without the rows that are dropped and without the old candidates
   abbrev Lessened : {T : Type 0} → Memories T → Memories T → Type 0
-  Lessened m n = Keeps m n look (λ row. has_left m look row && not (has dropped row)) (λ who. has_right m look who && not (old who))
+  Lessened m n = KeepsMemories m n look (λ row. has_left m look row && not (has dropped row)) (λ who. has_right m look who && not (old who))
 
   -- what went is what the one shows and the other does not
   abbrev Went : (Row → Bool) → (Row → Bool) → Type 0
@@ -56,7 +61,7 @@ module _ (p : Program) (look : Look) (old : Named → Bool) (dropped gone : List
   LeftAlone m n = (row : Row) → left_at n look row ≡ cond (has dropped row) None (left_at m look row)
 
   counts_on : {T : Type 0} (holds : T → Look → (Named → Bool) → Type 0) (m n : Memories T) → Lessened m n → LeftAlone m n → (s : Snapshot) (left : Row → Bool) (forgotten : Named → Bool)
-      → ((row : Row) → cleaned left forgotten row ≡ true → has dropped row ≡ not (clean old row)) → Counts holds p m look s left forgotten → Counts holds p n look s left (either forgotten old)
+      → ((row : Row) → cleaned left forgotten row ≡ true → has dropped row ≡ not (clean old row)) → CountsPartners holds p m look s left forgotten → CountsPartners holds p n look s left (either forgotten old)
   counts_on {T} holds m n kept alone s left forgotten rows counts =
       subst (λ (q : Pattern). StandsCounted holds n look (held s) (joins q (held s)) left (candidates_of p q s) (either forgotten old)) (sym kept.pattern)
       (tally_forgets T holds m n look (held s) (joins m.pattern (held s)) left (candidates_of p m.pattern s) forgotten old dropped counts rows kept alone)
@@ -103,7 +108,7 @@ module _ (p : Program) (look : Look) (old : Named → Bool) (dropped gone : List
         let u = n.tally.memories in
         subst (λ (b : Node). Forgets b (node.Fold n)) (sym same) (record {
           stands = λ s left forgotten is. record {
-            counts = subst (λ (a : Accumulate). Counts (gathers a) p u look s left (either forgotten old)) (sym still)
+            counts = subst (λ (a : Accumulate). CountsPartners (gathers a) p u look s left (either forgotten old)) (sym still)
                 (counts_on (gathers m.accumulate) t u kept alone s left forgotten is.rows is.stands.counts);
             pattern = kept.pattern ∙ is.stands.pattern ∙ ap (λ (a : Accumulate). a.pattern) (sym still);
           };

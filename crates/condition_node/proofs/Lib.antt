@@ -12,3 +12,4 @@ pub mod Forgetting
 pub mod Beyond
 pub mod Loading
 pub mod Resuming
+pub mod Lines

@@ -1,9 +1,15 @@
 -- What the node of each kind stands for after a load.
-use Rattle.condition_node.proofs.Common.{◌≡◌, ◌∙◌, sym, ap, refl, subst, ℤ, ◌≤ℤ◌, List, [], ◌∷◌, map, Bool, true, false, not, ◌&&◌, ◌||◌, fun_ext, ≤ℤ_refl, list_any, eq_by_cmp, Delta, Extra, Named, Row, name_cmp, has, row_cmp, Accumulate, Condition, Negated, Existing, Folded, Pattern, Program, pattern_of, Snapshot, floor, Look, joins, Memories, IsStepped, row_naming, has_name, has_left, has_right, Keeps, row_decides, name_decides, cleaned, no_rows, no_names, StandsFor, BetaJoin, Witnesses, TallyNode, counts_blockers, counts_witnesses, extra_for, blockers_laden, witnesses_laden, gathered_laden, gathers, NotNode, IsInStep, later, none_due, empty_snapshot, held, candidates_of, FoldNode, Node, CountsLaden, condition_of, NodeStands, same_from_decides, AllLaden, StandsLaden, load_law, IsLoad, Laden}
-use Rattle.condition_node.specs.declared.node.Node.TheVariants as node
-use Rattle.condition_node.proofs.Knowing.{held_known, joining_alike, candidate_alike}
+use Rattle.condition_node.proofs.Common.{◌≡◌, ◌∙◌, sym, ap, refl, subst, ℤ, ◌≤ℤ◌, List, [], ◌∷◌, map, Bool, true, false, not, ◌&&◌, ◌||◌, fun_ext, ≤ℤ_refl}
+use Rattle.condition_node.proofs.Common.{list_any, eq_by_cmp, Delta, Extra, Named, Row, name_cmp, has, row_cmp, Accumulate, Condition, Negated, Existing}
+use Rattle.condition_node.proofs.Common.{Folded, Pattern, Program, pattern_of, Snapshot, floor, Look, joins, Memories, IsStepped, row_naming, has_name}
+use Rattle.condition_node.proofs.Common.{has_left, has_right, KeepsMemories, row_decides, name_decides, cleaned, no_rows, no_names, StandsFor, BetaJoin}
+use Rattle.condition_node.proofs.Common.{Witnesses, TallyNode, counts_blockers, counts_witnesses, extra_for, blockers_laden, witnesses_laden, gathered_laden}
+use Rattle.condition_node.proofs.Common.{AllLaden, gathers, NotNode, IsInStep, later, none_due, empty_snapshot, held, candidates_of, FoldNode, Node}
+use Rattle.condition_node.proofs.Common.{CountsLaden, IsLoad, Laden, condition_of, NodeStands, same_from_decides, StandsLaden, load_law, held_known}
+use Rattle.condition_node.proofs.Common.{joining_alike, candidate_alike, ≤ℤ_trans}
 use Rattle.condition_node.proofs.Moved.{no_candidates}
-use Rattle.condition_node.proofs.Turning.{later_is, not_above}
+use Rattle.condition_node.proofs.Turning.{later_is}
+use Rattle.condition_node.specs.declared.node.Node.TheVariants as node
 
 -- from a node that keeps nothing a load leads to the other, whatever is loaded so
 abbrev pub LoadsTo : Program → (Snapshot → Type 0) → Look → List Row → List Named → List Extra → Node → Node → Type 0
@@ -45,7 +51,7 @@ has_naming (n ∷ names) who = ap (λ b. b || has (map row_naming names) (row_na
 
 module _ (p : Program) (At : Snapshot → Type 0) (look : Look) (left : List Row) (right : List Named) (extras : List Extra) where
   counts_loaded : {T : Type 0} (holds : T → Look → (Named → Bool) → Type 0) (laden : T → Look → (Named → Bool) → Extra → Type 0) (m n : Memories T) (c : Condition) → m.pattern ≡ pattern_of c
-      → Keeps m n look (λ row. has_left m look row || has left row) (λ who. has_right m look who || has_name right who) → AllLaden holds laden look extras (has left) m n
+      → KeepsMemories m n look (λ row. has_left m look row || has left row) (λ who. has_right m look who || has_name right who) → AllLaden holds laden look extras (has left) m n
       → (world : Look) (s : Snapshot) (rows : Row → Bool) → StandsFor m look no_rows (candidates_of p m.pattern empty_snapshot) no_names → IsLoad p c look world s rows left right extras
       → CountsLaden holds laden p n look world s rows (extra_for extras)
   counts_loaded holds laden m n c meant keeps loaded world s rows stands load =
@@ -70,12 +76,12 @@ module _ (p : Program) (At : Snapshot → Type 0) (look : Look) (left : List Row
         agrees = stepped.agrees nothing.agrees;
       })
 
-  pub exists_loads : (m n : TallyNode Witnesses) → Keeps m.memories n.memories look (λ row. has_left m.memories look row || has left row) (λ who. has_right m.memories look who || has_name right who)
+  pub exists_loads : (m n : TallyNode Witnesses) → KeepsMemories m.memories n.memories look (λ row. has_left m.memories look row || has left row) (λ who. has_right m.memories look who || has_name right who)
       → AllLaden counts_witnesses witnesses_laden look extras (has left) m.memories n.memories → LoadsTo p At look left right extras (node.Exists m) (node.Exists n)
   exists_loads m n keeps loaded world s rows counts at load =
       counts_loaded counts_witnesses witnesses_laden m.memories n.memories (Existing m.memories.pattern) refl keeps loaded world s rows counts.stands load
 
-  pub not_loads : (m n : NotNode) → Keeps m.tally.memories n.tally.memories look (λ row. has_left m.tally.memories look row || has left row) (λ who. has_right m.tally.memories look who || has_name right who)
+  pub not_loads : (m n : NotNode) → KeepsMemories m.tally.memories n.tally.memories look (λ row. has_left m.tally.memories look row || has left row) (λ who. has_right m.tally.memories look who || has_name right who)
       → AllLaden counts_blockers blockers_laden look extras (has left) m.tally.memories n.tally.memories
       → (told : ℤ) → ((s : Snapshot) → At s → told ≡ floor p s m.tally.memories.pattern.entry.0) → n.ripening.floor ≡ later m.ripening.floor told → (IsInStep p look m → IsInStep p look n)
       → LoadsTo p At look left right extras (node.Not m) (node.Not n)
@@ -83,7 +89,7 @@ module _ (p : Program) (At : Snapshot → Type 0) (look : Look) (left : List Row
       let entry = m.tally.memories.pattern.entry.0 in
       let floor_is : n.ripening.floor ≡ floor p s n.tally.memories.pattern.entry.0 =
       risen ∙ ap (later m.ripening.floor) (told_is s at)
-      ∙ later_is m.ripening.floor (floor p s entry) (not_above m.ripening.floor (floor p empty_snapshot entry) (floor p s entry) waits.floor (load.floors entry))
+      ∙ later_is m.ripening.floor (floor p s entry) (≤ℤ_trans m.ripening.floor (floor p empty_snapshot entry) (floor p s entry) waits.floor (load.floors entry))
       ∙ ap (λ (q : Pattern). floor p s q.entry.0) (sym keeps.pattern) in
       let now = floor p s n.tally.memories.pattern.entry.0 in
       record {
@@ -93,7 +99,7 @@ module _ (p : Program) (At : Snapshot → Type 0) (look : Look) (left : List Row
         floor = subst (λ (z : ℤ). z ≤ℤ now) (sym floor_is) (≤ℤ_refl now);
       }
 
-  pub fold_loads : (m n : FoldNode) → n.accumulate ≡ m.accumulate → Keeps m.tally.memories n.tally.memories look (λ row. has_left m.tally.memories look row || has left row) (λ who. has_right m.tally.memories look who || has_name right who)
+  pub fold_loads : (m n : FoldNode) → n.accumulate ≡ m.accumulate → KeepsMemories m.tally.memories n.tally.memories look (λ row. has_left m.tally.memories look row || has left row) (λ who. has_right m.tally.memories look who || has_name right who)
       → AllLaden (gathers m.accumulate) (gathered_laden m.accumulate) look extras (has left) m.tally.memories n.tally.memories → LoadsTo p At look left right extras (node.Fold m) (node.Fold n)
   fold_loads m n same keeps loaded world s rows folds at load = record {
     counts =

@@ -1,11 +1,12 @@
 -- What a new node stands for, and what a node stands for by another store.
-use Rattle.condition_node.proofs.Common.{◌≡◌, ◌∙◌, ap, refl, subst, Bool, fun_ext, is_some, Named, Row, Pattern, Program, Snapshot, Look, joins, Memories, no_rows, no_names, StandsFor, LooksAlike, counts_blockers, counts_witnesses, gathers, StandsCounted, empty_snapshot, HasAllOf, NameHeld, Node, Counts, NodeStands, start_law}
-use Rattle.pair_memory.proofs.Moving.{move_law as memories_move}
+use Rattle.condition_node.proofs.Common.{◌≡◌, ◌∙◌, ap, refl, subst, Bool, fun_ext, is_some, Named, Row, Pattern, Program, Snapshot, Look, joins, Memories}
+use Rattle.condition_node.proofs.Common.{no_rows, no_names, StandsFor, LooksAlike, counts_blockers, counts_witnesses, gathers, StandsCounted, empty_snapshot}
+use Rattle.condition_node.proofs.Common.{HasAllOf, NameHeld, Node, CountsPartners, NodeStands, start_law, looks_alike}
 use Rattle.tally_node.proofs.Lawful.{move_law as tallies_move}
+use Rattle.pair_memory.proofs.Moving.{move_law as memories_move}
 use Rattle.not_node.proofs.Lawful.{move_law as not_moves}
 use Rattle.condition_rows.specs.Sets.{held, candidates_of}
 use Rattle.condition_node.specs.declared.node.Node.TheVariants as node
-use Rattle.condition_node.proofs.Knowing.{looks_alike}
 
 -- ---- a new node
 pub no_candidates : (p : Program) (q : Pattern) (who : Named) → no_names who ≡ candidates_of p q empty_snapshot who
@@ -15,7 +16,7 @@ no_candidates p q who = refl
 pub stands_empty : {T : Type 0} (p : Program) (m : Memories T) (look : Look) (forgotten : Named → Bool) → StandsFor m look no_rows no_names forgotten → StandsFor m look no_rows (candidates_of p m.pattern empty_snapshot) forgotten
 stands_empty p m look forgotten stands = subst (λ (names : Named → Bool). StandsFor m look no_rows names forgotten) (fun_ext (no_candidates p m.pattern)) stands
 
-pub counts_empty : {T : Type 0} (holds : T → Look → (Named → Bool) → Type 0) (p : Program) (m : Memories T) (look : Look) (forgotten : Named → Bool) → StandsFor m look no_rows no_names forgotten → Counts holds p m look empty_snapshot no_rows forgotten
+pub counts_empty : {T : Type 0} (holds : T → Look → (Named → Bool) → Type 0) (p : Program) (m : Memories T) (look : Look) (forgotten : Named → Bool) → StandsFor m look no_rows no_names forgotten → CountsPartners holds p m look empty_snapshot no_rows forgotten
 counts_empty {T} holds p m look forgotten stands =
     subst (λ (names : Named → Bool). StandsCounted holds m look (held empty_snapshot) (joins m.pattern (held empty_snapshot)) no_rows names forgotten) (fun_ext (no_candidates p m.pattern))
     (start_law T holds m look (held empty_snapshot) (joins m.pattern (held empty_snapshot)) forgotten stands)
@@ -30,7 +31,7 @@ module _ (p : Program) (look other : Look) (s : Snapshot) (rows : Row → Bool) 
   kept_alike : {T : Type 0} (m : Memories T) → StandsFor m look rows (candidates_of p m.pattern s) forgotten → LooksAlike m look other
   kept_alike m stands = looks_alike look other s forgotten known known_other p m.pattern rows named m stands
 
-  counts_move : {T : Type 0} (holds : T → Look → (Named → Bool) → Type 0) (m : Memories T) → Counts holds p m look s rows forgotten → Counts holds p m other s rows forgotten
+  counts_move : {T : Type 0} (holds : T → Look → (Named → Bool) → Type 0) (m : Memories T) → CountsPartners holds p m look s rows forgotten → CountsPartners holds p m other s rows forgotten
   counts_move {T} holds m counts =
       tallies_move T holds m look other (held s) (joins m.pattern (held s)) rows (candidates_of p m.pattern s) forgotten counts (kept_alike m counts.stands)
 

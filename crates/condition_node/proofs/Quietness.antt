@@ -1,22 +1,17 @@
 -- How long the nodes of each kind are quiet.
-use Rattle.condition_node.proofs.Common.{◌≡◌, ℕ, ℤ, pos, ◌+ℤ◌, ◌-ℤ◌, ◌≤ℤ◌, ◌<ℤ◌, ◌^◌, int_lt, arith, true, false, Option, Some, None, IfSome, ints, Row, Program, Snapshot, lateness_of, BetaJoin, Witnesses, TallyNode, NotNode, waits, FoldNode, at_clock, IsBefore, IsQuiet, IsDue, clamps, clock_below_floor, floor_on}
+use Rattle.condition_node.proofs.Common.{◌≡◌, ℕ, ℤ, pos, ◌+ℤ◌, ◌-ℤ◌, ◌≤ℤ◌, ◌<ℤ◌, ◌^◌, int_lt, arith, true, false, Option, Some, None, IfSome, ints, clamps, Row}
+use Rattle.condition_node.proofs.Common.{Program, Snapshot, lateness_of, BetaJoin, Witnesses, TallyNode, NotNode, waits, FoldNode, at_clock, IsBefore, IsQuiet}
+use Rattle.condition_node.proofs.Common.{IsDue, clock_below_floor, floor_on, ≤ℤ_refl, int_lt-le, ≤ℤ_trans}
 use Rattle.rule_model.specs.Snapshots.{floor}
-use Rattle.condition_node.specs.declared.node.Node.TheVariants as node
 use Rattle.condition_node.proofs.Staying.{join_stays, exists_stays, fold_stays, not_stays, not_ripens}
-use Rattle.condition_node.proofs.Turning.{not_above}
-
-itself : (a : ℤ) → a ≤ℤ a
-itself a = omega (arith, ints)
-
-not_below : (at least x : ℤ) → int_lt at least ≡ false → x ≤ℤ least → int_lt at x ≡ false
-not_below at least x e h = grind (arith, ints)
+use Rattle.condition_node.specs.declared.node.Node.TheVariants as node
 
 least_low : (least c l : ℤ) → int_lt least (c -ℤ l) ≡ false → pos 0 ≤ℤ c → pos 0 ≤ℤ (least +ℤ l)
 least_low least c l e h = grind (arith, ints)
 
 -- the floor at a later clock is not before
 floor_later : (p : Program) (s : Snapshot) (clock : ℤ) (entry : ℕ) → s.clock ≤ℤ clock → floor p s entry ≤ℤ floor p (at_clock s clock) entry
-floor_later p s clock entry h = floor_on p s (at_clock s clock) entry h (itself (s.reached.last_start entry)) (itself (s.reached.promise entry))
+floor_later p s clock entry h = floor_on p s (at_clock s clock) entry h (≤ℤ_refl (s.reached.last_start entry)) (≤ℤ_refl (s.reached.promise entry))
 
 -- and not beyond what neither it was before nor the clock less the lateness is
 floor_within : (p : Program) (s : Snapshot) (clock least : ℤ) (entry : ℕ) → int_lt least (floor p s entry) ≡ false → (clock -ℤ lateness_of p entry) ≤ℤ least → floor p (at_clock s clock) entry ≤ℤ least
@@ -44,7 +39,7 @@ module _ (p : Program) (waiting : NotNode) where
   none_due none look s rows forgotten clock tags known named stands begun later low before same =
       let entry = waiting.tally.memories.pattern.entry.0 in
       not_stays p look s rows forgotten clock tags known named waiting same stands
-      (not_above waiting.ripening.floor (floor p s entry) (floor p (at_clock s clock) entry) stands.floor (floor_later p s clock entry later)) (λ at row e. absurd (none at row e))
+      (≤ℤ_trans waiting.ripening.floor (floor p s entry) (floor p (at_clock s clock) entry) stands.floor (floor_later p s clock entry later)) (λ at row e. absurd (none at row e))
 
   pub due_at : (until : Option ℤ) (least : ℤ) (first : Row) → waits waiting.ripening.waiting.keys least first ≡ true → ((at : ℤ) (row : Row) → waits waiting.ripening.waiting.keys at row ≡ true → int_lt at least ≡ false)
       → ((clock : ℤ) → pos 0 ≤ℤ (least +ℤ lateness_of p waiting.tally.memories.pattern.entry.0) → clock <ℤ pos (2 ^ 63) → IsBefore until clock → (clock -ℤ lateness_of p waiting.tally.memories.pattern.entry.0) ≤ℤ least)
@@ -54,8 +49,8 @@ module _ (p : Program) (waiting : NotNode) where
       let due = stands.none_due least first there in
       let reached = reaches clock (least_low least s.clock (lateness_of p entry) (not_late p s least entry due) begun) low before in
       not_stays p look s rows forgotten clock tags known named waiting same stands
-      (not_above waiting.ripening.floor (floor p s entry) (floor p (at_clock s clock) entry) stands.floor (floor_later p s clock entry later))
-      (λ at row e. not_below at least (floor p (at_clock s clock) entry) (over at row e) (floor_within p s clock least entry due reached))
+      (≤ℤ_trans waiting.ripening.floor (floor p s entry) (floor p (at_clock s clock) entry) stands.floor (floor_later p s clock entry later))
+      (λ at row e. int_lt-le at least (floor p (at_clock s clock) entry) (over at row e) (floor_within p s clock least entry due reached))
 
   -- from the least moment on a row that waits for it is there
   pub comes_then : (moment least : ℤ) (first : Row) → waits waiting.ripening.waiting.keys least first ≡ true → moment ≡ (least +ℤ lateness_of p waiting.tally.memories.pattern.entry.0) +ℤ pos 1

@@ -1,14 +1,18 @@
 -- A node that is loaded with what is kept stands for all of it.
-use Rattle.condition_node.proofs.Common.{◌≡◌, ◌∙◌, sym, refl, subst, ℤ, ◌≤ℤ◌, List, map, Bool, Option, Extra, Named, Row, Fact, Condition, Negated, Existing, Folded, Pattern, Program, Holds, pattern_of, Snapshot, floor, name_of, Look, joins, Memories, remembered, counts_blockers, counts_witnesses, blockers_laden, witnesses_laden, gathered_laden, nothing_gathered, arguments_gathered, gathers, NoneDue, held, candidates_of, CountsLaden, IsAside, values_gathered, Counts, LadenLaw, resume_law, blockers_made_up, witnesses_made_up, gathered_made_up, IsResumed, ResumesLaw}
-use Rattle.condition_node.specs.declared.node.Node.TheVariants as node
+use Rattle.condition_node.proofs.Common.{◌≡◌, ◌∙◌, sym, refl, subst, ℤ, ◌≤ℤ◌, List, map, Bool, Option, Extra, Named, Row, Fact, Condition, Negated, Existing}
+use Rattle.condition_node.proofs.Common.{Folded, Pattern, Program, Holds, pattern_of, Snapshot, floor, name_of, Look, joins, Memories, remembered}
+use Rattle.condition_node.proofs.Common.{counts_blockers, counts_witnesses, blockers_laden, witnesses_laden, gathered_laden, nothing_gathered}
+use Rattle.condition_node.proofs.Common.{arguments_gathered, gathers, NoneDue, held, candidates_of, CountsLaden, IsAside, IsResumed, ResumesLaw}
+use Rattle.condition_node.proofs.Common.{values_gathered, CountsPartners, LadenLaw, resume_law, blockers_made_up, witnesses_made_up, gathered_made_up}
+use Rattle.condition_node.proofs.Common.{held_known, joining_alike}
 use Rattle.condition_node.proofs.Beyond.{tells_passing, nothing_told, arguments_told}
-use Rattle.condition_node.proofs.Knowing.{held_known, joining_alike}
 use Rattle.condition_node.proofs.Loading.{all_clean, all_remembered}
+use Rattle.condition_node.specs.declared.node.Node.TheVariants as node
 
 counts_resumed : {T : Type 0} (holds : T → Look → (Named → Bool) → Type 0) (laden : T → Look → (Named → Bool) → Extra → Type 0) (gathered : Look → List Named → List ℤ) → LadenLaw T holds laden gathered
     → (p : Program) (c : Condition) (m : Memories T) (look : Look) (s t : Snapshot) (before kept : Row → Bool) (forgotten : Named → Bool) (extra : Row → Option Extra)
     → m.pattern ≡ pattern_of c → IsAside c → ((facts : List Fact) → Holds (held s) facts → gathered (held s) (map name_of facts) ≡ values_gathered c facts)
-    → IsResumed p c s t before kept forgotten extra → CountsLaden holds laden p m look (held s) t kept extra → Counts holds p m look s before forgotten
+    → IsResumed p c s t before kept forgotten extra → CountsLaden holds laden p m look (held s) t kept extra → CountsPartners holds p m look s before forgotten
 counts_resumed holds laden gathered made_up p c m look s t before kept forgotten extra meant aside told_values is was =
     let q = m.pattern in
     let candidates : (who : Named) → candidates_of p q t who ≡ remembered (candidates_of p q s) forgotten who =

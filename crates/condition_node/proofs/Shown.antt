@@ -1,21 +1,16 @@
 -- The rows of a node are what the line of its condition makes of the rows before it, without those that name a forgotten fact.
-use Rattle.condition_node.proofs.Common.{◌≡◌, ◌∙◌, sym, ap, refl, subst, ℤ, int_lt, Bool, true, false, not, ◌&&◌, fun_ext, list_any, Named, Row, Plain, Negated, Existing, Pattern, Program, HaveDistinctTags, bound_in, Snapshot, floor, Look, joins, Memories, has_name, made, clean, cleaned, StandsFor, Witnesses, counts_blockers, counts_witnesses, where_witnessed, StandsCounted, itself, shows_any, shown, NotNode, IsInStep, not_rows, waits, line, HasAllOf, NameHeld, held, candidates_of, candidates_named, Counts, WaitsFor, witnesses_shown, mature, quiet_law, waits_own, candidate_names}
-use Rattle.std.proofs.Math.Bool.{and-true, and-false, and_assoc}
+use Rattle.condition_node.proofs.Common.{◌≡◌, ◌∙◌, sym, ap, refl, subst, ℤ, int_lt, Bool, true, false, not, ◌&&◌, fun_ext, list_any, Named, Row, Plain, Negated}
+use Rattle.condition_node.proofs.Common.{Existing, Pattern, Program, HaveDistinctTags, bound_in, Snapshot, floor, Look, joins, Memories, has_name, made, clean}
+use Rattle.condition_node.proofs.Common.{cleaned, StandsFor, Witnesses, counts_blockers, counts_witnesses, where_witnessed, StandsCounted, itself, shows_any}
+use Rattle.condition_node.proofs.Common.{shown, NotNode, IsInStep, not_rows, waits, mature, line, HasAllOf, NameHeld, held, candidates_of, candidate_names}
+use Rattle.condition_node.proofs.Common.{candidates_named, CountsPartners, WaitsFor, witnesses_shown, quiet_law, waits_own, moment_at, not_law, row_mature}
+use Rattle.condition_node.proofs.Common.{moment_alike, held_known, row_alike, joining_alike, asked_first}
+use Rattle.condition_rows.specs.Lines.{is_ripe}
+use Rattle.condition_rows.specs.Sets.{has_partner}
+use Rattle.std.proofs.Math.Bool.{and_assoc}
 use Rattle.rule_model.specs.Maturity.{is_mature}
 use Rattle.pair_memory.proofs.Worlds.{made_clean}
 use Rattle.not_node.specs.Laws.{with_floor}
-use Rattle.not_node.specs.Moments.{moment_at}
-use Rattle.not_node.proofs.Lawful.{not_law}
-use Rattle.not_node.proofs.Maturing.{row_mature, moment_alike}
-use Rattle.condition_rows.specs.Lines.{is_ripe}
-use Rattle.condition_rows.specs.Sets.{has_partner}
-use Rattle.condition_node.proofs.Knowing.{held_known, row_alike, joining_alike}
-
--- what is asked of the clean rows is asked of the rows, and then which are clean
-pub asked_first : (a k r g : Bool) → ((a && k) ≡ true → r ≡ g) → ((a && k) && r) ≡ ((a && g) && k)
-asked_first true true r g h = h refl ∙ sym (and-true g)
-asked_first true false r g h = sym (and-false g)
-asked_first false k r g h = refl
 
 module _ (p : Program) (look : Look) (s : Snapshot) (rows : Row → Bool) (forgotten : Named → Bool) (known : HasAllOf look s forgotten) (named : NameHeld s rows) where
   pub join_shown : {T : Type 0} (m : Memories T) → StandsFor m look rows (candidates_of p m.pattern s) forgotten → (row : Row) → made m look row ≡ cleaned (line p s (Plain m.pattern) rows) forgotten row
@@ -25,12 +20,12 @@ module _ (p : Program) (look : Look) (s : Snapshot) (rows : Row → Bool) (forgo
 
   module _ (tags : HaveDistinctTags s.facts) where
     -- the candidates are those of the list of their names
-    listed : {T : Type 0} (holds : T → Look → (Named → Bool) → Type 0) (m : Memories T) → Counts holds p m look s rows forgotten
+    listed : {T : Type 0} (holds : T → Look → (Named → Bool) → Type 0) (m : Memories T) → CountsPartners holds p m look s rows forgotten
         → StandsCounted holds m look (held s) (joins m.pattern (held s)) rows (has_name (candidate_names p m.pattern s)) forgotten
     listed holds m counts =
         subst (λ (names : Named → Bool). StandsCounted holds m look (held s) (joins m.pattern (held s)) rows names forgotten) (fun_ext (λ who. sym (candidates_named p s tags m.pattern who))) counts
 
-    pub exists_shown : (m : Memories Witnesses) → Counts counts_witnesses p m look s rows forgotten
+    pub exists_shown : (m : Memories Witnesses) → CountsPartners counts_witnesses p m look s rows forgotten
         → (row : Row) → shown itself shows_any where_witnessed m look row ≡ cleaned (line p s (Existing m.pattern) rows) forgotten row
     unfolding has_partner
     exists_shown m counts row =
@@ -48,7 +43,7 @@ module _ (p : Program) (look : Look) (s : Snapshot) (rows : Row → Bool) (forgo
         ∙ row_mature p q (held s) row now
         ∙ ap (is_mature p q (bound_in (held s) row)) is
 
-    pub not_shown_at : (waiting : NotNode) → Counts counts_blockers p waiting.tally.memories look s rows forgotten → waiting.ripening.floor ≡ floor p s waiting.tally.memories.pattern.entry.0
+    pub not_shown_at : (waiting : NotNode) → CountsPartners counts_blockers p waiting.tally.memories look s rows forgotten → waiting.ripening.floor ≡ floor p s waiting.tally.memories.pattern.entry.0
         → (row : Row) → not_rows p look waiting row ≡ cleaned (line p s (Negated waiting.tally.memories.pattern) rows) forgotten row
     unfolding has_partner
     not_shown_at waiting counts told row =
@@ -75,7 +70,7 @@ module _ (p : Program) (look : Look) (s : Snapshot) (rows : Row → Bool) (forgo
         sym (not_shown waiting stands row) ∙ ap (λ b. b && mature waiting.ripening.floor (moment_at p waiting.tally.memories.pattern look row)) is.0 ∙ ap (mature waiting.ripening.floor) is.1 ∙ is.2
 
     -- and is there once the floor is beyond it
-    pub not_ripe : (waiting : NotNode) → IsInStep p look waiting → Counts counts_blockers p waiting.tally.memories look s rows forgotten → (at : ℤ) (row : Row) → waits waiting.ripening.waiting.keys at row ≡ true
+    pub not_ripe : (waiting : NotNode) → IsInStep p look waiting → CountsPartners counts_blockers p waiting.tally.memories look s rows forgotten → (at : ℤ) (row : Row) → waits waiting.ripening.waiting.keys at row ≡ true
         → int_lt at (floor p s waiting.tally.memories.pattern.entry.0) ≡ true → cleaned (line p s (Negated waiting.tally.memories.pattern) rows) forgotten row ≡ true
     not_ripe waiting in_step counts at row there due =
         let now = floor p s waiting.tally.memories.pattern.entry.0 in

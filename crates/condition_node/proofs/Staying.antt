@@ -1,9 +1,13 @@
 -- Where the clock alone changes neither the candidates nor what is mature, the line of a condition stays as it is.
-use Rattle.condition_node.proofs.Common.{◌≡◌, ◌∙◌, sym, ap, refl, subst, ℤ, ◌≤ℤ◌, int_lt, Bool, true, false, fun_ext, is_some, Named, Row, Negated, Pattern, Program, HaveDistinctTags, Snapshot, floor, Look, versions_at, joins, Memories, cleaned, StandsFor, BetaJoin, Witnesses, TallyNode, counts_blockers, counts_witnesses, gathers, StandsCounted, NotNode, NoneDue, waits, line, HasAllOf, NameHeld, candidates_of, FoldNode, Node, condition_of, Counts, WaitsFor, FoldsFor, NodeStands, at_clock}
+use Rattle.condition_node.proofs.Common.{◌≡◌, ◌∙◌, sym, ap, refl, subst, ℤ, ◌≤ℤ◌, int_lt, Bool, true, false, fun_ext, is_some, Named, Row, Negated, Pattern}
+use Rattle.condition_node.proofs.Common.{Program, HaveDistinctTags, Snapshot, floor, Look, versions_at, joins, Memories, cleaned, StandsFor, BetaJoin}
+use Rattle.condition_node.proofs.Common.{Witnesses, TallyNode, counts_blockers, counts_witnesses, gathers, StandsCounted, NotNode, NoneDue, waits, line}
+use Rattle.condition_node.proofs.Common.{HasAllOf, NameHeld, candidates_of, FoldNode, Node, condition_of, CountsPartners, WaitsFor, FoldsFor, NodeStands}
+use Rattle.condition_node.proofs.Common.{at_clock}
 use Rattle.condition_rows.specs.Sets.{held}
-use Rattle.condition_node.specs.declared.node.Node.TheVariants as node
 use Rattle.condition_node.proofs.Folding.{fold_shown}
 use Rattle.condition_node.proofs.Shown.{join_shown, exists_shown, not_shown, not_early, not_ripe}
+use Rattle.condition_node.specs.declared.node.Node.TheVariants as node
 
 -- a snapshot holds the same versions at another clock
 held_alike : (s : Snapshot) (clock : ℤ) → held s ≡ held (at_clock s clock)
@@ -26,7 +30,7 @@ module _ (p : Program) (look : Look) (s : Snapshot) (rows : Row → Bool) (forgo
   stands_on : {T : Type 0} (m : Memories T) → SameCandidates m.pattern → StandsFor m look rows (candidates_of p m.pattern s) forgotten → StandsFor m look rows (candidates_of p m.pattern next) forgotten
   stands_on m same stands = subst (λ (names : Named → Bool). StandsFor m look rows names forgotten) (fun_ext (λ who. sym (same who))) stands
 
-  counts_on : {T : Type 0} (holds : T → Look → (Named → Bool) → Type 0) (m : Memories T) → SameCandidates m.pattern → Counts holds p m look s rows forgotten → Counts holds p m look next rows forgotten
+  counts_on : {T : Type 0} (holds : T → Look → (Named → Bool) → Type 0) (m : Memories T) → SameCandidates m.pattern → CountsPartners holds p m look s rows forgotten → CountsPartners holds p m look next rows forgotten
   counts_on holds m same counts =
       subst (λ (names : Named → Bool). StandsCounted holds m look (held next) (joins m.pattern (held next)) rows names forgotten) (fun_ext (λ who. sym (same who)))
       (subst (λ (h : Look). StandsCounted holds m look h (joins m.pattern h) rows (candidates_of p m.pattern s) forgotten) (held_alike s clock) counts)

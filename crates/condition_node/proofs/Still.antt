@@ -1,13 +1,16 @@
 -- Where nothing changes in the rows before it and in its candidates, the node of a condition stays as it is; that of a `not` as long as no
 -- row is due.
-use Rattle.condition_node.proofs.Common.{◌≡◌, ◌∙◌, sym, ap, refl, subst, ℤ, int_lt, Bool, true, false, not, ◌&&◌, ◌||◌, List, [], ◌∷◌, Delta, Named, Row, has, Program, Negated, Moment, IsAt, Snapshot, floor, Look, Memories, row_naming, IsStepped, has_left, has_right, cleaned, BetaJoin, counts_blockers, counts_witnesses, gathers, Witnesses, TallyNode, NotNode, NoneDue, waits, line, FoldNode, Node, condition_of, Counts, NodeStands, IsTurn, are_none, changes_nothing}
+use Rattle.condition_node.proofs.Common.{◌≡◌, ◌∙◌, sym, ap, refl, subst, ℤ, int_lt, Bool, true, false, not, ◌&&◌, ◌||◌, List, [], ◌∷◌, Delta, Named, Row, has}
+use Rattle.condition_node.proofs.Common.{Program, Negated, Moment, IsAt, Snapshot, floor, Look, Memories, row_naming, IsStepped, has_left, has_right, cleaned}
+use Rattle.condition_node.proofs.Common.{BetaJoin, counts_blockers, counts_witnesses, gathers, Witnesses, TallyNode, NotNode, NoneDue, waits, line, FoldNode}
+use Rattle.condition_node.proofs.Common.{Node, condition_of, CountsPartners, NodeStands, IsConditionTurn, are_none, changes_nothing, ≤ℤ_trans}
 use Rattle.tally_node.proofs.Stepping.{no_step}
-use Rattle.condition_node.specs.declared.node.Node.TheVariants as node
 use Rattle.condition_node.proofs.Folding.{fold_shown}
 use Rattle.condition_node.proofs.Knowing.{blockers_ask}
 use Rattle.condition_node.proofs.Shown.{join_shown, exists_shown, not_shown, not_early, not_ripe}
 use Rattle.condition_node.proofs.Telling.{join_turns, exists_turns, fold_turns}
-use Rattle.condition_node.proofs.Turning.{counts_next, not_above}
+use Rattle.condition_node.proofs.Turning.{counts_next}
+use Rattle.condition_node.specs.declared.node.Node.TheVariants as node
 
 neither : (gone come : List Row) → are_none gone come ≡ true → (row : Row) → (has gone row ≡ false) × (has come row ≡ false)
 neither [] [] e row = (refl, refl)
@@ -30,7 +33,7 @@ module _ (p : Program) (moment : Moment) where
   -- for each step at this moment in which nothing changes before the node
   abbrev WhereNothingChanges : Node → (Look → Snapshot → Snapshot → (Row → Bool) → (Row → Bool) → (Named → Bool) → Type 0) → Type 0
   WhereNothingChanges n claim = (look world : Look) (s next : Snapshot) (rows rows_now : Row → Bool) (forgotten : Named → Bool) (left right : Delta) → changes_nothing left ≡ true → changes_nothing right ≡ true
-      → NodeStands p n look s rows forgotten → IsAt next moment → IsTurn p (condition_of n) look world s next rows rows_now forgotten left right → claim look s next rows rows_now forgotten
+      → NodeStands p n look s rows forgotten → IsAt next moment → IsConditionTurn p (condition_of n) look world s next rows rows_now forgotten left right → claim look s next rows rows_now forgotten
 
   -- the node stays as it is
   abbrev pub Stays : Node → Type 0
@@ -74,7 +77,7 @@ module _ (p : Program) (moment : Moment) where
 
   -- a `not` by this floor, which is that of the moment
   module _ (m : NotNode) (told : ℤ) (told_is : (next : Snapshot) → IsAt next moment → told ≡ floor p next m.tally.memories.pattern.entry.0) where
-    counts_still : WhereNothingChanges (node.Not m) (λ look s next rows rows_now forgotten. Counts counts_blockers p m.tally.memories look next rows_now forgotten)
+    counts_still : WhereNothingChanges (node.Not m) (λ look s next rows rows_now forgotten. CountsPartners counts_blockers p m.tally.memories look next rows_now forgotten)
     counts_still look world s next rows rows_now forgotten left right none none_right stands at turn =
         let t = m.tally.memories in
         counts_next p t t look world s next rows rows_now forgotten left right (Negated t.pattern) turn (kept_still t look left right none none_right) refl counts_blockers blockers_ask turn.stay stands.counts
@@ -87,7 +90,7 @@ module _ (p : Program) (moment : Moment) where
           counts = counts_still look world s next rows rows_now forgotten left right none none_right stands at turn;
           in_step = stands.in_step;
           none_due = subst (NoneDue m.ripening.waiting.keys) (told_is next at) quiet;
-          floor = not_above m.ripening.floor (floor p s entry) (floor p next entry) stands.floor (turn.floors entry);
+          floor = ≤ℤ_trans m.ripening.floor (floor p s entry) (floor p next entry) stands.floor (turn.floors entry);
         }
 
     pub not_tells_nothing : NoneDue m.ripening.waiting.keys told → TellsNothing (node.Not m)

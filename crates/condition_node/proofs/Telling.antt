@@ -1,22 +1,26 @@
 -- A turn of the node of each kind: what it then stands for, and that it tells the difference of its line.
-use Rattle.condition_node.proofs.Common.{◌≡◌, ◌∙◌, sym, ap, refl, subst, ℤ, Bool, Delta, Named, Row, IsDifference, Accumulate, Plain, Negated, Existing, Folded, Pattern, Program, Snapshot, floor, Look, IsStepped, made, cleaned, without_value, shows_value, BetaJoin, counts_blockers, counts_witnesses, where_witnessed, gathers, result_for, itself, shows_any, TallyStep, shown, Witnesses, TallyNode, NotNode, IsInStep, not_rows, later, line, FoldNode, Node, condition_of, Counts, NodeStands, IsTurn}
+use Rattle.condition_node.proofs.Common.{◌≡◌, ◌∙◌, sym, ap, refl, subst, ℤ, Bool, Delta, Named, Row, IsDifference, Accumulate, Plain, Negated, Existing, Folded}
+use Rattle.condition_node.proofs.Common.{Pattern, Program, Snapshot, floor, Look, IsStepped, made, cleaned, without_value, shows_value, BetaJoin}
+use Rattle.condition_node.proofs.Common.{counts_blockers, counts_witnesses, where_witnessed, gathers, result_for, itself, shows_any, TallyStep, shown}
+use Rattle.condition_node.proofs.Common.{Witnesses, TallyNode, NotNode, IsInStep, not_rows, later, line, FoldNode, Node, condition_of, CountsPartners}
+use Rattle.condition_node.proofs.Common.{NodeStands, IsConditionTurn, ≤ℤ_trans}
 use Rattle.row_change.proofs.Alike.{difference_alike}
-use Rattle.condition_node.specs.declared.node.Node.TheVariants as node
 use Rattle.condition_node.proofs.Folding.{fold_shown}
 use Rattle.condition_node.proofs.Knowing.{blockers_ask, witnesses_ask, gathers_ask}
 use Rattle.condition_node.proofs.Shown.{join_shown, exists_shown, not_shown}
-use Rattle.condition_node.proofs.Turning.{stands_next, counts_next, later_is, not_above, waits_on_time}
+use Rattle.condition_node.proofs.Turning.{stands_next, counts_next, later_is, waits_on_time}
+use Rattle.condition_node.specs.declared.node.Node.TheVariants as node
 
 -- from rows and candidates for which the one node stands it turns to the other, for each turn with these differences
 abbrev pub TurnsTo : Program → (Snapshot → Type 0) → Look → Node → Node → Delta → Delta → Type 0
 TurnsTo p At look old new left right = (world : Look) (s next : Snapshot) (rows rows_now : Row → Bool) (forgotten : Named → Bool)
-    → NodeStands p old look s rows forgotten → At next → IsTurn p (condition_of old) look world s next rows rows_now forgotten left right
+    → NodeStands p old look s rows forgotten → At next → IsConditionTurn p (condition_of old) look world s next rows rows_now forgotten left right
     → NodeStands p new look next rows_now forgotten
 
 -- and it tells this difference
 abbrev pub Tells : Program → (Snapshot → Type 0) → Look → Node → Delta → Delta → Delta → Type 0
 Tells p At look old left right delta = (world : Look) (s next : Snapshot) (rows rows_now : Row → Bool) (forgotten : Named → Bool)
-    → NodeStands p old look s rows forgotten → At next → IsTurn p (condition_of old) look world s next rows rows_now forgotten left right
+    → NodeStands p old look s rows forgotten → At next → IsConditionTurn p (condition_of old) look world s next rows rows_now forgotten left right
     → IsDifference (cleaned (line p s (condition_of old) rows) forgotten) (cleaned (line p next (condition_of old) rows_now) forgotten) delta
 
 module _ (p : Program) (At : Snapshot → Type 0) (look : Look) (left right : Delta) where
@@ -53,7 +57,7 @@ module _ (p : Program) (At : Snapshot → Type 0) (look : Look) (left right : De
         (counts_next p m.tally.memories n.tally.memories look world s next rows rows_now forgotten left right (Negated m.tally.memories.pattern) turn stepped refl counts_blockers blockers_ask turn.stay waits.counts step)
         (in_step waits.in_step)
         (risen ∙ ap (later m.ripening.floor) (told_is next at)
-        ∙ later_is m.ripening.floor (floor p next entry) (not_above m.ripening.floor (floor p s entry) (floor p next entry) waits.floor (turn.floors entry))
+        ∙ later_is m.ripening.floor (floor p next entry) (≤ℤ_trans m.ripening.floor (floor p s entry) (floor p next entry) waits.floor (turn.floors entry))
         ∙ ap (λ (q : Pattern). floor p next q.entry.0) (sym stepped.pattern))
 
     pub not_tells : (delta : Delta) → (IsInStep p look m → IsDifference (not_rows p look m) (not_rows p look n) delta) → Tells p At look (node.Not m) left right delta
@@ -68,7 +72,7 @@ module _ (p : Program) (At : Snapshot → Type 0) (look : Look) (left right : De
     pub fold_turns : TurnsTo p At look (node.Fold m) (node.Fold n) left right
     fold_turns world s next rows rows_now forgotten folds at turn =
         record {
-          counts = subst (λ (a : Accumulate). Counts (gathers a) p n.tally.memories look next rows_now forgotten) (sym same)
+          counts = subst (λ (a : Accumulate). CountsPartners (gathers a) p n.tally.memories look next rows_now forgotten) (sym same)
               (counts_next p m.tally.memories n.tally.memories look world s next rows rows_now forgotten left right (Folded m.accumulate) turn stepped folds.pattern (gathers m.accumulate) (gathers_ask m.accumulate) turn.stay folds.counts step);
           pattern = stepped.pattern ∙ folds.pattern ∙ ap (λ (a : Accumulate). a.pattern) (sym same);
         }

@@ -1,11 +1,15 @@
 -- After a turn a node stands for the new rows and candidates.
-use Rattle.condition_node.proofs.Common.{◌≡◌, ◌∙◌, sym, ap, subst, ℤ, ◌≤ℤ◌, Bool, true, false, arith, ints, ≤ℤ_refl, Delta, Named, Row, Condition, Plain, Negated, Existing, Folded, Pattern, Program, Snapshot, floor, pattern_of, Look, joins, Memories, IsStepped, no_names, remembered, StandsFor, counts_blockers, StandsCounted, TallyStep, NotNode, IsInStep, later, none_due, held, candidates_of, Counts, WaitsFor, IsTurn, IsAt, Moment, IsNameDifference, ForgottenStay, tally_law, CountedStay, snapshot_at, same_floor}
+use Rattle.condition_node.proofs.Common.{◌≡◌, ◌∙◌, sym, ap, subst, ℤ, ◌≤ℤ◌, Bool, true, false, arith, ints, ≤ℤ_refl, Delta, Named, Row, Condition, Pattern}
+use Rattle.condition_node.proofs.Common.{Program, Snapshot, floor, pattern_of, Look, joins, Memories, IsStepped, IsNameDifference, no_names, remembered}
+use Rattle.condition_node.proofs.Common.{StandsFor, counts_blockers, StandsCounted, ForgottenStay, TallyStep, NotNode, IsInStep, later, none_due, held}
+use Rattle.condition_node.proofs.Common.{candidates_of, CountsPartners, WaitsFor, IsConditionTurn, IsAt, snapshot_at, Moment, tally_law, same_floor, held_known}
+use Rattle.condition_node.proofs.Common.{known_too, joining_alike}
+use Rattle.condition_node.proofs.Knowing.{seen_alike, AsksOfSet, counted_alike}
 use Rattle.pair_memory.proofs.Steps.{steps_law}
-use Rattle.condition_node.proofs.Knowing.{held_known, known_too, joining_alike, seen_alike, AsksOfSet, counted_alike}
 
 module _ {T : Type 0} (p : Program) (m n : Memories T) (look world : Look) (s next : Snapshot) (rows rows_now : Row → Bool) (forgotten : Named → Bool) (left right : Delta)
     (c : Condition)
-    (turn : IsTurn p c look world s next rows rows_now forgotten left right) (stepped : IsStepped m n look left right) (meant : m.pattern ≡ pattern_of c) where
+    (turn : IsConditionTurn p c look world s next rows rows_now forgotten left right) (stepped : IsStepped m n look left right) (meant : m.pattern ≡ pattern_of c) where
   candidates : IsNameDifference (remembered (candidates_of p m.pattern s) forgotten) (remembered (candidates_of p m.pattern next) forgotten) right
   candidates = subst (λ (q : Pattern). IsNameDifference (remembered (candidates_of p q s) forgotten) (remembered (candidates_of p q next) forgotten) right) (sym meant) turn.candidates
 
@@ -16,7 +20,7 @@ module _ {T : Type 0} (p : Program) (m n : Memories T) (look world : Look) (s ne
 
   pub counts_next : (holds : T → Look → (Named → Bool) → Type 0) → AsksOfSet T holds
       → ForgottenStay (joins (pattern_of c) world) rows rows_now (candidates_of p (pattern_of c) s) (candidates_of p (pattern_of c) next) forgotten left
-      → Counts holds p m look s rows forgotten → TallyStep holds look m n left right → Counts holds p n look next rows_now forgotten
+      → CountsPartners holds p m look s rows forgotten → TallyStep holds look m n left right → CountsPartners holds p n look next rows_now forgotten
   counts_next holds asks stay counts step =
       let q = m.pattern in
       let known_s = known_too world s forgotten turn.known in
@@ -35,24 +39,14 @@ module _ {T : Type 0} (p : Program) (m n : Memories T) (look world : Look) (s ne
 none_stay : (pass : Row → Named → Bool) (rows rows_now : Row → Bool) (names names_now : Named → Bool) (left : Delta) → ForgottenStay pass rows rows_now names names_now no_names left
 none_stay pass rows rows_now names names_now left = record { stays = λ row who e f g. absurd (let n : false ≡ true = g in cc); comes = λ row who e g. absurd (let n : false ≡ true = g in cc) }
 
-pub none_counted : (p : Program) (world : Look) (s next : Snapshot) (rows rows_now : Row → Bool) (left : Delta) (c : Condition) → CountedStay c p world s next rows rows_now no_names left
-none_counted p world s next rows rows_now left (Plain q) = tt
-none_counted p world s next rows rows_now left (Negated q) = none_stay (joins q world) rows rows_now (candidates_of p q s) (candidates_of p q next) left
-none_counted p world s next rows rows_now left (Existing q) = none_stay (joins q world) rows rows_now (candidates_of p q s) (candidates_of p q next) left
-none_counted p world s next rows rows_now left (Folded a) = none_stay (joins a.pattern world) rows rows_now (candidates_of p a.pattern s) (candidates_of p a.pattern next) left
-
 -- ---- the floor
 
 -- of two floors the one that is not less is the later one
 pub later_is : (a b : ℤ) → a ≤ℤ b → later a b ≡ b
 later_is a b h = grind (arith, ints)
 
--- floors one above the other
-pub not_above : (a b c : ℤ) → a ≤ℤ b → b ≤ℤ c → a ≤ℤ c
-not_above a b c h k = omega (arith, ints)
-
 -- a `not` whose floor is that of the snapshot
-pub waits_on_time : (p : Program) (waiting : NotNode) (look : Look) (s : Snapshot) (rows : Row → Bool) (forgotten : Named → Bool) → Counts counts_blockers p waiting.tally.memories look s rows forgotten → IsInStep p look waiting
+pub waits_on_time : (p : Program) (waiting : NotNode) (look : Look) (s : Snapshot) (rows : Row → Bool) (forgotten : Named → Bool) → CountsPartners counts_blockers p waiting.tally.memories look s rows forgotten → IsInStep p look waiting
     → waiting.ripening.floor ≡ floor p s waiting.tally.memories.pattern.entry.0 → WaitsFor p waiting look s rows forgotten
 waits_on_time p waiting look s rows forgotten counts in_step is =
     let now = floor p s waiting.tally.memories.pattern.entry.0 in

@@ -1,22 +1,18 @@
 -- What a node stands for once it is loaded with what is kept, and with extras of what is forgotten; and what it counts of what is forgotten.
-use Rattle.std.specs.Prelude.{◌≡◌, ◌≤ℤ◌, ◌<◌, ◌↔◌, ℕ, ℤ, Bool, true, List, [], map, length, Option, Some, None}
-use Rattle.std.specs.List.{filter}
+use Rattle.std.specs.Prelude.{◌≡◌, ◌≤ℤ◌, ◌<◌, ◌↔◌, ℕ, Bool, true, List, [], length, Option, Some, None}
 use Rattle.fx_base.specs.Lists.{In}
 use Rattle.fx_base.specs.declared.fact.Fact.{Fact}
 use Rattle.fx_base.specs.declared.ids.RuleId.{RuleId}
-use Rattle.fold_fn.specs.Order.{in_rising_order}
 use Rattle.row_delta.specs.declared.extra.Extra.{Extra}
 use Rattle.row_delta.specs.declared.row.Named.{Named}
 use Rattle.row_delta.specs.declared.row.Row.{Row}
 use Rattle.row_delta.specs.Rows.{has, InOrder}
 use Rattle.rule_model.specs.declared.condition.Condition.{Condition}
-use Rattle.rule_model.specs.declared.condition.Condition.TheVariants.{Plain, Folded}
-use Rattle.rule_model.specs.declared.condition.Pattern.{Pattern}
+use Rattle.rule_model.specs.declared.condition.Condition.TheVariants.{Plain}
 use Rattle.rule_model.specs.declared.program.Program.{Program}
 use Rattle.rule_model.specs.Distinct.{HaveDistinctTags}
-use Rattle.rule_model.specs.Rows.{argument, pattern_of}
+use Rattle.rule_model.specs.Rows.{pattern_of}
 use Rattle.rule_model.specs.Snapshots.{Snapshot, floor}
-use Rattle.rule_model.specs.Tuples.{name_of}
 use Rattle.join_tests.specs.Joins.{Look, joins}
 use Rattle.pair_memory.specs.declared.memories.Memories.{Memories}
 use Rattle.pair_memory.specs.Joined.{has_name}
@@ -33,11 +29,12 @@ use Rattle.tally_node.specs.Tallies.{shown}
 use Rattle.not_node.specs.Rows.{IsInStep, not_rows}
 use Rattle.not_node.specs.Waiting.{NoneDue}
 use Rattle.condition_rows.specs.Looks.{empty_snapshot, HasAllOf, NameHeld}
-use Rattle.condition_rows.specs.Sets.{held, candidates_of, partners}
+use Rattle.condition_rows.specs.Sets.{held, candidates_of}
 use Rattle.condition_node.specs.declared.node.FoldNode.{FoldNode}
 use Rattle.condition_node.specs.declared.node.Node.{Node}
 use Rattle.condition_node.specs.declared.node.Node.TheVariants as node
 use Rattle.condition_node.specs.Nodes.{condition_of, NodeStands}
+use Rattle.laden_rows.specs.Extras.{lost_partners, values_gathered}
 
 -- ---- a loaded node
 
@@ -85,15 +82,6 @@ node_rows p look (node.Exists tally) = shown itself shows_any where_witnessed ta
 node_rows p look (node.Fold fold) = shown without_value shows_value (result_for fold.accumulate) fold.tally.memories look
 
 -- ---- what is counted of forgotten facts
-
--- the forgotten candidates of a pattern that join a row
-abbrev pub lost_partners : Program → Snapshot → (Named → Bool) → Pattern → Row → List Fact
-lost_partners p s forgotten pattern row = filter (λ (f : Fact). forgotten (name_of f)) (partners p pattern s row)
-
--- what a condition gathers of facts, rising; one that is no accumulate gathers nothing
-abbrev pub values_gathered : Condition → List Fact → List ℤ
-values_gathered (Folded a) facts = in_rising_order (map (argument a.arg) facts)
-values_gathered c facts = []
 
 -- a condition that binds no fact, and so may count forgotten ones
 abbrev pub IsAside : Condition → Type 0

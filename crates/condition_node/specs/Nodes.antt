@@ -35,21 +35,21 @@ is_negated (Existing pattern) = false
 is_negated (Folded accumulate) = false
 
 -- the tallies are those of the candidates of the snapshot that pass for each row
-abbrev pub Counts : {T : Type 0} → (T → Look → (Named → Bool) → Type 0) → Program → Memories T → Look → Snapshot → (Row → Bool) → (Named → Bool) → Type 0
-Counts holds p m look s rows forgotten =
+abbrev pub CountsPartners : {T : Type 0} → (T → Look → (Named → Bool) → Type 0) → Program → Memories T → Look → Snapshot → (Row → Bool) → (Named → Bool) → Type 0
+CountsPartners holds p m look s rows forgotten =
     StandsCounted holds m look (held s) (joins m.pattern (held s)) rows (candidates_of p m.pattern s) forgotten
 
 -- The node of a `not` also waits for the moments of its rows. Its floor is not above the one of the snapshot, and no row that waits has its
 -- moment from the one to below the other: by both it has the same rows.
 pub record WaitsFor (p : Program) (waiting : NotNode) (look : Look) (s : Snapshot) (rows : Row → Bool) (forgotten : Named → Bool) : Type 0 where
-  pub counts : Counts counts_blockers p waiting.tally.memories look s rows forgotten
+  pub counts : CountsPartners counts_blockers p waiting.tally.memories look s rows forgotten
   pub in_step : IsInStep p look waiting
   pub none_due : NoneDue waiting.ripening.waiting.keys (floor p s waiting.tally.memories.pattern.entry.0)
   pub floor : waiting.ripening.floor ≤ℤ floor p s waiting.tally.memories.pattern.entry.0
 
 -- the node of an accumulate looks at the facts of its pattern
 pub record FoldsFor (p : Program) (fold : FoldNode) (look : Look) (s : Snapshot) (rows : Row → Bool) (forgotten : Named → Bool) : Type 0 where
-  pub counts : Counts (gathers fold.accumulate) p fold.tally.memories look s rows forgotten
+  pub counts : CountsPartners (gathers fold.accumulate) p fold.tally.memories look s rows forgotten
   pub pattern : fold.tally.memories.pattern ≡ fold.accumulate.pattern
 
 -- The node keeps those of these rows, and of the candidates of the snapshot, that name no forgotten fact; and what it counts or gathers
@@ -57,5 +57,5 @@ pub record FoldsFor (p : Program) (fold : FoldNode) (look : Look) (s : Snapshot)
 abbrev pub NodeStands : Program → Node → Look → Snapshot → (Row → Bool) → (Named → Bool) → Type 0
 NodeStands p (node.Join join) look s rows forgotten = StandsFor join.memories look rows (candidates_of p join.memories.pattern s) forgotten
 NodeStands p (node.Not waiting) look s rows forgotten = WaitsFor p waiting look s rows forgotten
-NodeStands p (node.Exists tally) look s rows forgotten = Counts counts_witnesses p tally.memories look s rows forgotten
+NodeStands p (node.Exists tally) look s rows forgotten = CountsPartners counts_witnesses p tally.memories look s rows forgotten
 NodeStands p (node.Fold fold) look s rows forgotten = FoldsFor p fold look s rows forgotten

@@ -3,7 +3,7 @@ use Rattle.std.specs.Prelude.{ℕ, Bool, ◌≤ℤ◌}
 use Rattle.row_delta.specs.declared.delta.Delta.{Delta}
 use Rattle.row_delta.specs.declared.row.Named.{Named}
 use Rattle.row_delta.specs.declared.row.Row.{Row}
-use Rattle.row_change.specs.Changes.{Leads}
+use Rattle.row_change.specs.Changes.{LeadsRows}
 use Rattle.rule_model.specs.declared.condition.Condition.{Condition}
 use Rattle.rule_model.specs.declared.condition.Condition.TheVariants.{Plain}
 use Rattle.rule_model.specs.declared.program.Program.{Program}
@@ -26,7 +26,7 @@ CountedStay c p world s next rows rows_now forgotten left =
 
 -- The true differences of the rows of the conditions before a node and of its candidates, from one snapshot to the next, of what names no
 -- forgotten fact. The store has at hand what is remembered of both snapshots; `world` has all of both.
-pub record IsTurn (p : Program) (condition : Condition) (look world : Look) (s next : Snapshot) (rows rows_now : Row → Bool) (forgotten : Named → Bool) (left right : Delta) : Type 0 where
+pub record IsConditionTurn (p : Program) (condition : Condition) (look world : Look) (s next : Snapshot) (rows rows_now : Row → Bool) (forgotten : Named → Bool) (left right : Delta) : Type 0 where
   pub tags : HaveDistinctTags s.facts
   pub tags_now : HaveDistinctTags next.facts
   pub clock : s.clock ≤ℤ next.clock
@@ -38,5 +38,5 @@ pub record IsTurn (p : Program) (condition : Condition) (look world : Look) (s n
   pub named : NameHeld s rows
   pub named_now : NameHeld next rows_now
   pub stay : CountedStay condition p world s next rows rows_now forgotten left
-  pub leads : Leads (cleaned rows forgotten) (cleaned rows_now forgotten) left.gone left.come
+  pub leads : LeadsRows (cleaned rows forgotten) (cleaned rows_now forgotten) left.gone left.come
   pub candidates : IsNameDifference (remembered (candidates_of p (pattern_of condition) s) forgotten) (remembered (candidates_of p (pattern_of condition) next) forgotten) right

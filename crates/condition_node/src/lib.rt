@@ -2,7 +2,6 @@
 //! It stands on the nodes of each kind and the rows of conditions, and assumes nothing of the outside.
 #![tactic(auto)]
 
-mod copying;
 pub mod laws;
 mod node;
 

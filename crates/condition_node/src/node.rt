@@ -16,13 +16,12 @@ ghost use Rattle.condition_rows.specs.Looks.{empty_snapshot};
 ghost use Rattle.condition_node.specs.Forgetting.{ForgetsIn};
 ghost use Rattle.condition_node.specs.Nodes.{condition_of, is_negated, NodeStands};
 ghost use Rattle.condition_node.specs.Quiet.{IsBefore, IsDue, IsQuiet};
-ghost use Rattle.condition_node.specs.Turns.{IsTurn};
+ghost use Rattle.condition_node.specs.Turns.{IsConditionTurn};
 
 mod loading;
 
-use crate::copying::Copied;
 use beta_join::BetaJoin;
-use fx_base::{EntryId, Facts, Millis, NoMemory, Seq};
+use fx_base::{Copies, EntryId, Facts, Millis, NoMemory, Seq};
 use not_node::NotNode;
 use row_delta::{Delta, Named, Row};
 use rule_model::{Accumulate, Condition, Moment, Pattern, Program};
@@ -70,21 +69,21 @@ impl Node {
     {
         match condition {
             Condition::Plain(pattern) => {
-                let pattern = pattern.copied(alloc)?;
+                let pattern = pattern.copy(alloc)?;
                 Ok(Node::Join(BetaJoin::new(alloc, pattern)))
             }
             Condition::Negated(pattern) => {
-                let pattern = pattern.copied(alloc)?;
+                let pattern = pattern.copy(alloc)?;
                 let floor = first_floor(program, pattern.entry);
                 Ok(Node::Not(NotNode::new(alloc, pattern, floor)))
             }
             Condition::Existing(pattern) => {
-                let pattern = pattern.copied(alloc)?;
+                let pattern = pattern.copy(alloc)?;
                 Ok(Node::Exists(TallyNode::new(alloc, pattern)))
             }
             Condition::Folded(accumulate) => {
-                let pattern = accumulate.pattern.copied(alloc)?;
-                let accumulate = accumulate.copied(alloc)?;
+                let pattern = accumulate.pattern.copy(alloc)?;
+                let accumulate = accumulate.copy(alloc)?;
                 let tally = TallyNode::new(alloc, pattern);
                 Ok(Node::Fold(FoldNode { accumulate, tally }))
             }
@@ -118,11 +117,11 @@ impl Node {
         ensures condition { OnOk result (condition_of self.new ≡ condition_of self.old) }
         ensures stands { OnOk result ((world : Look) (s next : Snapshot) (rows rows_now : Row → Bool) (forgotten : Named → Bool)
             → NodeStands program.now self.old (F.map facts.now) s rows forgotten → IsAt next moment.now
-            → IsTurn program.now (condition_of self.old) (F.map facts.now) world s next rows rows_now forgotten left.now right.now
+            → IsConditionTurn program.now (condition_of self.old) (F.map facts.now) world s next rows rows_now forgotten left.now right.now
             → NodeStands program.now self.new (F.map facts.now) next rows_now forgotten) }
         ensures difference { IfOk result (λ delta. (world : Look) (s next : Snapshot) (rows rows_now : Row → Bool) (forgotten : Named → Bool)
             → NodeStands program.now self.old (F.map facts.now) s rows forgotten → IsAt next moment.now
-            → IsTurn program.now (condition_of self.old) (F.map facts.now) world s next rows rows_now forgotten left.now right.now
+            → IsConditionTurn program.now (condition_of self.old) (F.map facts.now) world s next rows rows_now forgotten left.now right.now
             → IsDifference (cleaned (line program.now s (condition_of self.old) rows) forgotten) (cleaned (line program.now next (condition_of self.old) rows_now) forgotten) delta) }
     {
         match self {
@@ -203,15 +202,15 @@ impl Node {
         ensures others { is_negated (condition_of self.now) ≡ false → result ≡ true }
         ensures stands { IsTrue result → (look world : Look) (s next : Snapshot) (rows rows_now : Row → Bool) (forgotten : Named → Bool) (left right : Delta)
             → changes_nothing left ≡ true → changes_nothing right ≡ true
-            → NodeStands program.now self.now look s rows forgotten → IsAt next moment.now → IsTurn program.now (condition_of self.now) look world s next rows rows_now forgotten left right
+            → NodeStands program.now self.now look s rows forgotten → IsAt next moment.now → IsConditionTurn program.now (condition_of self.now) look world s next rows rows_now forgotten left right
             → NodeStands program.now self.now look next rows_now forgotten }
         ensures rows { IsTrue result → (look world : Look) (s next : Snapshot) (rows rows_now : Row → Bool) (forgotten : Named → Bool) (left right : Delta)
             → changes_nothing left ≡ true → changes_nothing right ≡ true
-            → NodeStands program.now self.now look s rows forgotten → IsAt next moment.now → IsTurn program.now (condition_of self.now) look world s next rows rows_now forgotten left right
+            → NodeStands program.now self.now look s rows forgotten → IsAt next moment.now → IsConditionTurn program.now (condition_of self.now) look world s next rows rows_now forgotten left right
             → (row : Row) → cleaned (line program.now next (condition_of self.now) rows_now) forgotten row ≡ cleaned (line program.now s (condition_of self.now) rows) forgotten row }
         ensures due { result ≡ false → (look world : Look) (s next : Snapshot) (rows rows_now : Row → Bool) (forgotten : Named → Bool) (left right : Delta)
             → changes_nothing left ≡ true → changes_nothing right ≡ true
-            → NodeStands program.now self.now look s rows forgotten → IsAt next moment.now → IsTurn program.now (condition_of self.now) look world s next rows rows_now forgotten left right
+            → NodeStands program.now self.now look s rows forgotten → IsAt next moment.now → IsConditionTurn program.now (condition_of self.now) look world s next rows rows_now forgotten left right
             → (row : Row) × (cleaned (line program.now s (condition_of self.now) rows) forgotten row ≡ false) × (cleaned (line program.now next (condition_of self.now) rows_now) forgotten row ≡ true) }
     {
         match self {

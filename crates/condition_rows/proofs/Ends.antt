@@ -1,13 +1,16 @@
 -- The rows of conditions with one more at the end, by the tuples of the conditions before it.
-use Rattle.condition_rows.proofs.Common.{◌≡◌, sym, refl, subst, inl, inr, List, [], ◌∷◌, ◌++◌, Bool, true, false, list_any, In, Named, Row, name_equiv, Condition, Program, extended, Snapshot, Tuple, empty_tuple, row_of, in_map, of_map, has_name, rows_of, eq_by_cmp, name_cmp, name_exact, tuples, in_flat_map, of_flat_map}
+use Rattle.condition_rows.proofs.Common.{◌≡◌, sym, refl, subst, inl, inr, List, [], ◌∷◌, ◌++◌, true, false, list_any, In, Named, Row, name_equiv, name_cmp}
+use Rattle.condition_rows.proofs.Common.{name_exact, Condition, Program, extended, tuples, Snapshot, Tuple, empty_tuple, row_of, in_map, of_map, in_flat_map}
+use Rattle.condition_rows.proofs.Common.{of_flat_map, has_name, rows_of, or_left, or_right}
+use Rattle.rule_model.specs.Rows.{rows}
+use Rattle.std.specs.Ordering.{eq_by_cmp}
 use Rattle.std.proofs.lemmas.Map.Views.{tells_apart}
 use Rattle.std.proofs.lemmas.Map.Lookups.{CmpEqualImpliesEq}
 use Rattle.std.specs.declared.cmp.Ordering.{Ordering}
 use Rattle.std.specs.Cmp.{IsEquivalence}
 use Rattle.row_delta.specs.Rows.{row_cmp, has}
 use Rattle.row_delta.specs.RowOrder.{same_equiv, row_exact}
-use Rattle.rule_model.specs.Rows.{rows}
-use Rattle.rule_model.proofs.Firsts.{or_left, or_right, or_split}
+use Rattle.rule_model.proofs.Firsts.{or_split}
 
 -- what is asked by an exact order stands in the list
 module _ {K : Type 0} (R : K → K → Ordering) (laws : IsEquivalence (eq_by_cmp R)) (exact : CmpEqualImpliesEq R) where
@@ -31,12 +34,6 @@ in_name = asked name_cmp name_equiv name_exact
 
 pub name_in : (who : Named) (names : List Named) → has_name names who ≡ true → In who names
 name_in = stands name_cmp name_equiv name_exact
-
--- tests that hold where the other does are the same
-pub same_truth : (a b : Bool) → (a ≡ true → b ≡ true) → (b ≡ true → a ≡ true) → a ≡ b
-same_truth true b f g = sym (f refl)
-same_truth false true f g = g refl
-same_truth false false f g = refl
 
 module _ (p : Program) (s : Snapshot) where
   -- a tuple that conditions make of nothing

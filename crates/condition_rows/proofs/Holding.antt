@@ -1,15 +1,11 @@
 -- What a snapshot holds under the tags of its facts.
-use Rattle.condition_rows.proofs.Common.{◌≡◌, ◌∙◌, sym, ap, refl, subst, ℕ, ◌==◌, arith, inl, inr, List, [], ◌∷◌, map, Bool, true, false, cond, Option, Some, None, In, Fact, name_equiv, Named, Pattern, passes, HaveDistinctTags, Holds, Snapshot, Tuple, name_of, row_of, in_map, version_at, versions_at, find, option_map, option_and_then, nat_tests, tuple_of, Look, is_version, tuple_at, passes_given}
-use Rattle.fx_base.specs.declared.ids.Tag.{Tag}
+use Rattle.condition_rows.proofs.Common.{◌≡◌, ◌∙◌, sym, ap, refl, subst, ℕ, ◌==◌, inl, inr, List, [], ◌∷◌, map, Bool, true, false, cond, Option, Some, None, In}
+use Rattle.condition_rows.proofs.Common.{Fact, name_equiv, Named, Pattern, passes, HaveDistinctTags, Holds, tuple_of, Snapshot, Tuple, name_of, row_of, in_map}
+use Rattle.condition_rows.proofs.Common.{version_at, versions_at, Look, is_named_version, tuple_at, passes_given, find, option_map, option_and_then, eq-eqb}
+use Rattle.condition_rows.proofs.Common.{eqb-true, version_is}
 use Rattle.join_tests.specs.Joins.{joins}
-use Rattle.join_tests.proofs.Versions.{version_is}
+use Rattle.fx_base.specs.declared.ids.Tag.{Tag}
 use Rattle.condition_rows.specs.Sets.{held}
-
-same_number : (m n : ℕ) → m ≡ n → (m == n) ≡ true
-same_number m n e = grind (arith, nat_tests)
-
-one_number : (m n : ℕ) → (m == n) ≡ true → m ≡ n
-one_number m n e = grind (arith, nat_tests)
 
 abbrev tag_of : ℕ → Tag
 tag_of n = record { 0 = n }
@@ -29,10 +25,10 @@ later false x rest found h e = e
 first_with : (facts : List Fact) → HaveDistinctTags facts → (f : Fact) → In f facts → find (has_tag f.tag) facts ≡ Some f
 first_with [] d f i = absurd i
 first_with (x ∷ facts) d f (inl e) =
-    at_first (has_tag f.tag x) x f (find (has_tag f.tag) facts) (same_number x.tag.0 f.tag.0 (ap (λ (g : Fact). g.tag.0) (sym e))) e
+    at_first (has_tag f.tag x) x f (find (has_tag f.tag) facts) (eq-eqb x.tag.0 f.tag.0 (ap (λ (g : Fact). g.tag.0) (sym e))) e
 first_with (x ∷ facts) d f (inr i) =
     later (has_tag f.tag x) x (find (has_tag f.tag) facts) (Some f)
-    (λ e. d.0 (subst (λ (t : Tag). In t (map (λ (g : Fact). g.tag) facts)) (ap tag_of (sym (one_number x.tag.0 f.tag.0 e))) (in_map (λ (g : Fact). g.tag) f facts i)))
+    (λ e. d.0 (subst (λ (t : Tag). In t (map (λ (g : Fact). g.tag) facts)) (ap tag_of (sym (eqb-true x.tag.0 f.tag.0 e))) (in_map (λ (g : Fact). g.tag) f facts i)))
     (first_with facts d.1 f i)
 
 found_if : (b : Bool) (x f : Fact) (facts : List Fact) (rest : Option Fact) → (rest ≡ Some f → In f facts) → cond b (Some x) rest ≡ Some f → In f (x ∷ facts)
@@ -52,7 +48,7 @@ holds_each look (f ∷ fs) h = (h f (inl refl), holds_each look fs (λ g i. h g 
 
 pub version_of : (look : Look) (f : Fact) → look f.tag ≡ Some f → version_at look (name_of f) ≡ Some f
 version_of look f e =
-    ap (option_and_then (λ (g : Fact). cond (is_version (name_of f) g) (Some g) None)) e
+    ap (option_and_then (λ (g : Fact). cond (is_named_version (name_of f) g) (Some g) None)) e
     ∙ ap (λ b. cond b (Some f) None) (name_equiv.refl (name_of f))
 
 pub versions_of : (look : Look) (fs : List Fact) → Holds look fs → versions_at look (map name_of fs) ≡ Some fs

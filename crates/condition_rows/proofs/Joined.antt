@@ -1,11 +1,15 @@
 -- The line of a pattern.
-use Rattle.condition_rows.proofs.Common.{◌≡◌, ◌∙◌, sym, ap, refl, subst, List, [], ◌∷◌, ◌++◌, Bool, true, false, ◌&&◌, Option, Some, None, In, Fact, Named, Row, Condition, Plain, Pattern, Program, is_candidate, candidates, passes, passing, HaveDistinctTags, Holds, Snapshot, Tuple, empty_tuple, name_of, row_of, in_map, of_map, both, both_of, of_filter, version_at, joins, has_name, rows_of, held, line, map-append, with_fact, of_passing, made_of, with_name, joined, is_candidate_given, candidate_names}
+use Rattle.condition_rows.proofs.Common.{◌≡◌, ◌∙◌, sym, ap, refl, subst, List, [], ◌∷◌, ◌++◌, Bool, true, false, ◌&&◌, Option, Some, None, In, Fact, Named, Row}
+use Rattle.condition_rows.proofs.Common.{Condition, Plain, Pattern, Program, is_candidate, candidates, passes, passing, HaveDistinctTags, Holds, Snapshot}
+use Rattle.condition_rows.proofs.Common.{Tuple, empty_tuple, name_of, row_of, with_fact, in_map, of_map, of_filter, of_passing, made_of, version_at, joins}
+use Rattle.condition_rows.proofs.Common.{has_name, with_name, joined, rows_of, held, is_candidate_given, candidate_names, line, map-append, and_from, and_parts}
+use Rattle.condition_rows.proofs.Common.{same_test}
+use Rattle.condition_rows.specs.Sets.{candidates_of}
+use Rattle.pair_memory.proofs.Joining.{joined_with, joined_from}
 use Rattle.rule_model.proofs.Grown.{tuples_grow}
 use Rattle.rule_model.proofs.Order.{in_filter, passed}
-use Rattle.pair_memory.proofs.Joining.{joined_with, joined_from}
-use Rattle.condition_rows.specs.Sets.{candidates_of}
 use Rattle.condition_rows.proofs.Holding.{version_of, joins_of_tuple, held_fact, held_all, version_in}
-use Rattle.condition_rows.proofs.Ends.{in_name, name_in, same_truth, IsMade, tuple_of_row, row_of_tuple, split_end, with_end}
+use Rattle.condition_rows.proofs.Ends.{in_name, name_in, IsMade, tuple_of_row, row_of_tuple, split_end, with_end}
 
 abbrev named : List Named → Tuple → Row
 named facts t = record { facts = facts; values = t.values }
@@ -52,7 +56,7 @@ module _ (p : Program) (s : Snapshot) (d : HaveDistinctTags s.facts) where
       in_name who (candidate_names p q s) (subst (λ (n : Named). In n (candidate_names p q s)) r.2 (in_map name_of r.0 (candidates p q s) r.1))
 
   pub candidates_named : (q : Pattern) (who : Named) → has_name (candidate_names p q s) who ≡ candidates_of p q s who
-  candidates_named q who = same_truth (has_name (candidate_names p q s) who) (candidates_of p q s who) (named_in q who) (in_named q who)
+  candidates_named q who = same_test (has_name (candidate_names p q s) who) (candidates_of p q s who) (named_in q who) (in_named q who)
 
   module _ (front : List Condition) (q : Pattern) where
     abbrev pattern_line : Row → Bool
@@ -65,8 +69,8 @@ module _ (p : Program) (s : Snapshot) (d : HaveDistinctTags s.facts) where
         let joining = joins_made front t i q f there ∙ passed (passes q t) f (candidates p q s) j in
         ap pattern_line (row_with t f)
         ∙ joined_with (joins q (held s)) (rows_of p s front) (candidates_of p q s) (row_of t) (name_of f)
-        ∙ both (rows_of p s front (row_of t)) (candidates_of p q s (name_of f) && joins q (held s) (row_of t) (name_of f)) (row_of_tuple p s front (row_of t) (t, i, refl))
-        (both (candidates_of p q s (name_of f)) (joins q (held s) (row_of t) (name_of f)) candidate joining)
+        ∙ and_from (rows_of p s front (row_of t)) (candidates_of p q s (name_of f) && joins q (held s) (row_of t) (name_of f)) (row_of_tuple p s front (row_of t) (t, i, refl))
+        (and_from (candidates_of p q s (name_of f)) (joins q (held s) (row_of t) (name_of f)) candidate joining)
 
     to_line : (row : Row) → rows_of p s (front ++ Plain q ∷ []) row ≡ true → pattern_line row ≡ true
     to_line row e =
@@ -77,8 +81,8 @@ module _ (p : Program) (s : Snapshot) (d : HaveDistinctTags s.facts) where
 
     of_joined : (left : Row) (who : Named) → (rows_of p s front left && (candidates_of p q s who && joins q (held s) left who)) ≡ true → rows_of p s (front ++ Plain q ∷ []) (with_name left who) ≡ true
     of_joined left who e =
-        let a = both_of (rows_of p s front left) (candidates_of p q s who && joins q (held s) left who) e in
-        let b = both_of (candidates_of p q s who) (joins q (held s) left who) a.1 in
+        let a = and_parts (rows_of p s front left) (candidates_of p q s who && joins q (held s) left who) e in
+        let b = and_parts (candidates_of p q s who) (joins q (held s) left who) a.1 in
         let t = tuple_of_row p s front left a.0 in
         let f = candidate_of q who b.0 in
         let there = of_filter (is_candidate p q s) f.0 s.facts f.1 in
@@ -98,4 +102,4 @@ module _ (p : Program) (s : Snapshot) (d : HaveDistinctTags s.facts) where
         subst (λ (row : Row). rows_of p s (front ++ Plain q ∷ []) row ≡ true) (sym r.2) (of_joined r.0 r.1 holds)
 
     pub plain_line : (row : Row) → rows_of p s (front ++ Plain q ∷ []) row ≡ line p s (Plain q) (rows_of p s front) row
-    plain_line row = same_truth (rows_of p s (front ++ Plain q ∷ []) row) (pattern_line row) (to_line row) (from_line row)
+    plain_line row = same_test (rows_of p s (front ++ Plain q ∷ []) row) (pattern_line row) (to_line row) (from_line row)

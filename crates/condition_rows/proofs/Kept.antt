@@ -1,10 +1,14 @@
 -- The lines of the conditions that keep a row or drop it.
-use Rattle.condition_rows.proofs.Common.{◌≡◌, ◌∙◌, sym, ap, refl, ◌==◌, inl, inr, List, [], ◌∷◌, ◌++◌, map, length, cond, Bool, true, false, not, ◌&&◌, ◌||◌, filter, list_any, In, Row, Condition, Negated, Existing, Pattern, Program, is_candidate, candidates, passes, passing, HaveDistinctTags, extended, Snapshot, Tuple, Bindings, empty_tuple, name_of, row_of, bound_by, in_if, both, both_of, of_filter, joins, rows_of, held, line, bound_in, floor, of_if, in_unless, of_unless, not_empty}
-use Rattle.rule_model.specs.Maturity.{is_mature}
-use Rattle.rule_model.proofs.Naming.{bound_named}
+use Rattle.condition_rows.proofs.Common.{◌≡◌, ◌∙◌, sym, ap, refl, ◌==◌, inl, inr, List, [], ◌∷◌, ◌++◌, map, length, cond, Bool, true, false, not, ◌&&◌, ◌||◌}
+use Rattle.condition_rows.proofs.Common.{filter, list_any, In, Row, Condition, Negated, Existing, Pattern, Program, is_candidate, candidates, passes, passing}
+use Rattle.condition_rows.proofs.Common.{HaveDistinctTags, extended, Snapshot, floor, Tuple, Bindings, empty_tuple, name_of, row_of, bound_by, in_if, of_if}
+use Rattle.condition_rows.proofs.Common.{in_unless, of_unless, not_empty, of_filter, joins, rows_of, held, line, bound_in, and_from, and_parts, not-true}
+use Rattle.condition_rows.proofs.Common.{not_not, same_test}
 use Rattle.condition_rows.specs.Sets.{has_partner}
 use Rattle.condition_rows.specs.Lines.{is_ripe}
-use Rattle.condition_rows.proofs.Ends.{same_truth, IsMade, tuple_of_row, row_of_tuple, split_end, with_end}
+use Rattle.rule_model.specs.Maturity.{is_mature}
+use Rattle.rule_model.proofs.Naming.{bound_named}
+use Rattle.condition_rows.proofs.Ends.{IsMade, tuple_of_row, row_of_tuple, split_end, with_end}
 use Rattle.condition_rows.proofs.Joined.{made_facts, joins_made}
 
 -- ---- a condition that asks something of a row
@@ -17,16 +21,16 @@ module _ (p : Program) (s : Snapshot) (front : List Condition) (c : Condition) (
       let n = split_end p s c front empty_tuple r.0 r.1 in
       let k = kept n.0 r.0 n.1 n.2 in
       let same : row_of n.0 ≡ row = ap row_of (sym k.1) ∙ r.2 in
-      both (rows_of p s front row) (test row) (row_of_tuple p s front row (n.0, n.1, same)) (ap test (sym same) ∙ k.0)
+      and_from (rows_of p s front row) (test row) (row_of_tuple p s front row (n.0, n.1, same)) (ap test (sym same) ∙ k.0)
 
   from_kept : (row : Row) → (rows_of p s front row && test row) ≡ true → rows_of p s (front ++ c ∷ []) row ≡ true
   from_kept row e =
-      let h = both_of (rows_of p s front row) (test row) e in
+      let h = and_parts (rows_of p s front row) (test row) e in
       let t = tuple_of_row p s front row h.0 in
       row_of_tuple p s (front ++ c ∷ []) row (t.0, with_end p s c front empty_tuple t.0 t.0 t.1 (keeps t.0 t.1 (ap test t.2 ∙ h.1)), t.2)
 
   kept_rows : (row : Row) → rows_of p s (front ++ c ∷ []) row ≡ (rows_of p s front row && test row)
-  kept_rows row = same_truth (rows_of p s (front ++ c ∷ []) row) (rows_of p s front row && test row) (to_kept row) (from_kept row)
+  kept_rows row = same_test (rows_of p s (front ++ c ∷ []) row) (rows_of p s front row && test row) (to_kept row) (from_kept row)
 
 -- ---- whether a candidate joins
 
@@ -38,14 +42,6 @@ any_step a false x rest kept e h = ap (λ (v : Bool). v || rest) e ∙ h
 any_left : {A B : Type 0} (name : A → B) (test : B → Bool) (pass : A → Bool) (xs : List A) → ((x : A) → In x xs → test (name x) ≡ pass x) → list_any test (map name xs) ≡ not (length (filter pass xs) == 0)
 any_left name test pass [] h = refl
 any_left name test pass (x ∷ xs) h = any_step (test (name x)) (pass x) x (list_any test (map name xs)) (filter pass xs) (h x (inl refl)) (any_left name test pass xs (λ y i. h y (inr i)))
-
-not_not : (b : Bool) → not (not b) ≡ b
-not_not true = refl
-not_not false = refl
-
-not_to : (b : Bool) → not b ≡ true → b ≡ false
-not_to true e = sym e
-not_to false e = refl
 
 module _ (p : Program) (s : Snapshot) (d : HaveDistinctTags s.facts) (front : List Condition) where
   partner_made : (q : Pattern) (t : Tuple) → IsMade p s front t → has_partner p q s (row_of t) ≡ not (length (passing p q s t) == 0)
@@ -65,7 +61,7 @@ module _ (p : Program) (s : Snapshot) (d : HaveDistinctTags s.facts) (front : Li
   pub existing_line : (q : Pattern) (row : Row) → rows_of p s (front ++ Existing q ∷ []) row ≡ line p s (Existing q) (rows_of p s front) row
   existing_line q row =
       kept_rows p s front (Existing q) (has_partner p q s)
-      (λ t i e. in_unless (length (passing p q s t) == 0) t (not_to (length (passing p q s t) == 0) (sym (partner_made q t i) ∙ e)))
+      (λ t i e. in_unless (length (passing p q s t) == 0) t (not-true (length (passing p q s t) == 0) (sym (partner_made q t i) ∙ e)))
       (λ t next i j. let r = of_unless (length (passing p q s t) == 0) t next j in (partner_made q t i ∙ ap not r.0, r.1)) row
 
   abbrev waits_not : Pattern → Row → Bool

@@ -6,3 +6,5 @@ mod Kept
 pub mod Naming
 mod Valued
 pub mod Whole
+pub mod Alike
+pub mod Partners

@@ -1,22 +1,23 @@
 -- The line of an accumulate.
-use Rattle.condition_rows.proofs.Common.{◌≡◌, ◌∙◌, sym, ap, refl, subst, ℤ, inl, inr, List, [], ◌∷◌, ◌++◌, cond, Bool, true, false, ◌&&◌, Option, Some, None, filter, In, Fact, Row, Condition, Folded, Program, is_candidate, candidates, passes, passing, HaveDistinctTags, Snapshot, Tuple, Bindings, empty_tuple, name_of, row_of, bound_by, in_if, both, both_of, of_filter, joins, rows_of, held, line, int_eq, Decides-int_eq, result_of, with_result, with_value, of_result, is_result}
-use Rattle.std.proofs.lemmas.Cmp.{int_eq_equiv}
-use Rattle.rule_model.specs.declared.condition.Accumulate.{Accumulate}
-use Rattle.rule_model.specs.Tests.{results_hold}
-use Rattle.pair_memory.specs.Valued.{with_value as with_last_value, valued}
-use Rattle.pair_memory.proofs.Valued.{valued_with, valued_from}
+use Rattle.condition_rows.proofs.Common.{◌≡◌, ◌∙◌, sym, ap, refl, subst, ℤ, inl, inr, List, [], ◌∷◌, ◌++◌, cond, Bool, true, false, ◌&&◌, Option, Some, None}
+use Rattle.condition_rows.proofs.Common.{filter, In, Fact, Row, Condition, Folded, Program, is_candidate, candidates, passes, passing, HaveDistinctTags}
+use Rattle.condition_rows.proofs.Common.{Snapshot, Tuple, Bindings, empty_tuple, name_of, row_of, bound_by, with_value, in_if, of_result, of_filter, joins}
+use Rattle.condition_rows.proofs.Common.{rows_of, held, line, is_result, result_of, with_result, and_from, and_parts, valued, valued_with, valued_from}
+use Rattle.condition_rows.proofs.Common.{same_test}
 use Rattle.condition_rows.specs.Sets.{partners}
 use Rattle.condition_rows.specs.Lines.{gives}
-use Rattle.condition_rows.proofs.Ends.{same_truth, IsMade, tuple_of_row, row_of_tuple, split_end, with_end}
+use Rattle.rule_model.specs.declared.condition.Accumulate.{Accumulate}
+use Rattle.rule_model.specs.Tests.{results_hold}
+use Rattle.pair_memory.specs.Valued.{with_row_value as with_last_value}
+use Rattle.std.proofs.lemmas.Cmp.{int_eq_equiv}
+use Rattle.condition_rows.proofs.Ends.{IsMade, tuple_of_row, row_of_tuple, split_end, with_end}
 use Rattle.condition_rows.proofs.Joined.{joins_made}
 use Rattle.condition_rows.proofs.Kept.{bound_made}
-
-same_result : (n v : ℤ) → int_eq n v ≡ true → n ≡ v
-same_result n v e = (Decides-int_eq n v).0 e
+use Rattle.fx_base.proofs.Orders.{int_eq-true}
 
 of_is_result : (o : Option ℤ) (v : ℤ) → is_result o v ≡ true → o ≡ Some v
 of_is_result None v e = absurd (let n : false ≡ true = e in cc)
-of_is_result (Some n) v e = ap (λ (m : ℤ). Some m) (same_result n v e)
+of_is_result (Some n) v e = ap (λ (m : ℤ). Some m) (int_eq-true n v e)
 
 to_is_result : (o : Option ℤ) (v : ℤ) → o ≡ Some v → is_result o v ≡ true
 to_is_result o v e = ap (λ r. is_result r v) e ∙ int_eq_equiv.refl v
@@ -53,17 +54,17 @@ module _ (p : Program) (s : Snapshot) (d : HaveDistinctTags s.facts) (front : Li
       let r = tuple_of_row p s (front ++ Folded a ∷ []) row e in
       let n = split_end p s (Folded a) front empty_tuple r.0 r.1 in
       let g = of_result a n.0 r.0 (result_of a (passing p a.pattern s n.0)) n.2 in
-      let given = gives_made n.0 n.1 g.0 ∙ both (is_result (result_of a (passing p a.pattern s n.0)) g.0) (results_hold (bound_by n.0) g.0 a.tests) (to_is_result (result_of a (passing p a.pattern s n.0)) g.0 g.1) g.2 in
-      let holds = both (rows_of p s front (row_of n.0)) (gives p a s (row_of n.0) g.0) (row_of_tuple p s front (row_of n.0) (n.0, n.1, refl)) given in
+      let given = gives_made n.0 n.1 g.0 ∙ and_from (is_result (result_of a (passing p a.pattern s n.0)) g.0) (results_hold (bound_by n.0) g.0 a.tests) (to_is_result (result_of a (passing p a.pattern s n.0)) g.0 g.1) g.2 in
+      let holds = and_from (rows_of p s front (row_of n.0)) (gives p a s (row_of n.0) g.0) (row_of_tuple p s front (row_of n.0) (n.0, n.1, refl)) given in
       subst (λ (row : Row). valued value_test row ≡ true) (ap row_of (sym g.3) ∙ r.2) (valued_with value_test (row_of n.0) g.0 ∙ holds)
 
   from_valued : (row : Row) → valued value_test row ≡ true → rows_of p s (front ++ Folded a ∷ []) row ≡ true
   from_valued row e =
       let r = valued_from value_test row e in
-      let h = both_of (rows_of p s front r.0) (gives p a s r.0 r.1) r.3 in
+      let h = and_parts (rows_of p s front r.0) (gives p a s r.0 r.1) r.3 in
       let t = tuple_of_row p s front r.0 h.0 in
       let given = sym (gives_made t.0 t.1 r.1) ∙ ap (λ (left : Row). gives p a s left r.1) t.2 ∙ h.1 in
-      let g = both_of (is_result (result_of a (passing p a.pattern s t.0)) r.1) (results_hold (bound_by t.0) r.1 a.tests) given in
+      let g = and_parts (is_result (result_of a (passing p a.pattern s t.0)) r.1) (results_hold (bound_by t.0) r.1 a.tests) given in
       let next = in_result a t.0 (result_of a (passing p a.pattern s t.0)) r.1 (of_is_result (result_of a (passing p a.pattern s t.0)) r.1 g.0) g.1 in
       row_of_tuple p s (front ++ Folded a ∷ []) row (
         with_value t.0 r.1,
@@ -72,4 +73,4 @@ module _ (p : Program) (s : Snapshot) (d : HaveDistinctTags s.facts) (front : Li
       )
 
   pub folded_line : (row : Row) → rows_of p s (front ++ Folded a ∷ []) row ≡ line p s (Folded a) (rows_of p s front) row
-  folded_line row = same_truth (rows_of p s (front ++ Folded a ∷ []) row) (valued value_test row) (to_valued row) (from_valued row)
+  folded_line row = same_test (rows_of p s (front ++ Folded a ∷ []) row) (valued value_test row) (to_valued row) (from_valued row)

@@ -1,8 +1,9 @@
 -- The lines of all kinds of conditions, and of conditions one after the other.
-use Rattle.condition_rows.proofs.Common.{◌≡◌, ◌∙◌, ◌↔◌, sym, ap, refl, List, [], ◌∷◌, ◌++◌, Bool, true, false, ◌||◌, In, Row, Condition, Plain, Negated, Existing, Folded, Program, HaveDistinctTags, Snapshot, rows_of, line, fold, append-nil, append_assoc, is_empty_row}
+use Rattle.condition_rows.proofs.Common.{◌≡◌, ◌∙◌, ◌↔◌, sym, ap, refl, List, [], ◌∷◌, ◌++◌, Bool, true, false, ◌||◌, In, Row, Condition, Plain, Negated}
+use Rattle.condition_rows.proofs.Common.{Existing, Folded, Program, HaveDistinctTags, Snapshot, rows_of, line, is_empty_row, fold, append-nil, append_assoc}
+use Rattle.condition_rows.specs.Lines.{lines}
 use mathlib.Core.Path.{fun_ext}
 use Rattle.rule_model.specs.Rows.{rows}
-use Rattle.condition_rows.specs.Lines.{lines}
 use Rattle.condition_rows.proofs.Ends.{in_has, has_in}
 use Rattle.condition_rows.proofs.Joined.{plain_line}
 use Rattle.condition_rows.proofs.Kept.{negated_line, existing_line}

@@ -1,5 +1,6 @@
 -- What is read as an action stands in the grammar, and what stands in it is read.
-use Rattle.drl_action.proofs.Common.{◌≡◌, ℕ, ◌<◌, ◌≤◌, Bool, true, false, cond, List, ◌∷◌, length, Some, None, refl, arith, IfSome, codes, bytes_eq, IsSetter, IsAssign, IsAction, setter_at, word_of, behind_word_at}
+use Rattle.drl_action.proofs.Common.{◌≡◌, ℕ, ◌<◌, ◌≤◌, Bool, true, false, cond, List, ◌∷◌, length, Some, None, refl, arith, IfSome, codes, bytes_eq, IsSetter}
+use Rattle.drl_action.proofs.Common.{IsAssign, IsAction, setter_at, word_of, behind_word_at}
 use Rattle.drl_lex.specs.declared.token.TokenKind.{TokenKind}
 use Rattle.drl_lex.specs.declared.token.TokenKind.TheVariants.{Word, Var, Mark}
 use Rattle.drl_lex.specs.declared.token.Mark.TheVariants.{OpenParenthesis, CloseParenthesis, OpenBrace, CloseBrace, Comma, Semicolon, Assign}
@@ -13,28 +14,29 @@ use Rattle.drl_grammar.specs.Shapes.{Optional, Separated, Listed}
 use Rattle.drl_grammar.specs.declared.action.ActTree.{ActTree}
 use Rattle.drl_grammar.specs.declared.action.ActTree.TheVariants.{Insert, Modify}
 use Rattle.drl_phrase.specs.declared.phrase.Punctuation.TheVariants as p
-use Rattle.drl_phrase.specs.Exact.{binds, Exact}
+use Rattle.drl_phrase.specs.Exact.{phrase_binds, ExactPhrase}
 use Rattle.drl_phrase.specs.Reading.{separated_at, listed_at, optional_at}
 use Rattle.drl_phrase.proofs.Carried.{carried}
-use Rattle.drl_phrase.proofs.ShapeLaws.{then, if_some_then, guarded, ident_then, ident_is, same_bytes, closed_then, closed_is, separated_exact, listed_exact, optional_sound, optional_again, optional_shorter}
+use Rattle.drl_phrase.proofs.ShapeLaws.{then, if_some_then, guarded, ident_then, ident_is, same_bytes, closed_then, closed_is, separated_exact, listed_exact}
+use Rattle.drl_phrase.proofs.ShapeLaws.{optional_sound, optional_again, optional_shorter}
 use Rattle.drl_action.specs.declared.word.ActionWord.{ActionWord}
 use Rattle.drl_action.specs.declared.word.ActionWord.TheVariants.{InsertWord, ModifyWord, RetractWord}
 use Rattle.drl_action.specs.Reading.{assign_at, action_word, insert_at, modify_at, retract_at, action_at}
 use Rattle.drl_action.proofs.SetterLaws.{setter_sound, setter_again}
 
-value_exact : Exact IsExpression expression_at 3
+value_exact : ExactPhrase IsExpression expression_at 3
 value_exact = carried expression_exact
 
 no_value : (rest : List TokenKind) → expression_at (Mark CloseParenthesis ∷ rest) ≡ None
 unfolding expression_at expr_at term_at factor_at opening_at atom_at
 no_value rest = refl
 
-values_exact : Exact (Listed IsExpression) (listed_at expression_at) 0
+values_exact : ExactPhrase (Listed IsExpression) (listed_at expression_at) 0
 values_exact = listed_exact (omega arith) value_exact no_value
 
 -- ---- assignments
 
-pub assign_exact : Exact IsAssign assign_at 3
+pub assign_exact : ExactPhrase IsAssign assign_at 3
 unfolding assign_at
 assign_exact = record { sound = sound; again = again; shorter = shorter }
   where
@@ -45,7 +47,7 @@ assign_exact = record { sound = sound; again = again; shorter = shorter }
         closed_then p.CloseParenthesis IsExpression e.0 ts (f, e.0) e.1 IsAssign _ he (λ rest hr. g.by_setter h hf hr))))
     sound ts = tt
 
-    again : (x : List ℕ × Tree) (ts rest : List TokenKind) → IsAssign x ts rest → 3 ≤ binds rest → assign_at ts ≡ Some (x, rest)
+    again : (x : List ℕ × Tree) (ts rest : List TokenKind) → IsAssign x ts rest → 3 ≤ phrase_binds rest → assign_at ts ≡ Some (x, rest)
     again x ts rest (g.by_name {f} {e} {ts = es} h he) stop = rw (ident_is f _ h, value_exact.again e es rest he stop) refl
     again x ts rest (g.by_setter {word} {f} {e} {ts = es} h hf he) stop =
         rw (ident_is word _ h, setter_again f word hf, value_exact.again e es (Mark CloseParenthesis ∷ rest) he (omega arith), closed_is {A = List ℕ × Tree} p.CloseParenthesis (f, e) rest) refl
@@ -54,7 +56,7 @@ assign_exact = record { sound = sound; again = again; shorter = shorter }
     shorter x ts rest (g.by_name {e} {ts = es} h he) = let less = value_exact.shorter e es rest he in omega arith
     shorter x ts rest (g.by_setter {e} {ts = es} h hf he) = let less = value_exact.shorter e es (Mark CloseParenthesis ∷ rest) he in omega arith
 
-assigns_exact : Exact (Separated (Mark Comma) IsAssign) (separated_at assign_at p.Comma) 6
+assigns_exact : ExactPhrase (Separated (Mark Comma) IsAssign) (separated_at assign_at p.Comma) 6
 assigns_exact = separated_exact p.Comma (omega arith) assign_exact
 
 -- ---- actions
@@ -98,7 +100,7 @@ bare_sound InsertWord ts = insert_sound ts
 bare_sound ModifyWord ts = modify_sound ts
 bare_sound RetractWord ts = retract_sound ts
 
-pub action_exact : Exact IsAction action_at 7
+pub action_exact : ExactPhrase IsAction action_at 7
 unfolding action_at action_word insert_at modify_at retract_at
 action_exact = record { sound = sound; again = again; shorter = shorter }
   where
@@ -107,7 +109,7 @@ action_exact = record { sound = sound; again = again; shorter = shorter }
         then (IsBare word) ts (behind_word_at word ts) _ IsAction _ (bare_sound word ts) (λ x hx. rw is (hx (optional_at p.Semicolon x.1) (optional_sound p.Semicolon x.1))))
     sound ts = tt
 
-    again : (x : ActTree) (ts rest : List TokenKind) → IsAction x ts rest → 7 ≤ binds rest → action_at ts ≡ Some (x, rest)
+    again : (x : ActTree) (ts rest : List TokenKind) → IsAction x ts rest → 7 ≤ phrase_binds rest → action_at ts ≡ Some (x, rest)
     again x ts rest (g.insert {ty} {es} {ts = inner} {behind} h hes ho) stop =
         rw (ident_is ty _ h, values_exact.again es inner (Mark CloseParenthesis ∷ behind) hes (omega arith), closed_is p.CloseParenthesis (Insert ty es) behind, optional_again p.Semicolon behind rest ho (omega arith)) refl
     again x ts rest (g.modify {v} {sets} {ts = inner} {behind} hs ho) stop =

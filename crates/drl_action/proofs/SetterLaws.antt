@@ -1,5 +1,6 @@
 -- What is read as a setter is one, and a setter is read.
-use Rattle.drl_action.proofs.Common.{◌≡◌, ◌&&◌, ℕ, Bool, true, false, cond, List, [], ◌∷◌, ◌++◌, take, drop, Some, None, refl, sym, ap, ◌∙◌, IfSome, codes, bytes_eq, bytes_eq-Decides, small, IsSetter, setter, field_named}
+use Rattle.drl_action.proofs.Common.{◌≡◌, ◌&&◌, ℕ, Bool, true, false, cond, List, [], ◌∷◌, ◌++◌, take, drop, Some, None, refl, sym, ap, ◌∙◌, IfSome, codes}
+use Rattle.drl_action.proofs.Common.{bytes_eq, bytes_eq-Decides, small, IsSetter, setter, set_field_named}
 use Rattle.std.proofs.lemmas.List.{take-append-drop}
 use Rattle.drl_lex.specs.Bytes.{begins_word}
 use Rattle.drl_expr.specs.Words.{is_ident}
@@ -11,11 +12,11 @@ named_sound b bytes word true true first e is = rw is (setter first e)
 named_sound b bytes word true false first e is = tt
 named_sound b bytes word false ok first e is = tt
 
-field_sound : (word behind : List ℕ) → word ≡ codes "set" ++ behind → IfSome (field_named behind) (λ f. IsSetter f word)
+field_sound : (word behind : List ℕ) → word ≡ codes "set" ++ behind → IfSome (set_field_named behind) (λ f. IsSetter f word)
 field_sound word [] is = tt
 field_sound word (b ∷ bytes) is = named_sound b bytes word (begins_word (small b)) (is_ident (small b ∷ bytes)) refl refl is
 
-set_sound : (word : List ℕ) (set : Bool) → bytes_eq (take 3 word) (codes "set") ≡ set → IfSome (cond set (field_named (drop 3 word)) None) (λ f. IsSetter f word)
+set_sound : (word : List ℕ) (set : Bool) → bytes_eq (take 3 word) (codes "set") ≡ set → IfSome (cond set (set_field_named (drop 3 word)) None) (λ f. IsSetter f word)
 set_sound word true e = field_sound word (drop 3 word) (sym (take-append-drop 3 word) ∙ ap (λ (front : List ℕ). front ++ drop 3 word) ((bytes_eq-Decides (take 3 word) (codes "set")).0 e))
 set_sound word false e = tt
 

@@ -24,13 +24,13 @@ abbrev pub named : ℕ → List ℕ → Option (List ℕ)
 named b bytes = if begins_word b && is_ident (b ∷ bytes) then Some (b ∷ bytes) else None
 
 -- the field of a name that stands behind `set`
-abbrev pub field_named : List ℕ → Option (List ℕ)
-field_named [] = None
-field_named (b ∷ bytes) = named (small b) bytes
+abbrev pub set_field_named : List ℕ → Option (List ℕ)
+set_field_named [] = None
+set_field_named (b ∷ bytes) = named (small b) bytes
 
 -- the field that a word names as a setter
 unfoldable pub setter_at : List ℕ → Option (List ℕ)
-setter_at word = if bytes_eq (take 3 word) (codes "set") then field_named (drop 3 word) else None
+setter_at word = if bytes_eq (take 3 word) (codes "set") then set_field_named (drop 3 word) else None
 
 -- ---- assignments
 

@@ -1,5 +1,9 @@
 -- The first failure as a function is the first failure as a relation.
-use Rattle.drl_check.proofs.Common.{◌≡◌, ◌↔◌, inl, inr, ◌+◌, ◌++◌, ◌∷◌, ℕ, Bool, true, false, List, [], length, Option, Some, None, cond, refl, sym, ap, subst, ◌∙◌, append_assoc, length-append, arith, append-nil, same_Some, Body, File, Item, CheckCode, TwiceDeclared, LimitPassed, UnknownType, UnknownField, UnknownVariable, WrongKind, NotAnEvent, BadTimestamp, BadReference, EventFixed, EventObserved, ReferenceFixed, BadParams, NeverMatches, Failure, codes_in_order, fails, first_code, FailsFirst, Passes, AllPass, IsAcceptedFile, IsFirstFailure, failure_at, failure_of}
+use Rattle.drl_check.proofs.Common.{◌≡◌, ◌↔◌, inl, inr, ◌+◌, ◌++◌, ◌∷◌, ℕ, Bool, true, false, List, [], length, Option, Some, None, cond, refl, sym, ap, subst}
+use Rattle.drl_check.proofs.Common.{◌∙◌, append_assoc, length-append, arith, append-nil, same_Some, Body, File, Item, CheckCode, TwiceDeclared, LimitPassed}
+use Rattle.drl_check.proofs.Common.{UnknownType, UnknownField, UnknownVariable, WrongKind, NotAnEvent, BadTimestamp, BadReference, EventFixed, EventObserved}
+use Rattle.drl_check.proofs.Common.{ReferenceFixed, BadParams, NeverMatches, Failure, codes_in_order, fails, first_code, FailsFirst, PassesChecks, AllPass}
+use Rattle.drl_check.proofs.Common.{IsAcceptedFile, IsFirstFailure, failure_at, failure_of}
 use Rattle.drl_check.specs.Checks.{failure_from}
 
 -- ---- codes
@@ -13,7 +17,7 @@ module _ (all before : List Item) (b : Body) where
       → fails UnknownField all before b ≡ false → fails UnknownVariable all before b ≡ false → fails WrongKind all before b ≡ false → fails NotAnEvent all before b ≡ false
       → fails BadTimestamp all before b ≡ false → fails BadReference all before b ≡ false → fails EventFixed all before b ≡ false → fails EventObserved all before b ≡ false
       → fails ReferenceFixed all before b ≡ false → fails BadParams all before b ≡ false → fails NeverMatches all before b ≡ false
-      → Passes all before b
+      → PassesChecks all before b
   by_code q r s t u v w x y z k l m n TwiceDeclared = q
   by_code q r s t u v w x y z k l m n LimitPassed = r
   by_code q r s t u v w x y z k l m n UnknownType = s
@@ -29,7 +33,7 @@ module _ (all before : List Item) (b : Body) where
   by_code q r s t u v w x y z k l m n BadParams = m
   by_code q r s t u v w x y z k l m n NeverMatches = n
 
-  passes_of : first_code codes_in_order all before b ≡ None → Passes all before b
+  passes_of : first_code codes_in_order all before b ≡ None → PassesChecks all before b
   passes_of e =
       let q = none_split (fails TwiceDeclared all before b) TwiceDeclared (first_code (LimitPassed ∷ UnknownType ∷ UnknownField ∷ UnknownVariable ∷ WrongKind ∷ NotAnEvent ∷ BadTimestamp ∷ BadReference ∷ EventFixed ∷ EventObserved ∷ ReferenceFixed ∷ BadParams ∷ NeverMatches ∷ []) all before b) e in
       let r = none_split (fails LimitPassed all before b) LimitPassed (first_code (UnknownType ∷ UnknownField ∷ UnknownVariable ∷ WrongKind ∷ NotAnEvent ∷ BadTimestamp ∷ BadReference ∷ EventFixed ∷ EventObserved ∷ ReferenceFixed ∷ BadParams ∷ NeverMatches ∷ []) all before b) q.1 in
@@ -47,7 +51,7 @@ module _ (all before : List Item) (b : Body) where
       let n = none_split (fails NeverMatches all before b) NeverMatches None m.1 in
       by_code q.0 r.0 s.0 t.0 u.0 v.0 w.0 x.0 y.0 z.0 k.0 l.0 m.0 n.0
 
-  none_of : (cs : List CheckCode) → Passes all before b → first_code cs all before b ≡ None
+  none_of : (cs : List CheckCode) → PassesChecks all before b → first_code cs all before b ≡ None
   none_of [] p = refl
   none_of (c ∷ cs) p = ap (λ v. cond v (Some c) (first_code cs all before b)) (p c) ∙ none_of cs p
 
@@ -91,7 +95,7 @@ record Found (all before items : List Item) (f : Failure) : Type 0 where
   pub item : Item
   pub after : List Item
   pub parts : items ≡ front ++ (item ∷ after)
-  pub earlier : (a : List Item) (p : Item) (c : List Item) → front ≡ a ++ (p ∷ c) → Passes all (before ++ a) p.body
+  pub earlier : (a : List Item) (p : Item) (c : List Item) → front ≡ a ++ (p ∷ c) → PassesChecks all (before ++ a) p.body
   pub number_is : f.number ≡ length before + length front + 1
   pub line_is : f.line ≡ item.line
   pub first : FailsFirst codes_in_order f.code all (before ++ front) item.body
@@ -103,15 +107,15 @@ nothing_before (x ∷ a) p c e = cc
 one_more : (before : List Item) (item : Item) (a : List Item) → (before ++ item ∷ []) ++ a ≡ before ++ (item ∷ a)
 one_more before item a = append_assoc before (item ∷ []) a
 
-earlier_more : (all before front : List Item) (item : Item) → Passes all before item.body → ((a : List Item) (p : Item) (c : List Item) → front ≡ a ++ (p ∷ c) → Passes all ((before ++ item ∷ []) ++ a) p.body)
-    → (a : List Item) (p : Item) (c : List Item) → item ∷ front ≡ a ++ (p ∷ c) → Passes all (before ++ a) p.body
+earlier_more : (all before front : List Item) (item : Item) → PassesChecks all before item.body → ((a : List Item) (p : Item) (c : List Item) → front ≡ a ++ (p ∷ c) → PassesChecks all ((before ++ item ∷ []) ++ a) p.body)
+    → (a : List Item) (p : Item) (c : List Item) → item ∷ front ≡ a ++ (p ∷ c) → PassesChecks all (before ++ a) p.body
 earlier_more all before front item passes more [] p c e =
     let h : item ≡ p = cc in
-    subst (λ (i : Item). Passes all (before ++ []) i.body) h (subst (λ (bs : List Item). Passes all bs item.body) (sym (append-nil before)) passes)
+    subst (λ (i : Item). PassesChecks all (before ++ []) i.body) h (subst (λ (bs : List Item). PassesChecks all bs item.body) (sym (append-nil before)) passes)
 earlier_more all before front item passes more (x ∷ a) p c e =
     let h : item ≡ x = cc in
     let t : front ≡ a ++ (p ∷ c) = cc in
-    subst (λ (i : Item). Passes all (before ++ (i ∷ a)) p.body) h (subst (λ (bs : List Item). Passes all bs p.body) (one_more before item a) (more a p c t))
+    subst (λ (i : Item). PassesChecks all (before ++ (i ∷ a)) p.body) h (subst (λ (bs : List Item). PassesChecks all bs p.body) (one_more before item a) (more a p c t))
 
 found_at : (all before items : List Item) (item : Item) (f : Failure) (o : Option CheckCode) → first_code codes_in_order all before item.body ≡ o
     → failure_at (length before + 1) item.line o (failure_from all (before ++ item ∷ []) items) ≡ Some f → (failure_from all (before ++ item ∷ []) items ≡ Some f → Found all (before ++ item ∷ []) items f)
@@ -147,7 +151,7 @@ unfolding failure_from
 found all before [] f e = absurd cc
 found all before (item ∷ items) f e = found_at all before items item f (first_code codes_in_order all before item.body) refl e (found all (before ++ item ∷ []) items f)
 
-refound : (all before front : List Item) (item : Item) (after : List Item) (f : Failure) → ((a : List Item) (p : Item) (c : List Item) → front ≡ a ++ (p ∷ c) → Passes all (before ++ a) p.body)
+refound : (all before front : List Item) (item : Item) (after : List Item) (f : Failure) → ((a : List Item) (p : Item) (c : List Item) → front ≡ a ++ (p ∷ c) → PassesChecks all (before ++ a) p.body)
     → f.number ≡ length before + length front + 1 → f.line ≡ item.line → FailsFirst codes_in_order f.code all (before ++ front) item.body → failure_from all before (front ++ (item ∷ after)) ≡ Some f
 unfolding failure_from
 refound all before [] item after f earlier n l first =
@@ -157,10 +161,10 @@ refound all before [] item after f earlier n l first =
     ap (λ o. failure_at (length before + 1) item.line o (failure_from all (before ++ item ∷ []) after)) (is_first all before item.body codes_in_order f.code h)
     ∙ ap (λ n. Some (made n item.line)) number ∙ ap (λ l. Some (made f.number l)) (sym l)
 refound all before (x ∷ front) item after f earlier n l first =
-    let passes : Passes all before x.body = subst (λ (bs : List Item). Passes all bs x.body) (append-nil before) (earlier [] x front refl) in
+    let passes : PassesChecks all before x.body = subst (λ (bs : List Item). PassesChecks all bs x.body) (append-nil before) (earlier [] x front refl) in
     ap (λ o. failure_at (length before + 1) x.line o (failure_from all (before ++ x ∷ []) (front ++ (item ∷ after)))) (none_of all before x.body codes_in_order passes)
     ∙ refound all (before ++ x ∷ []) front item after f
-    (λ a p c e. subst (λ (bs : List Item). Passes all bs p.body) (sym (one_more before x a)) (earlier (x ∷ a) p c (ap (λ zs. x ∷ zs) e)))
+    (λ a p c e. subst (λ (bs : List Item). PassesChecks all bs p.body) (sym (one_more before x a)) (earlier (x ∷ a) p c (ap (λ zs. x ∷ zs) e)))
     (omega (arith, n, length-append before (x ∷ []))) l
     (subst (λ (bs : List Item). FailsFirst codes_in_order f.code all bs item.body) (sym (one_more before x front)) first)
 

@@ -1,10 +1,14 @@
 -- The first failure of a list of items, read from its front.
-use Rattle.drl_check.proofs.Common.{◌≡◌, ◌+◌, ◌++◌, ◌∷◌, ◌<◌, ◌≤◌, ℕ, zero, suc, List, [], length, get_or, take, drop, Some, None, refl, sym, ap, ◌∙◌, append_assoc, add-one, drop-cons, arith, flat_map, append-nil, length-map, length-take-le, map-append, Body, Item, TypeTree, RuleTree, Program, CheckCode, types_of, rules_of, type_in, rule_in, type_names, rule_names, entries_named, entries_declared, declared_entries, default_name, with_names, entry_names, types_alone, Failure, codes_in_order, first_code, failure_at}
+use Rattle.drl_check.proofs.Common.{◌≡◌, ◌+◌, ◌++◌, ◌∷◌, ◌<◌, ◌≤◌, ℕ, zero, suc, List, [], length, get_or, take, drop, Some, None, refl, sym, ap, ◌∙◌}
+use Rattle.drl_check.proofs.Common.{append_assoc, add-one, arith, flat_map, append-nil, length-map, length-take-le, map-append, Body, Item, TypeTree, RuleTree}
+use Rattle.drl_check.proofs.Common.{Program, CheckCode, types_of, rules_of, type_in, rule_in, type_names, rule_names, entries_named, entries_declared}
+use Rattle.drl_check.proofs.Common.{declared_entries, default_name, with_names, entry_names, types_alone, Failure, codes_in_order, first_code, failure_at}
 use Rattle.drl_sight.specs.Observed.{watched_names}
 use Rattle.drl_sight.proofs.EntryLemmas.{with_both}
 use Rattle.drl_check.specs.Checks.{failure_from}
 use Rattle.drl_check.specs.Failing.{first_failing}
 use Rattle.drl_check.proofs.Alone.{same_alone}
+use Rattle.fx_base.proofs.Sequences.{drop_at, drop_past}
 
 take_suc : {A : Type 0} (all : List A) (k : ℕ) (x : A) → k < length all → x ≡ get_or all k x → take (suc k) all ≡ take k all ++ x ∷ []
 take_suc [] k x lt e = absurd (omega (arith, lt))
@@ -13,15 +17,6 @@ take_suc (y ∷ all) (suc k) x lt e = let less : k < length all = omega (arith, 
 
 pub take_next : {A : Type 0} (all : List A) (k : ℕ) (x : A) → k < length all → x ≡ get_or all k x → take (k + 1) all ≡ take k all ++ x ∷ []
 take_next all k x lt e = rw add-one (take_suc all k x lt e)
-
-pub drop_next : {A : Type 0} (all : List A) (k : ℕ) (x : A) → k < length all → x ≡ get_or all k x → drop k all ≡ x ∷ drop (k + 1) all
-drop_next all k x lt e = rw (add-one, drop-cons all k x lt) (ap (λ z. z ∷ drop (suc k) all) (sym e))
-
-pub drop_end : {A : Type 0} (all : List A) (k : ℕ) → length all ≤ k → drop k all ≡ []
-drop_end [] zero le = refl
-drop_end [] (suc k) le = refl
-drop_end (x ∷ all) zero le = absurd (omega (arith, le))
-drop_end (x ∷ all) (suc k) le = drop_end all k (omega (arith, le))
 
 pub types_next : (before : List Item) (item : Item) → types_of (before ++ item ∷ []) ≡ types_of before ++ type_in item.body
 types_next [] item = append-nil (type_in item.body)
@@ -88,7 +83,7 @@ pub loop_found : (all : List Item) (k : ℕ) (item : Item) (code : CheckCode) �
 unfolding failure_from
 loop_found all k item code lt e h =
     let n : length (take k all) ≡ k = length-take-le k all (omega (arith, lt)) in
-    ap (failure_from all (take k all)) (drop_next all k item lt e)
+    ap (failure_from all (take k all)) (drop_at all k item lt e)
     ∙ ap (λ o. failure_at (length (take k all) + 1) item.line o (failure_from all (take k all ++ item ∷ []) (drop (k + 1) all))) h
     ∙ ap (λ j. Some (failure (j + 1) item.line code)) n
 
@@ -96,10 +91,10 @@ pub loop_passed : (all : List Item) (k : ℕ) (item : Item) → k < length all �
     → failure_from all (take k all) (drop k all) ≡ failure_from all (take (k + 1) all) (drop (k + 1) all)
 unfolding failure_from
 loop_passed all k item lt e h =
-    ap (failure_from all (take k all)) (drop_next all k item lt e)
+    ap (failure_from all (take k all)) (drop_at all k item lt e)
     ∙ ap (λ o. failure_at (length (take k all) + 1) item.line o (failure_from all (take k all ++ item ∷ []) (drop (k + 1) all))) h
     ∙ ap (λ before. failure_from all before (drop (k + 1) all)) (sym (take_next all k item lt e))
 
 pub loop_ended : (all before : List Item) (k : ℕ) → length all ≤ k → failure_from all before (drop k all) ≡ None
 unfolding failure_from
-loop_ended all before k le = ap (failure_from all before) (drop_end all k le)
+loop_ended all before k le = ap (failure_from all before) (drop_past all k le)

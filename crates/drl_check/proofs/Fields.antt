@@ -1,10 +1,13 @@
 -- Each field of a type of an accepted file stands once, so that an insert takes a value for each.
-use Rattle.drl_check.proofs.Common.{◌≡◌, ◌++◌, ◌∷◌, ◌||◌, ℕ, zero, suc, Bool, true, false, not, List, [], map, slice_get, Some, refl, sym, ap, subst, ◌∙◌, list_all, filter, bytes_eq, Body, Item, TypeTree, types_of, rules_of, type_in, type_names, rule_names, field_names, declared_entries, is_among, word_kind, taken_by, TwiceDeclared, AllPass, meta_word, is_repeated}
+use Rattle.drl_check.proofs.Common.{◌≡◌, ◌++◌, ◌∷◌, ◌||◌, ℕ, zero, suc, Bool, true, false, not, List, [], map, slice_get, Some, refl, sym, ap, subst, ◌∙◌}
+use Rattle.drl_check.proofs.Common.{list_all, filter, bytes_eq, Body, Item, TypeTree, types_of, rules_of, type_in, type_names, rule_names, field_names}
+use Rattle.drl_check.proofs.Common.{declared_entries, is_among, word_kind, taken_by, TwiceDeclared, AllPass, annotation_word, is_repeated}
+use Rattle.std.proofs.lemmas.Bool.{and_from, not-false, not-true}
 use Rattle.std.specs.Cmp.Lexicographic.{bytes_decides}
 use Rattle.drl_grammar.specs.declared.file.Body.TheVariants as body
 use Rattle.drl_sight.specs.Names.{are_distinct}
 use Rattle.drl_uses.specs.Kinds.{fields_once}
-use Rattle.drl_check.proofs.Sound.{and_left, and_right, both, or_left, or_right}
+use Rattle.fx_base.proofs.Tests.{and_first, and_second, or_first_false, or_second_false}
 
 -- ---- names
 
@@ -15,10 +18,6 @@ same_bytes a b e = by (bytes_eq b a) refl
     by true h = absurd (let n : true ≡ false = sym ((bytes_decides a b).1 (sym ((bytes_decides b a).0 h))) ∙ e in cc)
     by false h = h
 
-denied : (a : Bool) → not a ≡ true → a ≡ false
-denied false e = refl
-denied true e = absurd cc
-
 -- ---- fields that stand once
 
 -- where no field has the name, the fields of other names are all
@@ -27,8 +26,8 @@ others_kept : (name : List ℕ) (fields : List (List ℕ × List ℕ)) → is_am
 others_kept name [] e = refl
 others_kept name (field ∷ fields) e =
     let names = map (λ (field : List ℕ × List ℕ). field.0) fields in
-    let other = same_bytes name field.0 (or_left (bytes_eq name field.0) (is_among names name) e) in
-    rw other (ap (λ (rest : List (List ℕ × List ℕ)). field ∷ rest) (others_kept name fields (or_right (bytes_eq name field.0) (is_among names name) e)))
+    let other = same_bytes name field.0 (or_first_false (bytes_eq name field.0) (is_among names name) e) in
+    rw other (ap (λ (rest : List (List ℕ × List ℕ)). field ∷ rest) (others_kept name fields (or_second_false (bytes_eq name field.0) (is_among names name) e)))
 
 once_apart : (fields : List (List ℕ × List ℕ)) → are_distinct (map (λ (field : List ℕ × List ℕ). field.0) fields) ≡ true → fields_once fields ≡ fields
 unfolding are_distinct fields_once
@@ -38,7 +37,7 @@ once_apart (field ∷ fields) d =
     let others = λ (other : List ℕ × List ℕ). not (bytes_eq other.0 field.0) in
     let again = is_among names field.0 in
     ap (λ (rest : List (List ℕ × List ℕ)). field ∷ rest)
-    (ap (filter others) (once_apart fields (and_right (not again) (are_distinct names) d)) ∙ others_kept field.0 fields (denied again (and_left (not again) (are_distinct names) d)))
+    (ap (filter others) (once_apart fields (and_second (not again) (are_distinct names) d)) ∙ others_kept field.0 fields (not-true again (and_first (not again) (are_distinct names) d)))
 
 -- an insert takes a value for each field
 pub kinds_taken : (t : TypeTree) → are_distinct (field_names t) ≡ true → taken_by t ≡ map word_kind t.fields
@@ -52,15 +51,11 @@ HaveFieldsApart types = (ty : ℕ) (t : TypeTree) → slice_get types ty ≡ Som
 abbrev has_fields_apart : TypeTree → Bool
 has_fields_apart t = are_distinct (field_names t)
 
-undenied : (a : Bool) → not a ≡ false → a ≡ true
-undenied true e = refl
-undenied false e = absurd cc
-
 body_apart : (types entries rules : List (List ℕ)) (b : Body) (rest : List TypeTree) → is_repeated types entries rules b ≡ false → list_all has_fields_apart rest ≡ true
     → list_all has_fields_apart (type_in b ++ rest) ≡ true
 body_apart types entries rules (body.Declare t) rest e h =
-    let front = is_among types t.name || not (are_distinct (map meta_word t.metas)) in
-    both (has_fields_apart t) (list_all has_fields_apart rest) (undenied (has_fields_apart t) (or_right front (not (has_fields_apart t)) e)) h
+    let front = is_among types t.name || not (are_distinct (map annotation_word t.metas)) in
+    and_from (has_fields_apart t) (list_all has_fields_apart rest) (not-false (has_fields_apart t) (or_second_false front (not (has_fields_apart t)) e)) h
 body_apart types entries rules (body.Rule r) rest e h = h
 body_apart types entries rules (body.Package p) rest e h = h
 body_apart types entries rules (body.Import p s) rest e h = h
@@ -76,5 +71,5 @@ pub apart_at : (types : List TypeTree) → list_all has_fields_apart types ≡ t
 apart_at [] h ty t e = absurd cc
 apart_at (x ∷ types) h zero t e =
     let same : x ≡ t = cc in
-    subst (λ (t : TypeTree). are_distinct (field_names t) ≡ true) same (and_left (has_fields_apart x) (list_all has_fields_apart types) h)
-apart_at (x ∷ types) h (suc ty) t e = apart_at types (and_right (has_fields_apart x) (list_all has_fields_apart types) h) ty t e
+    subst (λ (t : TypeTree). are_distinct (field_names t) ≡ true) same (and_first (has_fields_apart x) (list_all has_fields_apart types) h)
+apart_at (x ∷ types) h (suc ty) t e = apart_at types (and_second (has_fields_apart x) (list_all has_fields_apart types) h) ty t e

@@ -1,13 +1,19 @@
 -- The expressions of an action have in the program the kinds that the checks find.
-use Rattle.drl_check.proofs.Common.{◌≡◌, ◌≤◌, ◌∷◌, ◌&&◌, ℕ, min, Bool, true, false, List, [], map, length, slice_get, Option, Some, None, option_map, refl, ap, ◌∙◌, arith, list_all, list_any, option_and_then, slice_get-map, slice_get_within, Tree, lit, var, var_field, neg, add, sub, mul, TypeTree, Expression, is_kind, fields_in, bound_fields, kind_in, expression_kind, set_of_kind, place_of, field_names, kind_of, kind_at, Meaning, of_fact, of_field, of_result, Sight, meaning_of, small_place, field_place, kind_or_int, field_info, type_info, variable_value, variable_field_value, expression_in, set_in, is_number, number_where, tree_kind, set_misfits, word_kind}
+use Rattle.drl_check.proofs.Common.{◌≡◌, ◌≤◌, ◌∷◌, ◌&&◌, ℕ, min, Bool, true, false, List, [], map, length, slice_get, Option, Some, None, option_map, refl, ap}
+use Rattle.drl_check.proofs.Common.{◌∙◌, arith, list_all, list_any, option_and_then, slice_get-map, slice_get_within, Tree, lit, var, var_field, neg, add, sub}
+use Rattle.drl_check.proofs.Common.{mul, TypeTree, Expression, is_kind, fields_in, bound_fields, kind_in, expression_kind, set_of_kind, place_of_name}
+use Rattle.drl_check.proofs.Common.{field_names, kind_by_word, kind_at, Meaning, of_fact, of_field, of_result, Sight, meaning_of, small_place, field_place}
+use Rattle.drl_check.proofs.Common.{kind_or_int, field_info, type_info, variable_value, variable_field_value, expression_in, set_in, is_number, number_where}
+use Rattle.drl_check.proofs.Common.{tree_kind, set_misfits, word_kind}
+use Rattle.std.proofs.lemmas.Bool.{and_from}
 use Rattle.fx_base.specs.declared.kind.Kind.{Kind}
 use Rattle.fx_base.specs.declared.kind.Kind.TheVariants as kind
 use Rattle.drl_expr.specs.declared.literal.LitTree.TheVariants as literal
 use Rattle.rule_world.specs.Typed.{args_fit}
 use Rattle.drl_sight.specs.Meanings.{field_kind, variable_kind, variable_field_kind}
 use Rattle.drl_uses.specs.Kinds.{args_misfit}
-use Rattle.drl_check.proofs.Sound.{both, or_left, or_right}
 use Rattle.drl_check.proofs.Places.{type_taken, Stands, got, taken_of}
+use Rattle.fx_base.proofs.Tests.{or_first_false, or_second_false}
 
 -- ---- kinds
 
@@ -68,7 +74,7 @@ module _ (names : List (List ℕ)) (types : List TypeTree) (taken : List ℕ) (s
   field_there : (t : TypeTree) (k : ℕ) (found : Kind) → length t.fields ≤ 32 → kind_at t k ≡ Some found
       → (field : List ℕ × Kind) × (slice_get (map field_info t.fields) (min k 255) ≡ Some field) × (field.1 ≡ found)
   field_there t k found few e =
-      let h = got (λ (field : List ℕ × List ℕ). kind_of field.1) (slice_get t.fields k) found e in
+      let h = got (λ (field : List ℕ × List ℕ). kind_by_word field.1) (slice_get t.fields k) found e in
       let less = slice_get_within t.fields k h.0 h.1 in
       let same : min k 255 ≡ k = omega (arith, less, few) in
       (field_info h.0, ap (slice_get (map field_info t.fields)) same ∙ slice_get-map field_info t.fields k ∙ ap (option_map field_info) h.1, ap kind_or_int h.2)
@@ -104,7 +110,7 @@ module _ (names : List (List ℕ)) (types : List TypeTree) (taken : List ℕ) (s
   variable_field_has (Some (of_result result)) f found stands e = absurd cc
   variable_field_has (Some (of_fact fact t)) f found stands e =
       let same : field_kind t f ≡ Some found = cc in
-      named_has fact t (place_of (field_names t) f) found (stands (of_fact fact t) refl) same
+      named_has fact t (place_of_name (field_names t) f) found (stands (of_fact fact t) refl) same
 
   -- an expression that has a kind has it in the program
   expression_has : (e : Tree) (found : Kind) → tree_kind sight e ≡ Some (Some found) → expression_kind fields (expression_in sight e) ≡ Some found
@@ -133,9 +139,9 @@ module _ (names : List (List ℕ)) (types : List TypeTree) (taken : List ℕ) (s
   args_are_fit [] (e ∷ es) h = absurd cc
   args_are_fit (f ∷ fs) [] h = absurd cc
   args_are_fit (f ∷ fs) (e ∷ es) h =
-      both (is_kind (kind_or_int (kind_of f.1)) (expression_kind fields (expression_in sight e))) (args_fit fields (map field_info fs) (map (expression_in sight) es))
-      (arg_fits (kind_of f.1) e (or_left (set_misfits (kind_of f.1) (tree_kind sight e)) (args_misfit sight (map word_kind fs) es) h))
-      (args_are_fit fs es (or_right (set_misfits (kind_of f.1) (tree_kind sight e)) (args_misfit sight (map word_kind fs) es) h))
+      and_from (is_kind (kind_or_int (kind_by_word f.1)) (expression_kind fields (expression_in sight e))) (args_fit fields (map field_info fs) (map (expression_in sight) es))
+      (arg_fits (kind_by_word f.1) e (or_first_false (set_misfits (kind_by_word f.1) (tree_kind sight e)) (args_misfit sight (map word_kind fs) es) h))
+      (args_are_fit fs es (or_second_false (set_misfits (kind_by_word f.1) (tree_kind sight e)) (args_misfit sight (map word_kind fs) es) h))
 
   assigned_fits : (fact : ℕ) (t : TypeTree) (o : Option ℕ) (e : Tree) → type_taken types taken fact ≡ Some t → set_misfits (option_and_then (kind_at t) o) (tree_kind sight e) ≡ false
       → set_of_kind (slice_get (fields (min fact 255)) (small_place o)) (expression_kind fields (expression_in sight e)) ≡ true
@@ -155,7 +161,7 @@ module _ (names : List (List ℕ)) (types : List TypeTree) (taken : List ℕ) (s
   sets_are_fit fact t (set ∷ sets) h m =
       let one = set_misfits (field_kind t set.0) (tree_kind sight set.1) in
       let rest = list_any (λ (set : List ℕ × Tree). set_misfits (field_kind t set.0) (tree_kind sight set.1)) sets in
-      both (set_of_kind (slice_get (fields (min fact 255)) (field_place t set.0)) (expression_kind fields (expression_in sight set.1)))
+      and_from (set_of_kind (slice_get (fields (min fact 255)) (field_place t set.0)) (expression_kind fields (expression_in sight set.1)))
       (list_all (λ (set : ℕ × Expression). set_of_kind (slice_get (fields (min fact 255)) set.0) (expression_kind fields set.1)) (map (set_in t sight) sets))
-      (assigned_fits fact t (place_of (field_names t) set.0) set.1 h (or_left one rest m))
-      (sets_are_fit fact t sets h (or_right one rest m))
+      (assigned_fits fact t (place_of_name (field_names t) set.0) set.1 h (or_first_false one rest m))
+      (sets_are_fit fact t sets h (or_second_false one rest m))

@@ -1,6 +1,12 @@
 -- Each temporal test of a rule names a fact that an earlier condition binds, where the rule names no unknown type or variable and no
 -- value where a fact is needed.
-use Rattle.drl_check.proofs.Common.{◌≡◌, ◌<◌, ◌+◌, ◌++◌, ◌∷◌, ◌||◌, ℕ, zero, suc, Bool, true, false, not, List, [], take, slice_get, Option, Some, None, is_some, cond, refl, subst, arith, All, list_any, flat_map, bytes_eq, All-nil, All-cons, All-append, All-weaker, CondTree, Part, SourceTree, TypeTree, Condition, TimeTest, bindings, NameEarlier, place_of, type_named, field_names, Meaning, of_fact, of_field, of_result, Sight, seen_fact, seen_field, seen_in, seen_of, seen_result, Place, begin, behind, is_bound_by, fact_meant, time_test, times_in, condition_of, is_type_unknown, has_unknown_type, part_unseen, source_unseen, test_unseen, has_unknown_variable, is_value, part_misfits, source_misfits, argument_misfits, test_misfits, has_wrong_kind}
+use Rattle.drl_check.proofs.Common.{◌≡◌, ◌<◌, ◌+◌, ◌++◌, ◌∷◌, ◌||◌, ℕ, zero, suc, Bool, true, false, not, List, [], take, slice_get, Option, Some, None}
+use Rattle.drl_check.proofs.Common.{is_some, cond, refl, subst, arith, All, list_any, flat_map, bytes_eq, All-nil, All-cons, All-append, All-weaker, CondTree}
+use Rattle.drl_check.proofs.Common.{Part, SourceTree, TypeTree, Condition, TimeTest, bindings, NameEarlier, place_of_name, type_tree_named, field_names}
+use Rattle.drl_check.proofs.Common.{Meaning, of_fact, of_field, of_result, Sight, seen_fact, seen_field, seen_in, seen_of, seen_result, Place, begin, behind}
+use Rattle.drl_check.proofs.Common.{is_bound_by, fact_meant, time_test, time_tests_in, condition_meant, is_type_unknown, has_unknown_type, part_unseen}
+use Rattle.drl_check.proofs.Common.{source_unseen, test_unseen, has_unknown_variable, is_value, part_misfits, source_misfits, argument_misfits, test_misfits}
+use Rattle.drl_check.proofs.Common.{has_wrong_kind}
 use Rattle.drl_grammar.specs.declared.condition.CondTree.TheVariants as tree
 use Rattle.drl_grammar.specs.declared.condition.Part.TheVariants as part
 use Rattle.temporal_ops.specs.declared.edge.OpEdge.{OpEdge}
@@ -8,9 +14,9 @@ use Rattle.rule_model.specs.declared.condition.Condition.TheVariants as conditio
 use Rattle.rule_model.specs.Rows.{pattern_of}
 use Rattle.drl_sight.specs.Sight.{meaning_of}
 use Rattle.drl_program.specs.Operators.{operator_of}
-use Rattle.drl_program.specs.Programs.{conditions_of}
+use Rattle.drl_program.specs.Programs.{conditions_meant}
 use Rattle.drl_uses.specs.Uses.{any_condition}
-use Rattle.drl_check.proofs.Sound.{or_left, or_right}
+use Rattle.fx_base.proofs.Tests.{or_first_false, or_second_false}
 
 -- ---- a fact that a variable means is bound
 
@@ -50,7 +56,7 @@ field_bound fact t v None = tt
 field_bound fact t v (Some k) = (tt, tt)
 
 part_bound : (fact : ℕ) (t : TypeTree) (p : Part) → AllBound (fact + 1) (seen_in fact t p)
-part_bound fact t (part.Bind v f) = field_bound fact t v (place_of (field_names t) f)
+part_bound fact t (part.Bind v f) = field_bound fact t v (place_of_name (field_names t) f)
 part_bound fact t (part.Temporal op params other) = tt
 part_bound fact t (part.AnyOf groups) = tt
 
@@ -85,7 +91,7 @@ test_named : (facts fact : ℕ) (op : Option (List OpEdge)) → fact < facts →
 test_named facts fact None h = All-nil (Names facts)
 test_named facts fact (Some op) h = All-cons (Names facts) (record { op = op; fact = fact }) [] h (All-nil (Names facts))
 
-part_named : (facts : ℕ) (t : TypeTree) (sight : Sight) (p : Part) → AllBound facts sight → part_unseen sight p ≡ false → part_misfits t sight p ≡ false → All (Names facts) (times_in sight p)
+part_named : (facts : ℕ) (t : TypeTree) (sight : Sight) (p : Part) → AllBound facts sight → part_unseen sight p ≡ false → part_misfits t sight p ≡ false → All (Names facts) (time_tests_in sight p)
 part_named facts t sight (part.Bind v f) h e k = All-nil (Names facts)
 part_named facts t sight (part.Temporal word params other) h e k =
     test_named facts (fact_meant (meaning_of sight other)) (operator_of word params)
@@ -93,15 +99,15 @@ part_named facts t sight (part.Temporal word params other) h e k =
 part_named facts t sight (part.AnyOf groups) h e k = All-nil (Names facts)
 
 parts_named : (facts : ℕ) (t : TypeTree) (sight : Sight) (parts : List Part) → AllBound facts sight → list_any (part_unseen sight) parts ≡ false → list_any (part_misfits t sight) parts ≡ false
-    → All (Names facts) (flat_map (times_in sight) parts)
+    → All (Names facts) (flat_map (time_tests_in sight) parts)
 parts_named facts t sight [] h e k = All-nil (Names facts)
 parts_named facts t sight (p ∷ parts) h e k =
-    All-append (Names facts) (times_in sight p) (flat_map (times_in sight) parts)
-    (part_named facts t sight p h (or_left (part_unseen sight p) (list_any (part_unseen sight) parts) e) (or_left (part_misfits t sight p) (list_any (part_misfits t sight) parts) k))
-    (parts_named facts t sight parts h (or_right (part_unseen sight p) (list_any (part_unseen sight) parts) e) (or_right (part_misfits t sight p) (list_any (part_misfits t sight) parts) k))
+    All-append (Names facts) (time_tests_in sight p) (flat_map (time_tests_in sight) parts)
+    (part_named facts t sight p h (or_first_false (part_unseen sight p) (list_any (part_unseen sight) parts) e) (or_first_false (part_misfits t sight p) (list_any (part_misfits t sight) parts) k))
+    (parts_named facts t sight parts h (or_second_false (part_unseen sight p) (list_any (part_unseen sight) parts) e) (or_second_false (part_misfits t sight p) (list_any (part_misfits t sight) parts) k))
 
 source_named : (facts : ℕ) (o : Option TypeTree) (sight : Sight) (s : SourceTree) → AllBound facts sight → not (is_some o) ≡ false → source_unseen sight s ≡ false → source_misfits o sight s ≡ false
-    → All (Names facts) (flat_map (times_in sight) s.parts)
+    → All (Names facts) (flat_map (time_tests_in sight) s.parts)
 source_named facts None sight s h known e k = absurd (let n : true ≡ false = known in cc)
 source_named facts (Some t) sight s h known e k = parts_named facts t sight s.parts h e k
 
@@ -113,26 +119,26 @@ module _ (types : List TypeTree) (entries : List (List ℕ)) where
 
   agrees_behind : (place : Place) (c : CondTree) → Agrees place → Agrees (behind types place c)
   agrees_behind place (tree.Plain s) h =
-      both_bound (place.facts + 1) place.sight (seen_of place.facts s (type_named types s.ty)) (all_still_bound place.facts place.sight h) (source_bound place.facts s (type_named types s.ty))
+      both_bound (place.facts + 1) place.sight (seen_of place.facts s (type_tree_named types s.ty)) (all_still_bound place.facts place.sight h) (source_bound place.facts s (type_tree_named types s.ty))
   agrees_behind place (tree.Negated s) h = h
   agrees_behind place (tree.Existing s) h = h
   agrees_behind place (tree.Folded result s kind arg tests) h =
       both_bound place.facts place.sight (seen_result place.results result) h (result_bound place.facts place.results result)
 
   condition_named : (place : Place) (c : CondTree) → Agrees place → is_type_unknown types c ≡ false → has_unknown_variable place c ≡ false → has_wrong_kind types place c ≡ false
-      → All (Names place.facts) (pattern_of (condition_of types entries place c)).times
-  condition_named place (tree.Plain s) h u e k = source_named place.facts (type_named types s.ty) place.sight s h u e k
-  condition_named place (tree.Negated s) h u e k = source_named place.facts (type_named types s.ty) place.sight s h u e k
-  condition_named place (tree.Existing s) h u e k = source_named place.facts (type_named types s.ty) place.sight s h u e k
+      → All (Names place.facts) (pattern_of (condition_meant types entries place c)).times
+  condition_named place (tree.Plain s) h u e k = source_named place.facts (type_tree_named types s.ty) place.sight s h u e k
+  condition_named place (tree.Negated s) h u e k = source_named place.facts (type_tree_named types s.ty) place.sight s h u e k
+  condition_named place (tree.Existing s) h u e k = source_named place.facts (type_tree_named types s.ty) place.sight s h u e k
   condition_named place (tree.Folded result s kind arg tests) h u e k =
       let unseen = source_unseen place.sight s in
-      let misfits = source_misfits (type_named types s.ty) place.sight s in
-      let argument = argument_misfits (type_named types s.ty) s kind arg in
-      source_named place.facts (type_named types s.ty) place.sight s h u
-      (or_left unseen (not (is_bound_by s arg)) (or_left (unseen || not (is_bound_by s arg)) (list_any (test_unseen place.sight) tests) e))
-      (or_left misfits argument (or_left (misfits || argument) (list_any (test_misfits place.sight) tests) k))
+      let misfits = source_misfits (type_tree_named types s.ty) place.sight s in
+      let argument = argument_misfits (type_tree_named types s.ty) s kind arg in
+      source_named place.facts (type_tree_named types s.ty) place.sight s h u
+      (or_first_false unseen (not (is_bound_by s arg)) (or_first_false (unseen || not (is_bound_by s arg)) (list_any (test_unseen place.sight) tests) e))
+      (or_first_false misfits argument (or_first_false (misfits || argument) (list_any (test_misfits place.sight) tests) k))
 
-  bound_behind : (place : Place) (c : CondTree) → (behind types place c).facts ≡ place.facts + bindings (condition_of types entries place c ∷ [])
+  bound_behind : (place : Place) (c : CondTree) → (behind types place c).facts ≡ place.facts + bindings (condition_meant types entries place c ∷ [])
   bound_behind place (tree.Plain s) = omega arith
   bound_behind place (tree.Negated s) = omega arith
   bound_behind place (tree.Existing s) = omega arith
@@ -148,28 +154,28 @@ module _ (types : List TypeTree) (entries : List (List ℕ)) where
   enough_named a b tests e h = All-weaker (Names a) (Names b) (λ test less. subst (λ (n : ℕ). test.fact < n) e less) tests h
 
   named_from : (place : Place) (cs : List CondTree) → Agrees place → has_unknown_type types cs ≡ false → any_condition has_unknown_variable types place cs ≡ false
-      → any_condition (has_wrong_kind types) types place cs ≡ false → (k : ℕ) (c : Condition) → slice_get (conditions_of types entries place cs) k ≡ Some c
-      → All (Names (place.facts + bindings (take k (conditions_of types entries place cs)))) (pattern_of c).times
-  unfolding any_condition conditions_of
+      → any_condition (has_wrong_kind types) types place cs ≡ false → (k : ℕ) (c : Condition) → slice_get (conditions_meant types entries place cs) k ≡ Some c
+      → All (Names (place.facts + bindings (take k (conditions_meant types entries place cs)))) (pattern_of c).times
+  unfolding any_condition conditions_meant
   named_from place [] h u e m k c at = absurd cc
   named_from place (first ∷ cs) h u e m zero c at =
-      let same : condition_of types entries place first ≡ c = cc in
+      let same : condition_meant types entries place first ≡ c = cc in
       subst (λ (d : Condition). All (Names (place.facts + 0)) (pattern_of d).times) same
-      (enough_named place.facts (place.facts + 0) (pattern_of (condition_of types entries place first)).times (omega arith)
-      (condition_named place first h (or_left (is_type_unknown types first) (has_unknown_type types cs) u)
-      (or_left (has_unknown_variable place first) (any_condition has_unknown_variable types (behind types place first) cs) e)
-      (or_left (has_wrong_kind types place first) (any_condition (has_wrong_kind types) types (behind types place first) cs) m)))
+      (enough_named place.facts (place.facts + 0) (pattern_of (condition_meant types entries place first)).times (omega arith)
+      (condition_named place first h (or_first_false (is_type_unknown types first) (has_unknown_type types cs) u)
+      (or_first_false (has_unknown_variable place first) (any_condition has_unknown_variable types (behind types place first) cs) e)
+      (or_first_false (has_wrong_kind types place first) (any_condition (has_wrong_kind types) types (behind types place first) cs) m)))
   named_from place (first ∷ cs) h u e m (suc k) c at =
-      let made = condition_of types entries place first in
-      let rest = take k (conditions_of types entries (behind types place first) cs) in
+      let made = condition_meant types entries place first in
+      let rest = take k (conditions_meant types entries (behind types place first) cs) in
       let sum : (behind types place first).facts + bindings rest ≡ place.facts + bindings (made ∷ rest) = omega (arith, bound_behind place first, one_more made rest) in
       enough_named ((behind types place first).facts + bindings rest) (place.facts + bindings (made ∷ rest)) (pattern_of c).times sum
-      (named_from (behind types place first) cs (agrees_behind place first h) (or_right (is_type_unknown types first) (has_unknown_type types cs) u)
-      (or_right (has_unknown_variable place first) (any_condition has_unknown_variable types (behind types place first) cs) e)
-      (or_right (has_wrong_kind types place first) (any_condition (has_wrong_kind types) types (behind types place first) cs) m) k c at)
+      (named_from (behind types place first) cs (agrees_behind place first h) (or_second_false (is_type_unknown types first) (has_unknown_type types cs) u)
+      (or_second_false (has_unknown_variable place first) (any_condition has_unknown_variable types (behind types place first) cs) e)
+      (or_second_false (has_wrong_kind types place first) (any_condition (has_wrong_kind types) types (behind types place first) cs) m) k c at)
 
   pub rule_named : (cs : List CondTree) → has_unknown_type types cs ≡ false → any_condition has_unknown_variable types begin cs ≡ false
-      → any_condition (has_wrong_kind types) types begin cs ≡ false → NameEarlier (conditions_of types entries begin cs)
+      → any_condition (has_wrong_kind types) types begin cs ≡ false → NameEarlier (conditions_meant types entries begin cs)
   rule_named cs u e m k c at =
-      enough_named (0 + bindings (take k (conditions_of types entries begin cs))) (bindings (take k (conditions_of types entries begin cs))) (pattern_of c).times (omega arith)
+      enough_named (0 + bindings (take k (conditions_meant types entries begin cs))) (bindings (take k (conditions_meant types entries begin cs))) (pattern_of c).times (omega arith)
       (named_from begin cs tt u e m k c at)

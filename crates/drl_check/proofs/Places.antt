@@ -1,11 +1,16 @@
 -- What a variable means is a fact that the conditions of the program bind, or a field of such a fact.
-use Rattle.drl_check.proofs.Common.{◌≡◌, ◌≤◌, ◌++◌, ◌∷◌, ℕ, zero, suc, min, Bool, true, false, List, [], length, slice_get, Option, Some, None, cond, refl, sym, ap, subst, ◌∙◌, append_assoc, length-append, arith, flat_map, option_and_then, bytes_eq, slice_get_within, CondTree, Part, SourceTree, TypeTree, Condition, bound_types, place_of, type_names, type_named, field_names, kind_at, Meaning, of_fact, of_field, of_result, Sight, seen_fact, seen_field, seen_in, seen_of, seen_result, Place, begin, behind, sight_of_actions, type_place, condition_of}
+use Rattle.drl_check.proofs.Common.{◌≡◌, ◌≤◌, ◌++◌, ◌∷◌, ℕ, min, Bool, true, false, List, [], length, slice_get, Option, Some, None, cond, refl, sym, ap, subst}
+use Rattle.drl_check.proofs.Common.{◌∙◌, append_assoc, length-append, arith, flat_map, option_and_then, bytes_eq, slice_get_within, CondTree, Part, SourceTree}
+use Rattle.drl_check.proofs.Common.{TypeTree, Condition, bound_types, place_of_name, type_names, type_tree_named, field_names, kind_at, Meaning, of_fact}
+use Rattle.drl_check.proofs.Common.{of_field, of_result, Sight, seen_fact, seen_field, seen_in, seen_of, seen_result, Place, begin, behind, sight_of_actions}
+use Rattle.drl_check.proofs.Common.{type_place, condition_meant}
 use Rattle.std.proofs.Common.{append-nil}
 use Rattle.drl_grammar.specs.declared.condition.CondTree.TheVariants as tree
 use Rattle.drl_grammar.specs.declared.condition.Part.TheVariants as part
 use Rattle.rule_model.specs.declared.condition.Condition.TheVariants.{Plain, Negated, Existing, Folded}
 use Rattle.drl_sight.specs.Sight.{meaning_of, behind_all}
-use Rattle.drl_program.specs.Programs.{conditions_of}
+use Rattle.drl_program.specs.Programs.{conditions_meant}
+use Rattle.fx_base.proofs.Sequences.{get-append_left, get-last}
 
 -- the type of the fact of this number, given the places of the types of the facts that are bound
 abbrev pub type_taken : List TypeTree → List ℕ → ℕ → Option TypeTree
@@ -28,22 +33,13 @@ got f (Some a) b e = (a, refl, e)
 pub taken_of : (types : List TypeTree) (taken : List ℕ) (fact : ℕ) (t : TypeTree) → type_taken types taken fact ≡ Some t → (ty : ℕ) × (slice_get taken fact ≡ Some ty) × (slice_get types ty ≡ Some t)
 taken_of types taken fact t e = got (λ ty. slice_get types ty) (slice_get taken fact) t e
 
-got_left : {A : Type 0} (xs ys : List A) (k : ℕ) (x : A) → slice_get xs k ≡ Some x → slice_get (xs ++ ys) k ≡ Some x
-got_left [] ys k x e = absurd cc
-got_left (y ∷ xs) ys zero x e = e
-got_left (y ∷ xs) ys (suc k) x e = got_left xs ys k x e
-
-got_last : {A : Type 0} (xs : List A) (x : A) → slice_get (xs ++ x ∷ []) (length xs) ≡ Some x
-got_last [] x = refl
-got_last (y ∷ xs) x = got_last xs x
-
 module _ (types : List TypeTree) where
   -- ---- with more facts
 
   still_taken : (taken more : List ℕ) (fact : ℕ) (t : TypeTree) → type_taken types taken fact ≡ Some t → type_taken types (taken ++ more) fact ≡ Some t
   still_taken taken more fact t e =
       let h = taken_of types taken fact t e in
-      ap (option_and_then (λ ty. slice_get types ty)) (got_left taken more fact h.0 h.1) ∙ h.2
+      ap (option_and_then (λ ty. slice_get types ty)) (get-append_left taken more fact h.0 h.1) ∙ h.2
 
   still_stands : (taken more : List ℕ) (m : Meaning) → Stands types taken m → Stands types (taken ++ more) m
   still_stands taken more (of_fact fact t) h = still_taken taken more fact t h
@@ -78,7 +74,7 @@ module _ (types : List TypeTree) where
   field_stands taken fact t v (Some k) e = ((t, e, refl), tt)
 
   part_stands : (taken : List ℕ) (fact : ℕ) (t : TypeTree) (p : Part) → type_taken types taken fact ≡ Some t → AllStand types taken (seen_in fact t p)
-  part_stands taken fact t (part.Bind v f) e = field_stands taken fact t v (place_of (field_names t) f) e
+  part_stands taken fact t (part.Bind v f) e = field_stands taken fact t v (place_of_name (field_names t) f) e
   part_stands taken fact t (part.Temporal op params other) e = tt
   part_stands taken fact t (part.AnyOf groups) e = tt
 
@@ -107,12 +103,12 @@ module _ (types : List TypeTree) where
         let same : min k 65535 ≡ k = omega (arith, less, few) in
         ap (slice_get types) same ∙ e
 
-    pub type_placed : (name : List ℕ) (t : TypeTree) → type_named types name ≡ Some t → slice_get types (type_place (place_of (type_names types) name)) ≡ Some t
-    type_placed name t e = placed_by (place_of (type_names types) name) t e
+    pub type_placed : (name : List ℕ) (t : TypeTree) → type_tree_named types name ≡ Some t → slice_get types (type_place (place_of_name (type_names types) name)) ≡ Some t
+    type_placed name t e = placed_by (place_of_name (type_names types) name) t e
 
-    last_taken : (taken : List ℕ) (name : List ℕ) (t : TypeTree) → type_named types name ≡ Some t → type_taken types (taken ++ type_place (place_of (type_names types) name) ∷ []) (length taken) ≡ Some t
+    last_taken : (taken : List ℕ) (name : List ℕ) (t : TypeTree) → type_tree_named types name ≡ Some t → type_taken types (taken ++ type_place (place_of_name (type_names types) name) ∷ []) (length taken) ≡ Some t
     last_taken taken name t e =
-        ap (option_and_then (λ ty. slice_get types ty)) (got_last taken (type_place (place_of (type_names types) name))) ∙ type_placed name t e
+        ap (option_and_then (λ ty. slice_get types ty)) (get-last taken (type_place (place_of_name (type_names types) name))) ∙ type_placed name t e
 
     -- the next fact has the next number, and all that is in sight stands
     abbrev Agrees : List ℕ → Place → Type 0
@@ -121,18 +117,18 @@ module _ (types : List TypeTree) where
     unchanged : (taken : List ℕ) (place : Place) → Agrees taken place → Agrees (taken ++ []) place
     unchanged taken place h = subst (λ (ts : List ℕ). Agrees ts place) (sym (append-nil taken)) h
 
-    agrees_behind : (taken : List ℕ) (place : Place) (c : CondTree) → Agrees taken place → Agrees (taken ++ bound_types (condition_of types entries place c ∷ [])) (behind types place c)
+    agrees_behind : (taken : List ℕ) (place : Place) (c : CondTree) → Agrees taken place → Agrees (taken ++ bound_types (condition_meant types entries place c ∷ [])) (behind types place c)
     agrees_behind taken place (tree.Negated s) h = unchanged taken place h
     agrees_behind taken place (tree.Existing s) h = unchanged taken place h
     agrees_behind taken place (tree.Folded result s kind arg tests) h =
         unchanged taken (behind types place (tree.Folded result s kind arg tests))
         (h.0, both_stand taken place.sight (seen_result place.results result) h.1 (result_stands taken place.results result))
     agrees_behind taken place (tree.Plain s) h =
-        let ty = type_place (place_of (type_names types) s.ty) in
-        let stands = source_stands (taken ++ ty ∷ []) (length taken) s (type_named types s.ty) (λ t e. last_taken taken s.ty t e) in (
+        let ty = type_place (place_of_name (type_names types) s.ty) in
+        let stands = source_stands (taken ++ ty ∷ []) (length taken) s (type_tree_named types s.ty) (λ t e. last_taken taken s.ty t e) in (
           omega (arith, h.0, length-append taken (ty ∷ [])),
-          both_stand (taken ++ ty ∷ []) place.sight (seen_of place.facts s (type_named types s.ty)) (still_stand taken (ty ∷ []) place.sight h.1)
-              (subst (λ (n : ℕ). AllStand types (taken ++ ty ∷ []) (seen_of n s (type_named types s.ty))) (sym h.0) stands),
+          both_stand (taken ++ ty ∷ []) place.sight (seen_of place.facts s (type_tree_named types s.ty)) (still_stand taken (ty ∷ []) place.sight h.1)
+              (subst (λ (n : ℕ). AllStand types (taken ++ ty ∷ []) (seen_of n s (type_tree_named types s.ty))) (sym h.0) stands),
         )
 
     bound_both : (cs ds : List Condition) → bound_types (cs ++ ds) ≡ bound_types cs ++ bound_types ds
@@ -142,32 +138,32 @@ module _ (types : List TypeTree) where
     bound_both (Existing p ∷ cs) ds = bound_both cs ds
     bound_both (Folded a ∷ cs) ds = bound_both cs ds
 
-    agrees_behind_all : (taken : List ℕ) (place : Place) (cs : List CondTree) → Agrees taken place → Agrees (taken ++ bound_types (conditions_of types entries place cs)) (behind_all types place cs)
-    unfolding conditions_of behind_all
+    agrees_behind_all : (taken : List ℕ) (place : Place) (cs : List CondTree) → Agrees taken place → Agrees (taken ++ bound_types (conditions_meant types entries place cs)) (behind_all types place cs)
+    unfolding conditions_meant behind_all
     agrees_behind_all taken place [] h = unchanged taken place h
     agrees_behind_all taken place (c ∷ cs) h =
-        let here = condition_of types entries place c ∷ [] in
-        let rest = conditions_of types entries (behind types place c) cs in
+        let here = condition_meant types entries place c ∷ [] in
+        let rest = conditions_meant types entries (behind types place c) cs in
         let all : (taken ++ bound_types here) ++ bound_types rest ≡ taken ++ bound_types (here ++ rest) = append_assoc taken (bound_types here) (bound_types rest) ∙ ap (λ ts. taken ++ ts) (sym (bound_both here rest)) in
         subst (λ (ts : List ℕ). Agrees ts (behind_all types (behind types place c) cs)) all
         (agrees_behind_all (taken ++ bound_types here) (behind types place c) cs (agrees_behind taken place c h))
 
-    few_at : (place : Place) (c : CondTree) → length (bound_types (condition_of types entries place c ∷ [])) ≤ 1
+    few_at : (place : Place) (c : CondTree) → length (bound_types (condition_meant types entries place c ∷ [])) ≤ 1
     few_at place (tree.Plain s) = omega arith
     few_at place (tree.Negated s) = omega arith
     few_at place (tree.Existing s) = omega arith
     few_at place (tree.Folded a b c d e) = omega arith
 
     -- no more facts are bound than there are conditions
-    pub few_bound : (place : Place) (cs : List CondTree) → length (bound_types (conditions_of types entries place cs)) ≤ length cs
-    unfolding conditions_of
+    pub few_bound : (place : Place) (cs : List CondTree) → length (bound_types (conditions_meant types entries place cs)) ≤ length cs
+    unfolding conditions_meant
     few_bound place [] = omega arith
     few_bound place (c ∷ cs) =
-        let here = condition_of types entries place c ∷ [] in
-        let rest = conditions_of types entries (behind types place c) cs in
+        let here = condition_meant types entries place c ∷ [] in
+        let rest = conditions_meant types entries (behind types place c) cs in
         omega (arith, few_at place c, few_bound (behind types place c) cs, ap length (bound_both here rest), length-append (bound_types here) (bound_types rest))
 
     -- what actions see stands
-    pub sight_stands : (cs : List CondTree) (name : List ℕ) (m : Meaning) → meaning_of (sight_of_actions types cs) name ≡ Some m → Stands types (bound_types (conditions_of types entries begin cs)) m
+    pub sight_stands : (cs : List CondTree) (name : List ℕ) (m : Meaning) → meaning_of (sight_of_actions types cs) name ≡ Some m → Stands types (bound_types (conditions_meant types entries begin cs)) m
     sight_stands cs name m e =
-        first_stands (bound_types (conditions_of types entries begin cs)) (sight_of_actions types cs) name m (agrees_behind_all [] begin cs (refl, tt)).1 e
+        first_stands (bound_types (conditions_meant types entries begin cs)) (sight_of_actions types cs) name m (agrees_behind_all [] begin cs (refl, tt)).1 e

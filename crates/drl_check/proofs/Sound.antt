@@ -1,18 +1,18 @@
 -- The program of an accepted file is within the limits.
-use Rattle.drl_check.proofs.Common.{◌≡◌, ◌≤◌, ◌<◌, ◌+◌, ◌&&◌, ◌||◌, ◌++◌, ◌∷◌, ℕ, ℤ, pos, negsuc, Bool, true, false, not, List, [], map, length, nat_le, nat_lt, int_le, int_lt, unsigned_abs, Option, Some, None, cond, refl, sym, ap, subst, append_assoc, length-append, arith, list_all, bytes_eq, nat_tests, ints, append-nil, length-map, Body, Item, TypeTree, RuleTree, Rule, has_conditions, has_few_actions, has_lateness, LimitPassed, BadParams, types_of, rules_of, type_in, rule_in, default_name, entries_named, with_name, entry_names, lateness_or_zero, lateness_with, is_short, is_among, begin, sight_of_actions, is_entry_name, has_few_entries, lateness_within, exceeds_limit_behind, type_within, rule_within, attr_within, condition_within, action_within, actions_within, entry_info, rule_of, action_of, one_for_each, has_bad_params, AllPass, is_negative}
+use Rattle.drl_check.proofs.Common.{◌≡◌, ◌≤◌, ◌+◌, ◌&&◌, ◌||◌, ◌++◌, ◌∷◌, ℕ, ℤ, pos, negsuc, Bool, true, false, not, List, [], map, length, nat_le, nat_lt}
+use Rattle.drl_check.proofs.Common.{int_le, int_lt, unsigned_abs, Option, Some, None, cond, refl, sym, ap, subst, append_assoc, length-append, arith, list_all}
+use Rattle.drl_check.proofs.Common.{bytes_eq, nat_tests, ints, append-nil, length-map, Body, Item, TypeTree, RuleTree, Rule, has_conditions, has_few_actions}
+use Rattle.drl_check.proofs.Common.{has_lateness, LimitPassed, BadParams, types_of, rules_of, type_in, rule_in, default_name, entries_named, with_entry_name}
+use Rattle.drl_check.proofs.Common.{entry_names, lateness_or_zero, lateness_with, is_name_short, is_among, begin, sight_of_actions, is_entry_name}
+use Rattle.drl_check.proofs.Common.{has_few_entries, lateness_within, exceeds_limit_behind, type_within, rule_within, attr_within, condition_within}
+use Rattle.drl_check.proofs.Common.{action_within, actions_within, entry_info, rule_of, action_of, one_for_each, has_bad_params, AllPass, is_negative_number}
+use Rattle.std.proofs.lemmas.Bool.{and_from, leb-true, ltb-true}
 use Rattle.drl_grammar.specs.declared.file.Body.TheVariants as body
 use Rattle.rule_world.specs.Events.{most_millis}
 use Rattle.drl_sight.specs.EntryPoints.{with_names, lateness_named}
 use Rattle.drl_limits.specs.Limits.{span_limit}
 use Rattle.drl_check.proofs.Failures.{types_next, rules_next, known_next}
-
-pub and_right : (a b : Bool) → (a && b) ≡ true → b ≡ true
-and_right true b e = e
-and_right false b e = absurd cc
-
-pub and_left : (a b : Bool) → (a && b) ≡ true → a ≡ true
-and_left true b e = refl
-and_left false b e = absurd cc
+use Rattle.fx_base.proofs.Tests.{and_first, and_second}
 
 pub not_and_left : (a b : Bool) → not (a && b) ≡ false → a ≡ true
 not_and_left true b e = refl
@@ -23,20 +23,10 @@ not_and_right true true e = refl
 not_and_right true false e = absurd cc
 not_and_right false b e = absurd cc
 
-pub both : (a b : Bool) → a ≡ true → b ≡ true → (a && b) ≡ true
-both true b e h = h
-both false b e h = absurd cc
-
-under : (n m : ℕ) → nat_lt n m ≡ true → n < m
-under n m e = grind (arith, nat_tests)
-
-pub within : (n m : ℕ) → nat_le n m ≡ true → n ≤ m
-within n m e = grind (arith, nat_tests)
-
 -- ---- types, entry points and rules are few
 
 type_fits : (types rules : ℕ) (known : List (List ℕ)) (b : Body) → exceeds_limit_behind types rules known b ≡ false → types ≤ 128 → types + length (type_in b) ≤ 128
-type_fits types rules known (body.Declare t) e h = let less = under types 128 (not_and_left (nat_lt types 128) (type_within t) e) in omega (arith, less)
+type_fits types rules known (body.Declare t) e h = let less = ltb-true types 128 (not_and_left (nat_lt types 128) (type_within t) e) in omega (arith, less)
 type_fits types rules known (body.Rule r) e h = omega (arith, h)
 type_fits types rules known (body.Package p) e h = omega (arith, h)
 type_fits types rules known (body.Import p s) e h = omega (arith, h)
@@ -46,7 +36,7 @@ type_fits types rules known (body.Entry n l) e h = omega (arith, h)
 rule_fits : (types rules : ℕ) (known : List (List ℕ)) (b : Body) → exceeds_limit_behind types rules known b ≡ false → rules ≤ 256 → rules + length (rule_in b) ≤ 256
 rule_fits types rules known (body.Rule r) e h =
     let few = has_few_entries known (body.Rule r) in
-    let less = under rules 256 (and_left (nat_lt rules 256) few (not_and_left (nat_lt rules 256 && few) (rule_within r) e)) in
+    let less = ltb-true rules 256 (and_first (nat_lt rules 256) few (not_and_left (nat_lt rules 256 && few) (rule_within r) e)) in
     omega (arith, less)
 rule_fits types rules known (body.Declare t) e h = omega (arith, h)
 rule_fits types rules known (body.Package p) e h = omega (arith, h)
@@ -58,10 +48,10 @@ entries_fit : (types rules : ℕ) (known : List (List ℕ)) (b : Body) → excee
 unfolding with_names
 entries_fit types rules known (body.Rule r) e h =
     let few = has_few_entries known (body.Rule r) in
-    within (length (with_names known (entries_named (body.Rule r)))) 64 (and_right (nat_lt rules 256) few (not_and_left (nat_lt rules 256 && few) (rule_within r) e))
+    leb-true (length (with_names known (entries_named (body.Rule r)))) 64 (and_second (nat_lt rules 256) few (not_and_left (nat_lt rules 256 && few) (rule_within r) e))
 entries_fit types rules known (body.Entry name lateness) e h =
     let few = has_few_entries known (body.Entry name lateness) in
-    within (length (with_names known (name ∷ []))) 64 (and_left few (is_entry_name name) (not_and_left (few && is_entry_name name) (lateness_within lateness) e))
+    leb-true (length (with_names known (name ∷ []))) 64 (and_first few (is_entry_name name) (not_and_left (few && is_entry_name name) (lateness_within lateness) e))
 entries_fit types rules known (body.Declare t) e h = h
 entries_fit types rules known (body.Package p) e h = h
 entries_fit types rules known (body.Import p s) e h = h
@@ -103,7 +93,7 @@ unfolding with_names
 no_fewer known [] = omega arith
 no_fewer known (name ∷ names) =
     let one = no_fewer_by (is_among known name) known name in
-    let rest = no_fewer (with_name known name) names in
+    let rest = no_fewer (with_entry_name known name) names in
     omega (arith, one, rest)
 
 pub some_entry : (names : List (List ℕ)) → 1 ≤ length (with_names (default_name ∷ []) names)
@@ -123,10 +113,10 @@ from_zero n = grind (arith, nat_tests)
 
 given_late : (n : ℤ) → int_lt n (pos 0) ≡ false → nat_le (unsigned_abs n) span_limit ≡ true → is_lateness n ≡ true
 unfolding is_lateness most_millis span_limit
-given_late (pos n) e h = both (int_le (pos 0) (pos n)) (int_le (pos n) most_millis) (from_zero n) h
+given_late (pos n) e h = and_from (int_le (pos 0) (pos n)) (int_le (pos n) most_millis) (from_zero n) h
 given_late (negsuc n) e h = absurd cc
 
-entry_late : (lateness : Option ℤ) → is_negative lateness ≡ false → lateness_within lateness ≡ true → is_lateness (lateness_or_zero lateness) ≡ true
+entry_late : (lateness : Option ℤ) → is_negative_number lateness ≡ false → lateness_within lateness ≡ true → is_lateness (lateness_or_zero lateness) ≡ true
 entry_late None e h = zero_late
 entry_late (Some n) e h = given_late n e h
 
@@ -154,7 +144,7 @@ late all before (item ∷ items) p name =
 pub all_late : (items : List Item) (names : List (List ℕ)) → ((name : List ℕ) → is_lateness (lateness_named items name) ≡ true) → list_all has_lateness (map (entry_info items) names) ≡ true
 unfolding is_lateness
 all_late items [] h = refl
-all_late items (name ∷ names) h = both (is_lateness (lateness_named items name)) (list_all has_lateness (map (entry_info items) names)) (h name) (all_late items names h)
+all_late items (name ∷ names) h = and_from (is_lateness (lateness_named items name)) (list_all has_lateness (map (entry_info items) names)) (h name) (all_late items names h)
 
 -- ---- times are from 1 to 2^53 ms
 
@@ -166,18 +156,10 @@ from_one n e = grind (arith, nat_tests, ints)
 
 pub given_time : (n : ℤ) → int_lt n (pos 1) ≡ false → nat_le (unsigned_abs n) span_limit ≡ true → is_time n ≡ true
 unfolding is_time most_millis span_limit
-given_time (pos n) e h = both (int_le (pos 1) (pos n)) (int_le (pos n) most_millis) (from_one n e) h
+given_time (pos n) e h = and_from (int_le (pos 1) (pos n)) (int_le (pos n) most_millis) (from_one n e) h
 given_time (negsuc n) e h = absurd cc
 
 -- ---- conditions are few, and there are some
-
-pub or_left : (a b : Bool) → (a || b) ≡ false → a ≡ false
-or_left false b e = refl
-or_left true b e = absurd cc
-
-pub or_right : (a b : Bool) → (a || b) ≡ false → b ≡ false
-or_right false b e = e
-or_right true b e = absurd cc
 
 some : (n : ℕ) → nat_lt 0 n ≡ true → nat_le 1 n ≡ true
 some n e = grind (arith, nat_tests)
@@ -188,20 +170,20 @@ pub conditions_sound : (types : List TypeTree) (entries : List (List ℕ)) (r : 
 conditions_sound types entries r e =
     let n = length r.conditions in
     let tests = list_all condition_within r.conditions in
-    let before = nat_lt 0 (length r.name) && is_short 256 r.name && list_all attr_within r.attrs in
-    let all = and_left (before && nat_lt 0 n && nat_le n 8 && tests) (actions_within r.actions) e in
-    let front = and_left (before && nat_lt 0 n && nat_le n 8) tests all in
-    let few : nat_le n 8 ≡ true = and_right (before && nat_lt 0 n) (nat_le n 8) front in
-    let one : nat_lt 0 n ≡ true = and_right before (nat_lt 0 n) (and_left (before && nat_lt 0 n) (nat_le n 8) front) in
-    rw (one_for_each types entries begin r.conditions) (both (nat_le 1 n) (nat_le n 8) (some n one) few)
+    let before = nat_lt 0 (length r.name) && is_name_short 256 r.name && list_all attr_within r.attrs in
+    let all = and_first (before && nat_lt 0 n && nat_le n 8 && tests) (actions_within r.actions) e in
+    let front = and_first (before && nat_lt 0 n && nat_le n 8) tests all in
+    let few : nat_le n 8 ≡ true = and_second (before && nat_lt 0 n) (nat_le n 8) front in
+    let one : nat_lt 0 n ≡ true = and_second before (nat_lt 0 n) (and_first (before && nat_lt 0 n) (nat_le n 8) front) in
+    rw (one_for_each types entries begin r.conditions) (and_from (nat_le 1 n) (nat_le n 8) (some n one) few)
 
 -- and few actions
 pub actions_sound : (types : List TypeTree) (entries : List (List ℕ)) (r : RuleTree) → rule_within r ≡ true
     → has_few_actions (rule_of types entries r) ≡ true
 actions_sound types entries r e =
     let n = length r.actions in
-    let front = nat_lt 0 (length r.name) && is_short 256 r.name && list_all attr_within r.attrs && nat_lt 0 (length r.conditions) && nat_le (length r.conditions) 8 && list_all condition_within r.conditions in
-    let few : nat_le n 16 ≡ true = and_left (nat_le n 16) (list_all action_within r.actions) (and_right front (actions_within r.actions) e) in
+    let front = nat_lt 0 (length r.name) && is_name_short 256 r.name && list_all attr_within r.attrs && nat_lt 0 (length r.conditions) && nat_le (length r.conditions) 8 && list_all condition_within r.conditions in
+    let few : nat_le n 16 ≡ true = and_first (nat_le n 16) (list_all action_within r.actions) (and_second front (actions_within r.actions) e) in
     rw (length-map r.actions (action_of types (sight_of_actions types r.conditions))) few
 
 -- ---- what is so of each rule within the limits is so of all rules of an accepted file
@@ -211,7 +193,7 @@ module _ (types : List TypeTree) (entries : List (List ℕ)) (test : Rule → Bo
       → list_all test (map (rule_of types entries) (rule_in b ++ rest)) ≡ true
   body_sound n m known (body.Rule r) rest e h =
       let inside = not_and_right (nat_lt m 256 && has_few_entries known (body.Rule r)) (rule_within r) e in
-      both (test (rule_of types entries r)) (list_all test (map (rule_of types entries) rest)) (sound r inside) h
+      and_from (test (rule_of types entries r)) (list_all test (map (rule_of types entries) rest)) (sound r inside) h
   body_sound n m known (body.Declare t) rest e h = h
   body_sound n m known (body.Package p) rest e h = h
   body_sound n m known (body.Import p s) rest e h = h

@@ -7,15 +7,16 @@ use Rattle.drl_grammar.specs.declared.file.Body.TheVariants as body
 use Rattle.drl_grammar.specs.declared.file.Item.{Item}
 use Rattle.drl_grammar.specs.declared.file.TypeTree.{TypeTree}
 use Rattle.drl_check.specs.declared.fault.CheckCode.{CheckCode}
-use Rattle.drl_check.specs.declared.fault.CheckCode.TheVariants.{TwiceDeclared, LimitPassed, UnknownType, UnknownField, UnknownVariable, WrongKind, NotAnEvent, BadTimestamp, BadReference, EventFixed, EventObserved, ReferenceFixed, BadParams, NeverMatches}
+use Rattle.drl_check.specs.declared.fault.CheckCode.TheVariants.{TwiceDeclared, LimitPassed, UnknownType, UnknownField, UnknownVariable, WrongKind, NotAnEvent}
+use Rattle.drl_check.specs.declared.fault.CheckCode.TheVariants.{BadTimestamp, BadReference, EventFixed, EventObserved, ReferenceFixed, BadParams, NeverMatches}
 use Rattle.drl_sight.specs.Declarations.{types_of}
-use Rattle.drl_sight.specs.Observed.{is_observed}
+use Rattle.drl_sight.specs.Observed.{is_watched_type}
 use Rattle.drl_sight.specs.Sight.{begin, sight_of_actions}
 use Rattle.drl_check.specs.Twice.{is_twice}
 use Rattle.drl_limits.specs.Limits.{exceeds_limit}
 use Rattle.drl_uses.specs.Uses.{any_condition, has_unknown_type, has_unknown_field, has_unknown_variable, inserts_unknown_type, action_lacks, action_unseen}
 use Rattle.drl_check.specs.Events.{annotation_lacks, is_no_event, has_bad_timestamp, marks_event, modifies_event, retracts_observed, fixes_reference}
-use Rattle.drl_check.specs.Params.{is_negative, expires_at_once, is_condition_refused}
+use Rattle.drl_check.specs.Params.{is_negative_number, expires_at_once, is_condition_refused}
 use Rattle.drl_check.specs.Solvable.{never_matches}
 use Rattle.drl_uses.specs.Kinds.{has_unknown_kind, has_wrong_kind, action_misfits}
 use Rattle.drl_uses.specs.Times.{has_no_times}
@@ -102,7 +103,7 @@ changes_reference types (body.Declare t) = false
 changes_reference types (body.Entry name lateness) = false
 
 abbrev pub has_bad_params : Body → Bool
-has_bad_params (body.Entry name lateness) = is_negative lateness
+has_bad_params (body.Entry name lateness) = is_negative_number lateness
 has_bad_params (body.Declare t) = expires_at_once t
 has_bad_params (body.Rule r) = list_any is_condition_refused r.conditions
 has_bad_params (body.Package path) = false
@@ -123,7 +124,7 @@ fails NotAnEvent all before b = needs_event (types_of all) b
 fails BadTimestamp all before b = needs_whole_times b
 fails BadReference all before b = has_bad_reference b
 fails EventFixed all before b = fixes_event (types_of all) b
-fails EventObserved all before b = drops_observed (is_observed all) (types_of all) b
+fails EventObserved all before b = drops_observed (is_watched_type all) (types_of all) b
 fails ReferenceFixed all before b = changes_reference (types_of all) b
 fails BadParams all before b = has_bad_params b
 fails NeverMatches all before b = never_matches all b
@@ -134,13 +135,13 @@ codes_in_order = TwiceDeclared ∷ LimitPassed ∷ UnknownType ∷ UnknownField 
     ∷ BadParams ∷ NeverMatches ∷ []
 
 -- an item passes all checks
-abbrev pub Passes : List Item → List Item → Body → Type 0
-Passes all before b = (code : CheckCode) → fails code all before b ≡ false
+abbrev pub PassesChecks : List Item → List Item → Body → Type 0
+PassesChecks all before b = (code : CheckCode) → fails code all before b ≡ false
 
 -- every item, of those behind `before`, passes all checks
 abbrev pub AllPass : List Item → List Item → List Item → Type 0
 AllPass all before [] = Unit {0}
-AllPass all before (item ∷ items) = Passes all before item.body × AllPass all (before ++ item ∷ []) items
+AllPass all before (item ∷ items) = PassesChecks all before item.body × AllPass all (before ++ item ∷ []) items
 
 -- a file is accepted: no item fails a check
 abbrev pub IsAcceptedFile : File → Type 0
@@ -157,7 +158,7 @@ pub record IsFirstFailure (file : File) (number line : ℕ) (code : CheckCode) :
   pub item : Item
   pub after : List Item
   pub parts : file.items ≡ before ++ (item ∷ after)
-  pub earlier : (front : List Item) (passed : Item) (behind : List Item) → before ≡ front ++ (passed ∷ behind) → Passes file.items front passed.body
+  pub earlier : (front : List Item) (passed : Item) (behind : List Item) → before ≡ front ++ (passed ∷ behind) → PassesChecks file.items front passed.body
   pub number_is : number ≡ length before + 1
   pub line_is : line ≡ item.line
   pub first : FailsFirst codes_in_order code file.items before item.body

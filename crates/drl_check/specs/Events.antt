@@ -6,8 +6,8 @@ use Rattle.drl_grammar.specs.declared.action.ActTree.TheVariants as action
 use Rattle.drl_grammar.specs.declared.file.Meta.{Meta}
 use Rattle.drl_grammar.specs.declared.file.Meta.TheVariants as meta
 use Rattle.drl_grammar.specs.declared.file.TypeTree.{TypeTree}
-use Rattle.drl_sight.specs.Annotations.{is_event, reference_of}
-use Rattle.drl_sight.specs.Declarations.{type_named}
+use Rattle.drl_sight.specs.Annotations.{is_tree_of_events, reference_of}
+use Rattle.drl_sight.specs.Declarations.{type_tree_named}
 use Rattle.drl_sight.specs.Meanings.{lacks, field_kind}
 use Rattle.drl_sight.specs.Sight.{Sight, Meaning, of_fact, of_field, of_result, meaning_of}
 use Rattle.drl_uses.specs.Kinds.{is_int}
@@ -35,7 +35,7 @@ is_of_events meta.Reference = false
 
 -- a plain type has an annotation that speaks of the times of events
 abbrev pub is_no_event : TypeTree → Bool
-is_no_event t = not (is_event t) && list_any is_of_events t.metas
+is_no_event t = not (is_tree_of_events t) && list_any is_of_events t.metas
 
 -- the field of a timestamp or a duration holds no whole numbers
 abbrev pub meta_misfits : TypeTree → Meta → Bool
@@ -50,13 +50,13 @@ has_bad_timestamp t = list_any (meta_misfits t) t.metas
 
 -- an event type is marked as a reference type
 abbrev pub marks_event : TypeTree → Bool
-marks_event t = is_event t && reference_of t.metas
+marks_event t = is_tree_of_events t && reference_of t.metas
 
 -- ---- actions
 
 abbrev pub is_event_meant : Option Meaning → Bool
 is_event_meant None = false
-is_event_meant (Some (of_fact fact t)) = is_event t
+is_event_meant (Some (of_fact fact t)) = is_tree_of_events t
 is_event_meant (Some (of_field fact field k)) = false
 is_event_meant (Some (of_result result)) = false
 
@@ -85,7 +85,7 @@ is_reference_declared None = false
 is_reference_declared (Some t) = reference_of t.metas
 
 abbrev pub is_reference_named : List TypeTree → List ℕ → Bool
-is_reference_named types ty = is_reference_declared (type_named types ty)
+is_reference_named types ty = is_reference_declared (type_tree_named types ty)
 
 -- a variable is a fact of a reference type
 abbrev pub is_reference_meant : Option Meaning → Bool

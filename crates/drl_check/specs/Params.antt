@@ -23,9 +23,9 @@ is_below_one n = int_lt n (pos 1)
 
 -- ---- entry points
 
-abbrev pub is_negative : Option ℤ → Bool
-is_negative None = false
-is_negative (Some lateness) = is_below_zero lateness
+abbrev pub is_negative_number : Option ℤ → Bool
+is_negative_number None = false
+is_negative_number (Some lateness) = is_below_zero lateness
 
 -- ---- types
 

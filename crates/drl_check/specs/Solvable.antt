@@ -11,7 +11,7 @@ use Rattle.expiry_infer.specs.Solvable.{can_match}
 use Rattle.drl_sight.specs.Declarations.{types_of}
 use Rattle.drl_sight.specs.EntryPoints.{entry_names}
 use Rattle.drl_sight.specs.Sight.{begin}
-use Rattle.drl_program.specs.Programs.{conditions_of, program_of, rule_of}
+use Rattle.drl_program.specs.Programs.{conditions_meant, program_of, rule_of}
 
 abbrev pub never_matches : List Item → Body → Bool
 never_matches all (body.Rule r) = not (can_match (program_of (record { items = all })) (rule_of (types_of all) (entry_names all) r).conditions)
@@ -24,7 +24,7 @@ never_matches all (body.Entry name lateness) = false
 -- ---- the same over a program of the types alone, and without entry points
 
 abbrev pub never_matches_alone : Program → List TypeTree → Body → Bool
-never_matches_alone alone types (body.Rule r) = not (can_match alone (conditions_of types [] begin r.conditions))
+never_matches_alone alone types (body.Rule r) = not (can_match alone (conditions_meant types [] begin r.conditions))
 never_matches_alone alone types (body.Package path) = false
 never_matches_alone alone types (body.Import path star) = false
 never_matches_alone alone types (body.Dialect text) = false
@@ -44,7 +44,7 @@ HasFewConditions (body.Entry name lateness) = Unit {0}
 
 -- the conditions of a rule have a network
 abbrev pub HasNetwork : List TypeTree → Body → Type 0
-HasNetwork types (body.Rule r) = HaveNetwork (conditions_of types [] begin r.conditions)
+HasNetwork types (body.Rule r) = HaveNetwork (conditions_meant types [] begin r.conditions)
 HasNetwork types (body.Package path) = Unit {0}
 HasNetwork types (body.Import path star) = Unit {0}
 HasNetwork types (body.Dialect text) = Unit {0}

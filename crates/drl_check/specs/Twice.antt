@@ -17,7 +17,8 @@ use Rattle.drl_grammar.specs.declared.file.Item.{Item}
 use Rattle.drl_grammar.specs.declared.file.Meta.{Meta}
 use Rattle.drl_grammar.specs.declared.file.Meta.TheVariants as meta
 use Rattle.drl_grammar.specs.declared.file.RuleTree.{RuleTree}
-use Rattle.drl_sight.specs.Names.{is_among, are_distinct}
+use Rattle.drl_sight.specs.Names.{are_distinct}
+use Rattle.drl_expr.specs.Words.{is_among}
 use Rattle.drl_sight.specs.Declarations.{types_of, rules_of, type_names, rule_names, field_names}
 use Rattle.drl_sight.specs.EntryPoints.{declared_entries}
 
@@ -38,14 +39,14 @@ abbrev pub source_variables : SourceTree → List (List ℕ)
 source_variables s = own_variable s.var ++ flat_map part_variable s.parts
 
 -- the variables that a condition binds, those inside not, exists and accumulate too, and that of the result of an accumulate
-abbrev pub bound_in : CondTree → List (List ℕ)
-bound_in (condition.Plain s) = source_variables s
-bound_in (condition.Negated s) = source_variables s
-bound_in (condition.Existing s) = source_variables s
-bound_in (condition.Folded result s kind arg tests) = source_variables s ++ own_variable result
+abbrev pub variables_bound : CondTree → List (List ℕ)
+variables_bound (condition.Plain s) = source_variables s
+variables_bound (condition.Negated s) = source_variables s
+variables_bound (condition.Existing s) = source_variables s
+variables_bound (condition.Folded result s kind arg tests) = source_variables s ++ own_variable result
 
 abbrev pub bound_variables : RuleTree → List (List ℕ)
-bound_variables r = flat_map bound_in r.conditions
+bound_variables r = flat_map variables_bound r.conditions
 
 abbrev pub set_names : List (List ℕ × Tree) → List (List ℕ)
 set_names sets = map (λ (set : List ℕ × Tree). set.0) sets
@@ -56,16 +57,16 @@ assigns_once (action.Modify v sets) = are_distinct (set_names sets)
 assigns_once (action.Insert ty args) = true
 assigns_once (action.Retract v) = true
 
-abbrev pub meta_word : Meta → List ℕ
-meta_word (meta.Role event) = codes "role"
-meta_word (meta.Timestamp field) = codes "timestamp"
-meta_word (meta.Duration field) = codes "duration"
-meta_word (meta.Expires offset) = codes "expires"
-meta_word meta.Reference = codes "reference"
+abbrev pub annotation_word : Meta → List ℕ
+annotation_word (meta.Role event) = codes "role"
+annotation_word (meta.Timestamp field) = codes "timestamp"
+annotation_word (meta.Duration field) = codes "duration"
+annotation_word (meta.Expires offset) = codes "expires"
+annotation_word meta.Reference = codes "reference"
 
 -- given the names of the types, of the entry points and of the rules that earlier items declare
 abbrev pub is_repeated : List (List ℕ) → List (List ℕ) → List (List ℕ) → Body → Bool
-is_repeated types entries rules (body.Declare t) = is_among types t.name || not (are_distinct (map meta_word t.metas)) || not (are_distinct (field_names t))
+is_repeated types entries rules (body.Declare t) = is_among types t.name || not (are_distinct (map annotation_word t.metas)) || not (are_distinct (field_names t))
 is_repeated types entries rules (body.Entry name lateness) = is_among entries name
 is_repeated types entries rules (body.Rule r) = is_among rules r.name || not (are_distinct (map attr_word r.attrs)) || not (are_distinct (bound_variables r)) || not (list_all assigns_once r.actions)
 is_repeated types entries rules (body.Package path) = false

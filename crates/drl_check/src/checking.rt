@@ -1,7 +1,7 @@
 ghost use Rattle.std.specs.Prelude.{◌≡◌, ℕ, [], Err, IfOk};
 ghost use Rattle.std.specs.List.{All};
 ghost use Rattle.rule_world.specs.Programs.{IsRunnable};
-ghost use Rattle.rule_lives.specs.Networks.{IsSolvable};
+ghost use Rattle.rule_lives.specs.Networks.{AreSolvable};
 ghost use Rattle.drl_check.specs.declared.fault.CheckCode.{CheckCode};
 ghost use Rattle.drl_check.specs.Checks.{failure_from, IsAcceptedFile, IsFirstFailure};
 ghost use Rattle.drl_sight.specs.Declarations.{types_of};
@@ -9,7 +9,7 @@ ghost use Rattle.drl_sight.specs.EntryPoints.{entry_names};
 ghost use Rattle.drl_sight.specs.Observed.{watched_names};
 ghost use Rattle.drl_program.specs.Programs.{program_of, program_with, types_alone};
 ghost use Rattle.drl_check.specs.Outcomes.{checked_by, checked};
-ghost use Rattle.drl_check.specs.Answers.{within_32_bits, Gives};
+ghost use Rattle.drl_check.specs.Answers.{within_32_bits, GivesChecked};
 
 use crate::CheckFault;
 use crate::refusal::refusal;
@@ -34,7 +34,7 @@ fn judged(alloc: Global, whole: &Whole, items: &[Item]) -> Result<Program, Check
     requires types { whole.now.types ≡ types_of items.now }
     requires watched { whole.now.watched ≡ watched_names items.now }
     requires alone { whole.now.alone ≡ types_alone (types_of items.now) }
-    ensures { Gives (λ program. program) result (checked_by (failure_from items.now [] items.now) (program_with (types_of items.now) (entry_names items.now) items.now)) }
+    ensures { GivesChecked (λ program. program) result (checked_by (failure_from items.now [] items.now) (program_with (types_of items.now) (entry_names items.now) items.now)) }
 {
     refusal(alloc, whole, items)?;
     Ok(program_among(alloc, whole.types.declared(), items)?)
@@ -42,7 +42,7 @@ fn judged(alloc: Global, whole: &Whole, items: &[Item]) -> Result<Program, Check
 
 #[tactic(auto, unfolding(crate::specs::Outcomes::checked))]
 fn checked_program(alloc: Global, file: &File) -> Result<Program, CheckFault>
-    ensures { Gives (λ program. program) result (checked file.now) }
+    ensures { GivesChecked (λ program. program) result (checked file.now) }
 {
     let items = file.items.as_slice();
     let whole = Whole::of(alloc, items)?;
@@ -58,8 +58,8 @@ pub fn check(alloc: Global, file: &File) -> Result<Program, CheckFault>
     ensures refused { (item : ℕ) (line : ℕ) (code : CheckCode) → result ≡ Err (CheckFault.Refused item line code)
         → (number : ℕ) × (item ≡ within_32_bits number) × IsFirstFailure file.now number line code }
     ensures sound { IfOk result IsRunnable }
-    ensures solvable { IfOk result (λ program. All (λ rule. IsSolvable program rule.conditions) program.rules) }
-    ensures gives { Gives (λ program. program) result (checked file.now) }
+    ensures solvable { IfOk result (λ program. All (λ rule. AreSolvable program rule.conditions) program.rules) }
+    ensures gives { GivesChecked (λ program. program) result (checked file.now) }
 {
     checked_program(alloc, file)
 }

@@ -4,7 +4,7 @@ ghost use Rattle.drl_grammar.specs.declared.file.File.{File};
 ghost use Rattle.drl_grammar.specs.declared.file.Body.TheVariants as body;
 ghost use Rattle.drl_grammar.specs.declared.file.Item.{Item};
 ghost use Rattle.drl_grammar.specs.declared.file.RuleTree.{RuleTree};
-ghost use Rattle.rule_lives.specs.Networks.{IsSolvable};
+ghost use Rattle.rule_lives.specs.Networks.{AreSolvable};
 ghost use Rattle.drl_sight.specs.Declarations.{types_of};
 ghost use Rattle.drl_sight.specs.EntryPoints.{entry_names};
 ghost use Rattle.drl_program.specs.Programs.{program_of, rule_of};
@@ -28,5 +28,5 @@ pub fn one_failure_is_first()
 pub fn rules_that_never_match_are_found()
     ensures { (all : List Item) (before : List Item) (r : RuleTree) → fails LimitPassed all before (body.Rule r) ≡ false → fails UnknownType all before (body.Rule r) ≡ false
         → fails UnknownVariable all before (body.Rule r) ≡ false → fails WrongKind all before (body.Rule r) ≡ false
-        → Decides (not (fails NeverMatches all before (body.Rule r))) (IsSolvable (program_of (record { items = all })) (rule_of (types_of all) (entry_names all) r).conditions) }
+        → Decides (not (fails NeverMatches all before (body.Rule r))) (AreSolvable (program_of (record { items = all })) (rule_of (types_of all) (entry_names all) r).conditions) }
 {}

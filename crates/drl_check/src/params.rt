@@ -2,7 +2,7 @@ ghost use Rattle.std.specs.Prelude.{◌≡◌, is_some};
 ghost use Rattle.std.specs.List.{list_any};
 ghost use Rattle.temporal_ops.specs.Operators.{edges_of};
 ghost use Rattle.temporal_ops.specs.Table.{takes_negative};
-ghost use Rattle.drl_check.specs.Params.{is_below_zero as is_below_zero_of, is_negative, has_short_expiry, expires_at_once, are_refused, is_part_refused, is_empty_window, is_source_refused, is_condition_refused};
+ghost use Rattle.drl_check.specs.Params.{is_below_zero as is_below_zero_of, is_negative_number, has_short_expiry, expires_at_once, are_refused, is_part_refused, is_empty_window, is_source_refused, is_condition_refused};
 
 use drl_grammar::{CondTree, Meta, Part, SourceTree, TypeTree, WindowTree};
 use drl_sight::source_of;
@@ -12,7 +12,7 @@ use temporal_ops::OpWord;
 
 /// Whether a lateness is below 0.
 pub(crate) fn is_below_zero(lateness: Option<i64>) -> bool
-    ensures { result ≡ is_negative lateness }
+    ensures { result ≡ is_negative_number lateness }
 {
     match lateness {
         Some(lateness) => lateness < 0,

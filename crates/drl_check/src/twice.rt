@@ -1,6 +1,6 @@
 ghost use Rattle.std.specs.Prelude.{◌≡◌, ◌++◌, map, IfOk, OnOk};
 ghost use Rattle.std.specs.List.{list_all};
-ghost use Rattle.drl_check.specs.Twice.{attr_word, own_variable, part_variable, source_variables, bound_in, bound_variables, set_names, assigns_once, meta_word, is_repeated};
+ghost use Rattle.drl_check.specs.Twice.{attr_word, own_variable, part_variable, source_variables, variables_bound, bound_variables, set_names, assigns_once, annotation_word, is_repeated};
 ghost use Rattle.drl_sight.specs.Names.{are_distinct};
 ghost use Rattle.drl_sight.specs.Declarations.{field_names};
 
@@ -60,7 +60,7 @@ fn add_source(alloc: Global, names: &mut Vec<Text>, source: &SourceTree) -> Resu
 }
 
 fn add_condition(alloc: Global, names: &mut Vec<Text>, condition: &CondTree) -> Result<(), NoMemory>
-    ensures { OnOk result (names.new.items ≡ names.old.items ++ bound_in condition.now) }
+    ensures { OnOk result (names.new.items ≡ names.old.items ++ variables_bound condition.now) }
 {
     match condition {
         CondTree::Plain(source) => add_source(alloc, names, source),
@@ -114,7 +114,7 @@ fn have_sets_apart(alloc: Global, actions: &[ActTree]) -> Result<bool, NoMemory>
 }
 
 fn word_of_meta(meta: &Meta) -> &'static str
-    ensures { result.now ≡ meta_word meta.now }
+    ensures { result.now ≡ annotation_word meta.now }
 {
     match meta {
         Meta::Role(_) => "role",
@@ -126,7 +126,7 @@ fn word_of_meta(meta: &Meta) -> &'static str
 }
 
 fn words_of_metas(alloc: Global, metas: &[Meta]) -> Result<Vec<Text>, NoMemory>
-    ensures { IfOk result (λ words. words.items ≡ map meta_word metas.now) }
+    ensures { IfOk result (λ words. words.items ≡ map annotation_word metas.now) }
 {
     let mut words = Vec::with_capacity(alloc, metas.len())?;
     for meta in metas {
@@ -136,7 +136,7 @@ fn words_of_metas(alloc: Global, metas: &[Meta]) -> Result<Vec<Text>, NoMemory>
 }
 
 fn have_metas_apart(alloc: Global, tree: &TypeTree) -> Result<bool, NoMemory>
-    ensures { IfOk result (λ apart. apart ≡ are_distinct (map meta_word tree.now.metas)) }
+    ensures { IfOk result (λ apart. apart ≡ are_distinct (map annotation_word tree.now.metas)) }
 {
     differ(alloc, &words_of_metas(alloc, tree.metas.as_slice())?)
 }

@@ -1,11 +1,14 @@
 -- What a rule asks for is read exactly.
-use Rattle.drl_condition.proofs.Common.{◌≡◌, ℕ, zero, suc, ◌<◌, ◌≤◌, ◌||◌, Bool, true, false, List, [], ◌∷◌, ◌++◌, length, Option, Some, None, refl, subst, arith, IfSome, codes, bytes_eq, TokenKind, Word, Mark, OpenParenthesis, CloseParenthesis, Read, Found, CondTree, Piece, One, Open, Or, Close, IsCondition, binds, ◌>>=◌, with_front, then, if_some_then, same_bytes, closed_then, condition_at, Reader, IsChoice, AreAll, AreAny, IsAsked, word_sound, word_again, closed_is, any_step}
+use Rattle.drl_condition.proofs.Common.{◌≡◌, ℕ, zero, suc, ◌<◌, ◌≤◌, ◌||◌, Bool, true, false, List, [], ◌∷◌, ◌++◌, length, Option, Some, None, refl, subst}
+use Rattle.drl_condition.proofs.Common.{arith, IfSome, codes, bytes_eq, TokenKind, Word, Mark, OpenParenthesis, CloseParenthesis, Read, Found, CondTree, Piece}
+use Rattle.drl_condition.proofs.Common.{One, Open, Or, Close, IsCondition, phrase_binds, ◌>>=◌, with_front, then, if_some_then, same_bytes, closed_then}
+use Rattle.drl_condition.proofs.Common.{condition_at, PieceReader, IsChoice, AreAll, AreAny, IsAsked, word_sound, word_again, closed_is, any_step}
 use Rattle.drl_expr.specs.Words.{is_ident}
 use Rattle.drl_grammar.specs.Conditions as g
 use Rattle.drl_phrase.specs.declared.phrase.Punctuation.TheVariants as p
 use Rattle.drl_phrase.specs.Reading.{after_word}
 use Rattle.drl_phrase.proofs.ShapeLaws as shapes
-use Rattle.drl_condition.specs.Choices.{ends_all, all_turns, all_at, any_turns, any_at, alternatives_at, after_open, choice_at, asked_at}
+use Rattle.drl_condition.specs.Choices.{ends_all, all_turns, all_at, any_turns, any_at, alternatives_at, after_open, choice_at, pieces_at}
 use Rattle.drl_condition.proofs.WordLaws.{ident_differs}
 use Rattle.drl_condition.proofs.ChoiceSteps.{one_is}
 use Rattle.drl_condition.proofs.ConditionLaws.{condition_exact, condition_begins}
@@ -13,10 +16,10 @@ use Rattle.drl_condition.proofs.ConditionLaws.{condition_exact, condition_begins
 -- ---- what is read stands there
 
 -- what is read at the front of any tokens stands there
-abbrev Sound : Reader → (List Piece → List TokenKind → List TokenKind → Type 0) → Type 0
+abbrev Sound : PieceReader → (List Piece → List TokenKind → List TokenKind → Type 0) → Type 0
 Sound read Is = (ts : List TokenKind) → Found Is ts (read ts)
 
-module _ (d : ℕ) (choice : Reader) (sound : Sound choice (IsChoice d)) where
+module _ (d : ℕ) (choice : PieceReader) (sound : Sound choice (IsChoice d)) where
   all_turns_sound : (n : ℕ) → Sound (all_turns choice n) (AreAll d)
   unfolding all_turns
   all_turns_sound zero ts = tt
@@ -32,12 +35,12 @@ or_found : (d : ℕ) (ps : List Piece) (ts next : List TokenKind) (o : Read (Lis
 or_found d ps ts next None h others = tt
 or_found d ps ts next (Some qs) h others = g.or_else h others
 
-any_step_sound : (d : ℕ) (ps : List Piece × List TokenKind) (ts : List TokenKind) (o : Option (List TokenKind)) (others : Reader) → AreAll d ps.0 ts ps.1 → IfSome o (λ next. ps.1 ≡ Word (codes "or") ∷ next)
+any_step_sound : (d : ℕ) (ps : List Piece × List TokenKind) (ts : List TokenKind) (o : Option (List TokenKind)) (others : PieceReader) → AreAll d ps.0 ts ps.1 → IfSome o (λ next. ps.1 ≡ Word (codes "or") ∷ next)
     → Sound others (AreAny d) → Found (AreAny d) ts (any_step ps o others)
 any_step_sound d ps ts None others h e sound = g.only h
 any_step_sound d ps ts (Some next) others h e sound = or_found d ps.0 ts next (others next) (subst (AreAll d ps.0 ts) e h) (sound next)
 
-module _ (d : ℕ) (all : Reader) (sound : Sound all (AreAll d)) where
+module _ (d : ℕ) (all : PieceReader) (sound : Sound all (AreAll d)) where
   any_turns_sound : (n : ℕ) → Sound (any_turns all n) (AreAny d)
   unfolding any_turns
   any_turns_sound zero ts = tt
@@ -52,7 +55,7 @@ module _ (d : ℕ) (all : Reader) (sound : Sound all (AreAll d)) where
 abbrev Behind : ℕ → List Piece → List TokenKind → List TokenKind → Type 0
 Behind d ps ts rest = IsChoice (suc d) (Open ∷ ps) (Mark OpenParenthesis ∷ ts) rest
 
-alternatives_sound : (d : ℕ) (choice : Reader) → Sound choice (IsChoice d) → Sound (alternatives_at choice) (Behind d)
+alternatives_sound : (d : ℕ) (choice : PieceReader) → Sound choice (IsChoice d) → Sound (alternatives_at choice) (Behind d)
 unfolding alternatives_at
 alternatives_sound d choice sound ts = then (AreAll d) ts (all_at choice ts) _ (Behind d) ts (all_sound d choice sound ts) (λ ps hps.
     if_some_then (after_word (codes "or") ps.1) (λ next. ps.1 ≡ Word (codes "or") ∷ next) _ (Behind d) ts (word_sound (codes "or") ps.1) (λ next e.
@@ -70,8 +73,8 @@ choice_sound (suc d) (Mark OpenParenthesis ∷ ts) = then (Behind d) ts (alterna
 choice_sound (suc d) ts = one_sound (suc d) ts
 
 -- what is read as asked for is asked for
-pub asked_sound : Sound asked_at IsAsked
-unfolding asked_at
+pub asked_sound : Sound pieces_at IsAsked
+unfolding pieces_at
 asked_sound ts = all_sound 16 (choice_at 16) (choice_sound 16) ts
 
 -- ---- a phrase has a token
@@ -95,11 +98,11 @@ asked_shorter h = all_shorter h
 -- ---- how phrases begin, and what follows them
 
 -- where what is asked for ends, no condition goes on
-ends_binds : (ts : List TokenKind) → ends_all ts ≡ true → 9 ≤ binds ts
+ends_binds : (ts : List TokenKind) → ends_all ts ≡ true → 9 ≤ phrase_binds ts
 unfolding ends_all
 ends_binds (Word w ∷ rest) e = go (bytes_eq w (codes "or")) (bytes_eq w (codes "then")) refl refl e
   where
-    go : (o t : Bool) → bytes_eq w (codes "or") ≡ o → bytes_eq w (codes "then") ≡ t → o || t ≡ true → 9 ≤ binds (Word w ∷ rest)
+    go : (o t : Bool) → bytes_eq w (codes "or") ≡ o → bytes_eq w (codes "then") ≡ t → o || t ≡ true → 9 ≤ phrase_binds (Word w ∷ rest)
     go true t is_or is_then h = rw (same_bytes w (codes "or") is_or) (omega arith)
     go false true is_or is_then h = rw (same_bytes w (codes "then") is_then) (omega arith)
     go false false is_or is_then h = absurd cc
@@ -122,26 +125,26 @@ condition_starts c ts rest (g.folded (g.number_form g.unbound ht hs)) = record {
 condition_starts c ts rest (g.folded (g.number_form g.bound ht hs)) = record { goes_on = refl; shut = refl }
 condition_starts c ts rest (g.folded (g.accumulate_form hs ht)) = record { goes_on = refl; shut = refl }
 
-choice_begins : {d : ℕ} {ps : List Piece} {ts rest : List TokenKind} → IsChoice d ps ts rest → (9 ≤ binds ts) × (ends_all ts ≡ false)
+choice_begins : {d : ℕ} {ps : List Piece} {ts rest : List TokenKind} → IsChoice d ps ts rest → (9 ≤ phrase_binds ts) × (ends_all ts ≡ false)
 unfolding ends_all
 choice_begins (g.one {c} {ts} {rest} h) = (condition_begins c ts rest h, (condition_starts c ts rest h).goes_on)
 choice_begins (g.alternatives hps hqs) = (omega arith, refl)
 
-all_begins : {d : ℕ} {ps : List Piece} {ts rest : List TokenKind} → AreAll d ps ts rest → (9 ≤ binds ts) × (ends_all ts ≡ false)
+all_begins : {d : ℕ} {ps : List Piece} {ts rest : List TokenKind} → AreAll d ps ts rest → (9 ≤ phrase_binds ts) × (ends_all ts ≡ false)
 all_begins (g.last h) = choice_begins h
 all_begins (g.further h hs) = choice_begins h
 
 -- ---- what stands there is read
 
 -- a choice that stands there is read
-abbrev ChoiceAgain : ℕ → Reader → Type 0
-ChoiceAgain d choice = (ps : List Piece) (ts rest : List TokenKind) → IsChoice d ps ts rest → 9 ≤ binds rest → choice ts ≡ Some (ps, rest)
+abbrev ChoiceAgain : ℕ → PieceReader → Type 0
+ChoiceAgain d choice = (ps : List Piece) (ts rest : List TokenKind) → IsChoice d ps ts rest → 9 ≤ phrase_binds rest → choice ts ≡ Some (ps, rest)
 
 -- what is asked for together is read, up to where it ends
-abbrev AllAgain : ℕ → Reader → Type 0
+abbrev AllAgain : ℕ → PieceReader → Type 0
 AllAgain d all = (ps : List Piece) (ts rest : List TokenKind) → AreAll d ps ts rest → ends_all rest ≡ true → all ts ≡ Some (ps, rest)
 
-all_turns_again : (d : ℕ) (choice : Reader) → ChoiceAgain d choice → {ps : List Piece} {ts rest : List TokenKind} → AreAll d ps ts rest → ends_all rest ≡ true → (n : ℕ) → length ts ≤ n
+all_turns_again : (d : ℕ) (choice : PieceReader) → ChoiceAgain d choice → {ps : List Piece} {ts rest : List TokenKind} → AreAll d ps ts rest → ends_all rest ≡ true → (n : ℕ) → length ts ≤ n
     → all_turns choice n ts ≡ Some (ps, rest)
 unfolding all_turns
 all_turns_again d choice again (g.last h) end zero le = let less = choice_shorter h in absurd (omega arith)
@@ -152,11 +155,11 @@ all_turns_again d choice again {ts} (g.further {ps} {middle} h hs) end (suc n) l
     let begun = all_begins hs in
     rw (again ps ts middle h begun.0, begun.1, all_turns_again d choice again hs end n (omega arith)) refl
 
-all_again : (d : ℕ) (choice : Reader) → ChoiceAgain d choice → AllAgain d (all_at choice)
+all_again : (d : ℕ) (choice : PieceReader) → ChoiceAgain d choice → AllAgain d (all_at choice)
 unfolding all_at
 all_again d choice again ps ts rest h end = all_turns_again d choice again h end (length ts) (omega arith)
 
-any_turns_again : (d : ℕ) (all : Reader) → AllAgain d all → {qs : List Piece} {ts rest : List TokenKind} → AreAny d qs ts rest → ends_all rest ≡ true → after_word (codes "or") rest ≡ None → (n : ℕ) → length ts ≤ n
+any_turns_again : (d : ℕ) (all : PieceReader) → AllAgain d all → {qs : List Piece} {ts rest : List TokenKind} → AreAny d qs ts rest → ends_all rest ≡ true → after_word (codes "or") rest ≡ None → (n : ℕ) → length ts ≤ n
     → any_turns all n ts ≡ Some (qs, rest)
 unfolding any_turns ends_all
 any_turns_again d all again (g.only h) end last zero le = let less = all_shorter h in absurd (omega arith)
@@ -178,6 +181,6 @@ choice_again (suc d) pieces whole rest (g.alternatives {ps} {qs} {ts} {middle} h
     ) refl
 
 -- what is asked for is read, if what follows ends it
-pub asked_again : (ps : List Piece) (ts rest : List TokenKind) → IsAsked ps ts rest → ends_all rest ≡ true → asked_at ts ≡ Some (ps, rest)
-unfolding asked_at
+pub asked_again : (ps : List Piece) (ts rest : List TokenKind) → IsAsked ps ts rest → ends_all rest ≡ true → pieces_at ts ≡ Some (ps, rest)
+unfolding pieces_at
 asked_again ps ts rest h end = all_again 16 (choice_at 16) (choice_again 16) ps ts rest h end

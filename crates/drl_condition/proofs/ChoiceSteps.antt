@@ -1,5 +1,7 @@
 -- The steps of reading what a rule asks for, as the code takes them: pieces behind those that are read already.
-use Rattle.drl_condition.proofs.Common.{◌≡◌, ℕ, zero, suc, ◌-◌, ◌+◌, ◌<◌, ◌≤◌, true, false, List, [], ◌∷◌, ◌++◌, length, Some, None, refl, sym, ap, ◌∙◌, append_assoc, arith, codes, TokenKind, Read, CondTree, Piece, One, Open, Or, Close, ◌>>=◌, with_front, condition_at, Reader, after, after_word, ends_all, after_open}
+use Rattle.drl_condition.proofs.Common.{◌≡◌, ℕ, zero, suc, ◌-◌, ◌+◌, ◌<◌, ◌≤◌, true, false, List, [], ◌∷◌, ◌++◌, length, Some, None, refl, sym, ap, ◌∙◌}
+use Rattle.drl_condition.proofs.Common.{append_assoc, arith, codes, TokenKind, Read, CondTree, Piece, One, Open, Or, Close, ◌>>=◌, with_front, condition_at}
+use Rattle.drl_condition.proofs.Common.{PieceReader, after, after_word, ends_all, after_open}
 use Rattle.drl_phrase.specs.declared.phrase.Punctuation.TheVariants as p
 use Rattle.drl_phrase.specs.Reading.{closed}
 use Rattle.drl_condition.specs.Choices.{all_turns, all_at, any_turns, any_at, alternatives_at, choice_at}
@@ -38,15 +40,15 @@ in_order front ps qs whole all e h = rw (h, e) (simp append_assoc)
 
 -- ---- what is asked for together, and others of it
 
-pub all_begins : (choice : Reader) (front : List Piece) (ts : List TokenKind) → with_front front (all_turns choice (length ts - 0) ts) ≡ with_front front (all_at choice ts)
+pub all_begins : (choice : PieceReader) (front : List Piece) (ts : List TokenKind) → with_front front (all_turns choice (length ts - 0) ts) ≡ with_front front (all_at choice ts)
 unfolding all_at
 all_begins choice front ts = let k : length ts - 0 ≡ length ts = omega arith in rw k refl
 
-pub any_begins : (all : Reader) (front : List Piece) (ts : List TokenKind) → with_front front (any_turns all (length ts - 0) ts) ≡ with_front front (any_at all ts)
+pub any_begins : (all : PieceReader) (front : List Piece) (ts : List TokenKind) → with_front front (any_turns all (length ts - 0) ts) ≡ with_front front (any_at all ts)
 unfolding any_at
 any_begins all front ts = let k : length ts - 0 ≡ length ts = omega arith in rw k refl
 
-module _ (choice : Reader) (front : List Piece) (count i : ℕ) (ts : List TokenKind) (total : Read (List Piece)) where
+module _ (choice : PieceReader) (front : List Piece) (count i : ℕ) (ts : List TokenKind) (total : Read (List Piece)) where
   pub all_stops : i < count → with_front front (choice ts) ≡ None → with_front front (all_turns choice (count - i) ts) ≡ total → None ≡ total
   unfolding all_turns
   all_stops lt none so_far =
@@ -81,7 +83,7 @@ module _ (choice : Reader) (front : List Piece) (count i : ℕ) (ts : List Token
       let turn : with_front front (all_turns choice (count - i) ts) ≡ None = rw k refl in
       sym turn ∙ so_far
 
-module _ (all : Reader) (front : List Piece) (count i : ℕ) (ts : List TokenKind) (total : Read (List Piece)) where
+module _ (all : PieceReader) (front : List Piece) (count i : ℕ) (ts : List TokenKind) (total : Read (List Piece)) where
   pub any_stops : i < count → with_front front (all ts) ≡ None → with_front front (any_turns all (count - i) ts) ≡ total → None ≡ total
   unfolding any_turns
   any_stops lt none so_far =
@@ -118,7 +120,7 @@ module _ (all : Reader) (front : List Piece) (count i : ℕ) (ts : List TokenKin
 
 -- ---- alternatives
 
-module _ (choice : Reader) (front : List Piece) (ts : List TokenKind) where
+module _ (choice : PieceReader) (front : List Piece) (ts : List TokenKind) where
   pub no_first : with_front front (all_at choice ts) ≡ None → None ≡ with_front front (alternatives_at choice ts)
   unfolding alternatives_at
   no_first none = sym (none_then front front (all_at choice ts) _ none)

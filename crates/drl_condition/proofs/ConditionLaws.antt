@@ -1,5 +1,8 @@
 -- Conditions are read exactly.
-use Rattle.drl_condition.proofs.Common.{◌≡◌, ℕ, ◌<◌, ◌≤◌, Bool, true, false, cond, List, [], ◌∷◌, length, Option, Some, None, refl, arith, codes, bytes_eq, TokenKind, Word, Var, Mark, OpenParenthesis, Colon, Read, Found, SourceTree, CondTree, IsBinding, IsSource, IsGroup, IsFolded, IsCondition, binds, Exact, then, same_bytes, source_at, Begins, group_at, number_at, accumulate_at}
+use Rattle.drl_condition.proofs.Common.{◌≡◌, ℕ, ◌<◌, ◌≤◌, Bool, true, false, cond, List, [], ◌∷◌, length, Option, Some, None, refl, arith, codes, bytes_eq}
+use Rattle.drl_condition.proofs.Common.{TokenKind, Word, Var, Mark, OpenParenthesis, Colon, Read, Found, SourceTree, CondTree, IsBinding, IsSource, IsGroup}
+use Rattle.drl_condition.proofs.Common.{IsFolded, IsCondition, phrase_binds, ExactPhrase, then, same_bytes, source_at, Begins, group_at, number_at}
+use Rattle.drl_condition.proofs.Common.{accumulate_at}
 use Rattle.drl_expr.specs.Words.{is_ident}
 use Rattle.drl_grammar.specs.Conditions as g
 use Rattle.drl_phrase.proofs.Carried.{ident_binds}
@@ -67,14 +70,14 @@ formed_sound form.Existence (t ∷ ts) led = rw led (then IsGroup ts (group_at t
 formed_sound form.Accumulate (t ∷ ts) led = rw led (as_condition _ (accumulate_at ts) (accumulate_sound ts))
 formed_sound f [] led = tt
 
-pub condition_exact : Exact IsCondition condition_at 9
+pub condition_exact : ExactPhrase IsCondition condition_at 9
 unfolding condition_at formed_at form_at word_form
 condition_exact = record { sound = sound; again = again; shorter = shorter }
   where
     sound : (ts : List TokenKind) → Found IsCondition ts (condition_at ts)
     sound ts = formed_sound (form_at ts) ts (form_led ts)
 
-    again : (x : CondTree) (ts rest : List TokenKind) → IsCondition x ts rest → 9 ≤ binds rest → condition_at ts ≡ Some (x, rest)
+    again : (x : CondTree) (ts rest : List TokenKind) → IsCondition x ts rest → 9 ≤ phrase_binds rest → condition_at ts ≡ Some (x, rest)
     again x ts rest (g.plain {s} h) stop = rw (source_form s ts rest h, source_exact.again s ts rest h stop) refl
     again x ts rest (g.negated {s} {ts = inner} h) stop = rw (group_exact.again s inner rest h stop) refl
     again x ts rest (g.existing {s} {ts = inner} h) stop = rw (group_exact.again s inner rest h stop) refl

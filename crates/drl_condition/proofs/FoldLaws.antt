@@ -1,56 +1,63 @@
 -- Accumulates are read exactly.
-use Rattle.drl_condition.proofs.Common.{◌≡◌, ◌&&◌, ℕ, ◌<◌, ◌≤◌, List, ◌∷◌, length, Option, Some, refl, subst, arith, codes, bytes_eq, TokenKind, Word, Var, Mark, OpenParenthesis, CloseParenthesis, Comma, Colon, Comparison, Phrase, Found, Operand, SourceTree, FoldWord, CondTree, Separated, Listed, fold_text, result_text, IsOperand, IsBinding, IsSource, IsFolded, binds, Exact, separated_at, listed_at, then, if_some_then, guarded, same_bytes, closed_then, separated_exact, listed_exact, source_at, Semicolon, IsValueTest, IsResultTest, AreResultTests, itself, fold_word, result_word, operand_at, binding_at}
+use Rattle.drl_condition.proofs.Common.{◌≡◌, ◌&&◌, ℕ, ◌<◌, ◌≤◌, List, ◌∷◌, length, Option, Some, refl, subst, arith, codes, bytes_eq, TokenKind, Word, Var}
+use Rattle.drl_condition.proofs.Common.{Mark, OpenParenthesis, CloseParenthesis, Comma, Colon, Comparison, Phrase, Found, Operand, SourceTree, FoldWord}
+use Rattle.drl_condition.proofs.Common.{CondTree, Separated, Listed, fold_text, result_text, IsOperand, IsBinding, IsSource, IsFolded, phrase_binds}
+use Rattle.drl_condition.proofs.Common.{ExactPhrase, separated_at, listed_at, then, if_some_then, guarded, same_bytes, closed_then, separated_exact}
+use Rattle.drl_condition.proofs.Common.{listed_exact, source_at, Semicolon, IsValueTest, IsResultTest, AreResultTests, itself, fold_word, result_word}
+use Rattle.drl_condition.proofs.Common.{test_operand_at, binding_at}
+use Rattle.std.proofs.lemmas.Bool.{and_parts}
 use Rattle.drl_lex.specs.declared.token.Rel.{Rel}
 use Rattle.drl_grammar.specs.declared.condition.CondTree.TheVariants as condition
 use Rattle.drl_grammar.specs.Conditions as g
 use Rattle.drl_phrase.specs.declared.phrase.Punctuation.TheVariants as p
 use Rattle.drl_phrase.specs.Reading.{closed, after}
-use Rattle.drl_condition.specs.Reading.{window_at, place_at, value_test_at, result_test_at, result_tests_at, call_at, last_call_at, number_call_at, number_source_at, number_tests_at, number_at, result_at, accumulate_call_at, accumulate_at}
-use Rattle.drl_condition.proofs.WordLaws.{fold_sound, fold_again, result_sound, result_again, both}
+use Rattle.drl_condition.specs.Reading.{window_at, place_at, value_test_at, result_test_at, result_tests_at, call_at, last_call_at, number_call_at}
+use Rattle.drl_condition.specs.Reading.{number_source_at, number_tests_at, number_at, result_at, accumulate_call_at, accumulate_at}
+use Rattle.drl_condition.proofs.WordLaws.{fold_sound, fold_again, result_sound, result_again}
 use Rattle.drl_condition.proofs.ValueLaws.{operand_exact}
 use Rattle.drl_condition.proofs.PatternLaws.{binding_sound, binding_again, binding_shorter, source_again, source_exact}
 
 -- ---- tests of the result
 
-value_test_exact : Exact IsValueTest value_test_at 1
+value_test_exact : ExactPhrase IsValueTest value_test_at 1
 unfolding value_test_at
 value_test_exact = record { sound = sound; again = again; shorter = shorter }
   where
     sound : (ts : List TokenKind) → Found IsValueTest ts (value_test_at ts)
     sound (Word w ∷ Mark (Comparison r) ∷ ts) = if_some_then (result_word w) (λ k. w ≡ result_text k) _ IsValueTest _ (result_sound w) (λ k e. rw e (
-        then IsOperand ts (operand_at ts) _ IsValueTest _ (operand_exact.sound ts) (λ o ho. g.value_test k ho)))
+        then IsOperand ts (test_operand_at ts) _ IsValueTest _ (operand_exact.sound ts) (λ o ho. g.value_test k ho)))
     sound ts = tt
 
-    again : (x : Rel × Operand) (ts rest : List TokenKind) → IsValueTest x ts rest → 1 ≤ binds rest → value_test_at ts ≡ Some (x, rest)
+    again : (x : Rel × Operand) (ts rest : List TokenKind) → IsValueTest x ts rest → 1 ≤ phrase_binds rest → value_test_at ts ≡ Some (x, rest)
     again x ts rest (g.value_test k {o} {ts = inner} h) stop = rw (result_again k, operand_exact.again o inner rest h stop) refl
 
     shorter : (x : Rel × Operand) (ts rest : List TokenKind) → IsValueTest x ts rest → length rest < length ts
     shorter x ts rest (g.value_test k {o} {ts = inner} h) = let less = operand_exact.shorter o inner rest h in omega arith
 
-value_tests_exact : Exact (Listed IsValueTest) (listed_at value_test_at) 0
+value_tests_exact : ExactPhrase (Listed IsValueTest) (listed_at value_test_at) 0
 unfolding value_test_at
 value_tests_exact = listed_exact (omega arith) value_test_exact (λ rest. refl)
 
-result_test_exact : (v : List ℕ) → Exact (IsResultTest v) (result_test_at v) 1
+result_test_exact : (v : List ℕ) → ExactPhrase (IsResultTest v) (result_test_at v) 1
 unfolding result_test_at
 result_test_exact v = record { sound = sound; again = again; shorter = shorter }
   where
     sound : (ts : List TokenKind) → Found (IsResultTest v) ts (result_test_at v ts)
     sound (Var w ∷ Mark (Comparison r) ∷ ts) = guarded (IsResultTest v) _ (bytes_eq w v) _ (λ e. rw (same_bytes w v e) (
-        then IsOperand ts (operand_at ts) _ (IsResultTest v) _ (operand_exact.sound ts) (λ o ho. g.result_test ho)))
+        then IsOperand ts (test_operand_at ts) _ (IsResultTest v) _ (operand_exact.sound ts) (λ o ho. g.result_test ho)))
     sound ts = tt
 
-    again : (x : Rel × Operand) (ts rest : List TokenKind) → IsResultTest v x ts rest → 1 ≤ binds rest → result_test_at v ts ≡ Some (x, rest)
+    again : (x : Rel × Operand) (ts rest : List TokenKind) → IsResultTest v x ts rest → 1 ≤ phrase_binds rest → result_test_at v ts ≡ Some (x, rest)
     again x ts rest (g.result_test {o} {ts = inner} h) stop = rw (itself v, operand_exact.again o inner rest h stop) refl
 
     shorter : (x : Rel × Operand) (ts rest : List TokenKind) → IsResultTest v x ts rest → length rest < length ts
     shorter x ts rest (g.result_test {o} {ts = inner} h) = let less = operand_exact.shorter o inner rest h in omega arith
 
-result_tests_exact : (v : List ℕ) → Exact (AreResultTests v) (result_tests_at v) 0
+result_tests_exact : (v : List ℕ) → ExactPhrase (AreResultTests v) (result_tests_at v) 0
 unfolding result_tests_at closed after
 result_tests_exact v = record { sound = sound; again = again; shorter = shorter }
   where
-    list : Exact (Separated (Mark Comma) (IsResultTest v)) (separated_at (result_test_at v) p.Comma) 6
+    list : ExactPhrase (Separated (Mark Comma) (IsResultTest v)) (separated_at (result_test_at v) p.Comma) 6
     list = separated_exact p.Comma (omega arith) (result_test_exact v)
 
     sound : (ts : List TokenKind) → Found (AreResultTests v) ts (result_tests_at v ts)
@@ -59,7 +66,7 @@ result_tests_exact v = record { sound = sound; again = again; shorter = shorter 
         closed_then p.CloseParenthesis (Separated (Mark Comma) (IsResultTest v)) rs.0 ts _ rs.1 (AreResultTests v) _ hrs (λ rest hr. g.tests hr))
     sound ts = tt
 
-    again : (xs : List (Rel × Operand)) (ts rest : List TokenKind) → AreResultTests v xs ts rest → 0 ≤ binds rest → result_tests_at v ts ≡ Some (xs, rest)
+    again : (xs : List (Rel × Operand)) (ts rest : List TokenKind) → AreResultTests v xs ts rest → 0 ≤ phrase_binds rest → result_tests_at v ts ≡ Some (xs, rest)
     again xs ts rest g.no_tests stop = refl
     again xs ts rest (g.tests {ts = inner} h) stop = rw (list.again xs inner (Mark CloseParenthesis ∷ rest) h (omega arith)) refl
 
@@ -103,7 +110,7 @@ number_source_sound : (v : Option (List ℕ)) (tests : List (Rel × Operand)) (w
     → IsBinding v whole (Word (codes "Number") ∷ Mark OpenParenthesis ∷ inner) → Listed IsValueTest tests inner ts → Found IsFolded whole (number_source_at v tests ts)
 unfolding number_source_at
 number_source_sound v tests whole inner (Word f ∷ Word a ∷ Mark OpenParenthesis ∷ ts) hv ht = guarded IsFolded whole (bytes_eq f (codes "from") && bytes_eq a (codes "accumulate")) _ (λ h.
-    let words = both (bytes_eq f (codes "from")) (bytes_eq a (codes "accumulate")) h in
+    let words = and_parts (bytes_eq f (codes "from")) (bytes_eq a (codes "accumulate")) h in
     let one = subst (λ (w : List ℕ). Listed IsValueTest tests inner (Word w ∷ Word a ∷ Mark OpenParenthesis ∷ ts)) (same_bytes f (codes "from") words.0) ht in
     let two = subst (λ (w : List ℕ). Listed IsValueTest tests inner (Word (codes "from") ∷ Word w ∷ Mark OpenParenthesis ∷ ts)) (same_bytes a (codes "accumulate") words.1) one in
     then IsSource ts (source_at ts) _ IsFolded whole (source_exact.sound ts) (λ s hs. number_call_sound v tests s.0 whole inner ts s.1 hv two hs))

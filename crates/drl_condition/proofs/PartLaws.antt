@@ -1,5 +1,8 @@
 -- The parts of a pattern are read exactly.
-use Rattle.drl_condition.proofs.Common.{◌≡◌, ℕ, ℤ, ◌<◌, ◌≤◌, List, ◌∷◌, length, Some, refl, arith, codes, bytes_eq, OpWord, TokenKind, Word, Var, Mark, Comma, Colon, Found, Cmp, Separated, Listed, op_text, IsSpan, IsDisj, IsPart, binds, Exact, separated_at, listed_at, span_at, then, if_some_then, ident_then, ident_is, same_bytes, closed_then, separated_exact, listed_exact, span_exact, disj_at, OpenBracket, CloseBracket, AreParams, choice, op_word}
+use Rattle.drl_condition.proofs.Common.{◌≡◌, ℕ, ℤ, ◌<◌, ◌≤◌, List, ◌∷◌, length, Some, refl, arith, codes, bytes_eq, OpWord, TokenKind, Word, Var, Mark, Comma}
+use Rattle.drl_condition.proofs.Common.{Colon, Found, Cmp, Separated, Listed, op_text, IsSpan, IsDisj, IsPart, phrase_binds, ExactPhrase, separated_at}
+use Rattle.drl_condition.proofs.Common.{listed_at, span_at, then, if_some_then, ident_then, ident_is, same_bytes, closed_then, separated_exact, listed_exact}
+use Rattle.drl_condition.proofs.Common.{span_exact, disj_at, OpenBracket, CloseBracket, AreParams, choice, op_word}
 use Rattle.drl_expr.specs.Words.{is_ident}
 use Rattle.drl_grammar.specs.declared.condition.Part.{Part}
 use Rattle.drl_grammar.specs.declared.condition.Part.TheVariants as part
@@ -12,7 +15,7 @@ use Rattle.drl_condition.proofs.ValueLaws.{disj_exact, Named, disj_begins}
 
 -- ---- temporal tests
 
-spans_exact : Exact (Separated (Mark Comma) IsSpan) (separated_at span_at p.Comma) 6
+spans_exact : ExactPhrase (Separated (Mark Comma) IsSpan) (separated_at span_at p.Comma) 6
 spans_exact = separated_exact p.Comma (omega arith) span_exact
 
 params_sound : (ts : List TokenKind) → Found AreParams ts (params_at ts)
@@ -52,7 +55,7 @@ unfolding part_at any_of_at is_ident
 any_of_again d (Word w ∷ others) rest named e = rw (ident_differs w (codes "this") named refl, e) refl
 any_of_again d ts rest named e = absurd named
 
-pub part_exact : Exact IsPart part_at 5
+pub part_exact : ExactPhrase IsPart part_at 5
 unfolding part_at temporal_at other_at
 part_exact = record { sound = sound; again = again; shorter = shorter }
   where
@@ -61,7 +64,7 @@ part_exact = record { sound = sound; again = again; shorter = shorter }
     sound (Word w ∷ ts) = choice IsPart _ (bytes_eq w (codes "this")) _ _ (λ e. rw (same_bytes w (codes "this") e) (temporal_sound ts)) (λ e. any_of_sound (Word w ∷ ts))
     sound ts = tt
 
-    again : (x : Part) (ts rest : List TokenKind) → IsPart x ts rest → 5 ≤ binds rest → part_at ts ≡ Some (x, rest)
+    again : (x : Part) (ts rest : List TokenKind) → IsPart x ts rest → 5 ≤ phrase_binds rest → part_at ts ≡ Some (x, rest)
     again x ts rest (g.bind {f} h) stop = ident_is f _ h
     again x ts rest (g.temporal {op} {ps} {v} {ts = inner} h) stop = rw (op_again op, params_again ps inner v rest h) refl
     again x ts rest (g.any_of {d} h) stop = any_of_again d ts rest (disj_begins d ts rest h) (disj_exact.again d ts rest h stop)
@@ -71,6 +74,6 @@ part_exact = record { sound = sound; again = again; shorter = shorter }
     shorter x ts rest (g.temporal {ps} {v} {ts = inner} h) = let less = params_shorter ps inner (Var v ∷ rest) h in omega arith
     shorter x ts rest (g.any_of {d} h) = disj_exact.shorter d ts rest h
 
-pub parts_exact : Exact (Listed IsPart) (listed_at part_at) 0
+pub parts_exact : ExactPhrase (Listed IsPart) (listed_at part_at) 0
 unfolding part_at
 parts_exact = listed_exact (omega arith) part_exact (λ rest. refl)

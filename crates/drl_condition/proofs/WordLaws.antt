@@ -1,6 +1,9 @@
 -- The words with a meaning of their own, and the words that are names.
-use Rattle.drl_condition.proofs.Common.{◌≡◌, ◌&&◌, ℕ, ◌≤◌, Bool, true, false, cond, List, ◌∷◌, Option, Some, refl, subst, arith, IfSome, codes, bytes_eq, OpWord, TokenKind, Word, IsIdent, FoldWord, op_text, fold_text, result_text, binds, same_bytes, WindowWord, TimeWord, LengthWord}
-use Rattle.temporal_ops.specs.declared.word.OpWord.TheVariants.{After, Before, Coincides, During, Includes, Finishes, FinishedBy, Starts, StartedBy, Meets, MetBy, Overlaps, OverlappedBy}
+use Rattle.drl_condition.proofs.Common.{◌≡◌, ℕ, ◌≤◌, Bool, true, false, cond, List, ◌∷◌, Option, Some, refl, subst, arith, IfSome, codes, bytes_eq, OpWord}
+use Rattle.drl_condition.proofs.Common.{TokenKind, Word, IsIdent, FoldWord, op_text, fold_text, result_text, phrase_binds, same_bytes, WindowWord, TimeWord}
+use Rattle.drl_condition.proofs.Common.{LengthWord}
+use Rattle.temporal_ops.specs.declared.word.OpWord.TheVariants.{After, Before, Coincides, During, Includes, Finishes, FinishedBy, Starts, StartedBy, Meets}
+use Rattle.temporal_ops.specs.declared.word.OpWord.TheVariants.{MetBy, Overlaps, OverlappedBy}
 use Rattle.drl_expr.specs.Words.{is_ident}
 use Rattle.drl_grammar.specs.declared.condition.FoldWord.TheVariants.{Count, Sum, Min, Max, Average}
 use Rattle.drl_grammar.specs.declared.condition.ResultWord.{ResultWord}
@@ -90,15 +93,10 @@ abbrev word_level : Bool → Bool → ℕ
 word_level o a = cond o 7 (cond a 8 9)
 
 -- a word that goes on with no pattern is none of the two that do
-pub word_differs : (w : List ℕ) (rest : List TokenKind) → 9 ≤ binds (Word w ∷ rest) → (bytes_eq w (codes "over") ≡ false) × (bytes_eq w (codes "from") ≡ false)
+pub word_differs : (w : List ℕ) (rest : List TokenKind) → 9 ≤ phrase_binds (Word w ∷ rest) → (bytes_eq w (codes "over") ≡ false) × (bytes_eq w (codes "from") ≡ false)
 word_differs w rest low = go (bytes_eq w (codes "over")) (bytes_eq w (codes "from")) low
   where
     go : (o a : Bool) → 9 ≤ word_level o a → (o ≡ false) × (a ≡ false)
     go true a low = absurd (omega arith)
     go false true low = absurd (omega arith)
     go false false low = (refl, refl)
-
-pub both : (a b : Bool) → (a && b) ≡ true → (a ≡ true) × (b ≡ true)
-both true true e = (refl, refl)
-both true false e = absurd cc
-both false b e = absurd cc

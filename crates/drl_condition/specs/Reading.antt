@@ -42,22 +42,22 @@ literal_at ts = None
 abbrev pub as_operand : LitTree × List TokenKind → Read Operand
 as_operand l = Some (operand.Lit l.0, l.1)
 
-unfoldable pub operand_at : List TokenKind → Read Operand
-operand_at (Var v ∷ Mark Dot ∷ Word f ∷ rest) = ident f (Some (operand.VarField v f, rest))
-operand_at (Var v ∷ Mark Dot ∷ rest) = None
-operand_at (Var v ∷ rest) = Some (operand.Var v, rest)
-operand_at (Word w ∷ rest) = if is_ident w then Some (operand.Own w, rest) else literal_at (Word w ∷ rest) >>= as_operand
-operand_at ts = literal_at ts >>= as_operand
+unfoldable pub test_operand_at : List TokenKind → Read Operand
+test_operand_at (Var v ∷ Mark Dot ∷ Word f ∷ rest) = ident f (Some (operand.VarField v f, rest))
+test_operand_at (Var v ∷ Mark Dot ∷ rest) = None
+test_operand_at (Var v ∷ rest) = Some (operand.Var v, rest)
+test_operand_at (Word w ∷ rest) = if is_ident w then Some (operand.Own w, rest) else literal_at (Word w ∷ rest) >>= as_operand
+test_operand_at ts = literal_at ts >>= as_operand
 
 -- ---- what stands in the parentheses of a pattern
 
 -- a field against an operand, behind the sign between them
 unfoldable pub compared_at : List ℕ → Rel → List TokenKind → Read Cmp
-compared_at f r ts = operand_at ts >>= λ o. Some (cmp.Rel f r o.0, o.1)
+compared_at f r ts = test_operand_at ts >>= λ o. Some (cmp.Rel f r o.0, o.1)
 
 -- a field among operands, behind the opening parenthesis
 unfoldable pub one_of_at : List ℕ → List TokenKind → Read Cmp
-one_of_at f ts = separated_at operand_at p.Comma ts >>= λ os. closed p.CloseParenthesis (cmp.OneOf f os.0) os.1
+one_of_at f ts = separated_at test_operand_at p.Comma ts >>= λ os. closed p.CloseParenthesis (cmp.OneOf f os.0) os.1
 
 unfoldable pub cmp_at : List TokenKind → Read Cmp
 cmp_at (Word f ∷ Mark (Comparison r) ∷ ts) = ident f (compared_at f r ts)
@@ -131,12 +131,12 @@ group_at ts = source_at ts
 -- ---- accumulates
 
 unfoldable pub value_test_at : List TokenKind → Read (Rel × Operand)
-value_test_at (Word w ∷ Mark (Comparison r) ∷ ts) = result_word w >>= λ word. operand_at ts >>= λ o. Some ((r, o.0), o.1)
+value_test_at (Word w ∷ Mark (Comparison r) ∷ ts) = result_word w >>= λ word. test_operand_at ts >>= λ o. Some ((r, o.0), o.1)
 value_test_at ts = None
 
 -- a test of the result, which has this variable
 unfoldable pub result_test_at : List ℕ → List TokenKind → Read (Rel × Operand)
-result_test_at v (Var w ∷ Mark (Comparison r) ∷ ts) = if bytes_eq w v then (operand_at ts >>= λ o. Some ((r, o.0), o.1)) else None
+result_test_at v (Var w ∷ Mark (Comparison r) ∷ ts) = if bytes_eq w v then (test_operand_at ts >>= λ o. Some ((r, o.0), o.1)) else None
 result_test_at v ts = None
 
 unfoldable pub result_tests_at : List ℕ → List TokenKind → Read (List (Rel × Operand))

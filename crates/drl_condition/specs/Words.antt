@@ -2,7 +2,8 @@
 use Rattle.std.specs.Prelude.{ℕ, List, Option, Some, None, if◌then◌else◌, codes}
 use Rattle.std.specs.Str.{bytes_eq}
 use Rattle.temporal_ops.specs.declared.word.OpWord.{OpWord}
-use Rattle.temporal_ops.specs.declared.word.OpWord.TheVariants.{After, Before, Coincides, During, Includes, Finishes, FinishedBy, Starts, StartedBy, Meets, MetBy, Overlaps, OverlappedBy}
+use Rattle.temporal_ops.specs.declared.word.OpWord.TheVariants.{After, Before, Coincides, During, Includes, Finishes, FinishedBy, Starts, StartedBy, Meets}
+use Rattle.temporal_ops.specs.declared.word.OpWord.TheVariants.{MetBy, Overlaps, OverlappedBy}
 use Rattle.drl_grammar.specs.declared.condition.FoldWord.{FoldWord}
 use Rattle.drl_grammar.specs.declared.condition.FoldWord.TheVariants.{Count, Sum, Min, Max, Average}
 use Rattle.drl_grammar.specs.declared.condition.ResultWord.{ResultWord}

@@ -144,11 +144,11 @@ pub struct AskedPhrase;
 impl Phrase for AskedPhrase {
     type Tree = Seq<Piece>;
 
-    ghost use Rattle.drl_condition.specs.Choices.{asked_at};
+    ghost use Rattle.drl_condition.specs.Choices.{pieces_at};
 
-    ghost at = { asked_at };
+    ghost at = { pieces_at };
 
-    #[tactic(auto, unfolding(crate::specs::Choices::asked_at))]
+    #[tactic(auto, unfolding(crate::specs::Choices::pieces_at))]
     fn read(
         alloc: Global,
         tokens: &[TokenKind],

@@ -48,11 +48,11 @@ pub(crate) struct OperandPhrase;
 impl Phrase for OperandPhrase {
     type Tree = Operand;
 
-    ghost use Rattle.drl_condition.specs.Reading.{operand_at};
+    ghost use Rattle.drl_condition.specs.Reading.{test_operand_at};
 
-    ghost at = { operand_at };
+    ghost at = { test_operand_at };
 
-    #[tactic(auto, unfolding(crate::specs::Reading::operand_at, drl_phrase::specs::Reading::ident))]
+    #[tactic(auto, unfolding(crate::specs::Reading::test_operand_at, drl_phrase::specs::Reading::ident))]
     fn read(
         alloc: Global,
         tokens: &[TokenKind],

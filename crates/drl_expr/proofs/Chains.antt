@@ -1,5 +1,7 @@
 -- Operands with operators between them, grouped to the left: what is read stands in the grammar, and what stands in it is read.
-use Rattle.drl_expr.proofs.Common.{◌≡◌, ℕ, zero, suc, ◌+◌, ◌-◌, ◌<◌, ◌≤◌, max, Bool, true, false, cond, List, ◌∷◌, Option, Some, None, refl, ◌∙◌, arith, nat_lt, ltb-true, lt-ltb, TokenKind, Mark, CloseParenthesis, Tree, height, Read, Phrase, Found, ◌>>=◌, Operator, Reader, chain_step, chained}
+use Rattle.drl_expr.proofs.Common.{◌≡◌, ℕ, zero, suc, ◌+◌, ◌-◌, ◌<◌, ◌≤◌, max, Bool, true, false, cond, List, ◌∷◌, Option, Some, None, refl, ◌∙◌, arith, nat_lt}
+use Rattle.drl_expr.proofs.Common.{ltb-true, lt-ltb, TokenKind, Mark, CloseParenthesis, Tree, height, Read, Phrase, Found, ◌>>=◌, Operator, ExpressionReader}
+use Rattle.drl_expr.proofs.Common.{chain_step, chained}
 use Rattle.drl_expr.specs.Reading.{after_close, chain_at}
 
 -- a phrase is read first, then what go reads
@@ -36,28 +38,28 @@ step_sound Is Right h a ts at (Some op) right go joins sound on ha = under h a (
     let joined = joins a b.0 ts b.1 ha.0 hb.0 in
     on (op.0 a b.0) b.1 (joined.0, omega arith)))
 
-pub chain_sound : (operator : Operator) (right : Reader) (Is Right : Phrase Tree) (h n : ℕ) → ((at : List TokenKind) → Joins Is Right at (operator at)) → ((h : ℕ) (ts : List TokenKind) → Found (Low Right h) ts (right h ts))
+pub chain_sound : (operator : Operator) (right : ExpressionReader) (Is Right : Phrase Tree) (h n : ℕ) → ((at : List TokenKind) → Joins Is Right at (operator at)) → ((h : ℕ) (ts : List TokenKind) → Found (Low Right h) ts (right h ts))
     → (a : Tree) (ts at : List TokenKind) → Low Is h a ts at → Found (Low Is h) ts (chain_at operator right h n a at)
 unfolding chain_at
 chain_sound operator right Is Right h zero joins sound a ts at ha = step_sound Is Right h a ts at (operator at) (λ ts. None) (λ b ts. None) (joins at) (λ ts. tt) (λ b at hb. tt) ha
 chain_sound operator right Is Right h (suc n) joins sound a ts at ha =
     step_sound Is Right h a ts at (operator at) (right (h - 1)) (chain_at operator right h n) (joins at) (sound (h - 1)) (λ b at hb. chain_sound operator right Is Right h n joins sound b ts at hb) ha
 
-pub chain_ends : (operator : Operator) (right : Reader) (h n : ℕ) (a : Tree) (at : List TokenKind) → operator at ≡ None → chain_at operator right h n a at ≡ Some (a, at)
+pub chain_ends : (operator : Operator) (right : ExpressionReader) (h n : ℕ) (a : Tree) (at : List TokenKind) → operator at ≡ None → chain_at operator right h n a at ≡ Some (a, at)
 unfolding chain_at
 chain_ends operator right h zero a at e = rw e refl
 chain_ends operator right h (suc n) a at e = rw e refl
 
 -- the reading has come so far: the tree to the left is read, and enough turns are left
-pub record Left (operator : Operator) (right : Reader) (h : ℕ) (total : Read Tree) (a : Tree) (at : List TokenKind) : Type 0 where
+pub record Left (operator : Operator) (right : ExpressionReader) (h : ℕ) (total : Read Tree) (a : Tree) (at : List TokenKind) : Type 0 where
   pub turns : ℕ
   pub enough : h ≤ turns + height a
   pub goes_on : total ≡ chain_at operator right h turns a at
 
-pub chain_done : {operator : Operator} {right : Reader} {h : ℕ} {total : Read Tree} {a : Tree} {at : List TokenKind} → Left operator right h total a at → operator at ≡ None → total ≡ Some (a, at)
+pub chain_done : {operator : Operator} {right : ExpressionReader} {h : ℕ} {total : Read Tree} {a : Tree} {at : List TokenKind} → Left operator right h total a at → operator at ≡ None → total ≡ Some (a, at)
 chain_done {operator} {right} {h} {a} {at} left e = left.goes_on ∙ chain_ends operator right h left.turns a at e
 
-turn : (operator : Operator) (right : Reader) (h n : ℕ) (total : Read Tree) (a b : Tree) (at middle rest : List TokenKind) (f : Tree → Tree → Tree) → operator at ≡ Some (f, middle)
+turn : (operator : Operator) (right : ExpressionReader) (h n : ℕ) (total : Read Tree) (a b : Tree) (at middle rest : List TokenKind) (f : Tree → Tree → Tree) → operator at ≡ Some (f, middle)
     → height (f a b) ≡ max (height a) (height b) + 1 → height (f a b) ≤ h → right (h - 1) middle ≡ Some (b, rest) → h ≤ n + height a → total ≡ chain_at operator right h n a at → Left operator right h total (f a b) rest
 unfolding chain_at
 turn operator right h zero total a b at middle rest f is_op high low is_right enough so_far = absurd (omega arith)
@@ -65,10 +67,10 @@ turn operator right h (suc n) total a b at middle rest f is_op high low is_right
     let lt : nat_lt (height a) h ≡ true = lt-ltb (height a) h (omega arith) in
     record { turns = n; enough = omega arith; goes_on = so_far ∙ rw (is_op, lt, is_right) refl }
 
-pub chain_turn : {operator : Operator} {right : Reader} {h : ℕ} {total : Read Tree} {a b : Tree} {at middle rest : List TokenKind} {f : Tree → Tree → Tree} → operator at ≡ Some (f, middle)
+pub chain_turn : {operator : Operator} {right : ExpressionReader} {h : ℕ} {total : Read Tree} {a b : Tree} {at middle rest : List TokenKind} {f : Tree → Tree → Tree} → operator at ≡ Some (f, middle)
     → height (f a b) ≡ max (height a) (height b) + 1 → height (f a b) ≤ h → right (h - 1) middle ≡ Some (b, rest) → Left operator right h total a at → Left operator right h total (f a b) rest
 chain_turn {operator} {right} {h} {total} {a} {b} {at} {middle} {rest} {f} is_op high low is_right left =
     turn operator right h left.turns total a b at middle rest f is_op high low is_right left.enough left.goes_on
 
-pub chain_starts : (operator : Operator) (operand : Reader) (h : ℕ) (ts rest : List TokenKind) (a : Tree) → operand h ts ≡ Some (a, rest) → Left operator operand h (chained operator operand h ts) a rest
+pub chain_starts : (operator : Operator) (operand : ExpressionReader) (h : ℕ) (ts rest : List TokenKind) (a : Tree) → operand h ts ≡ Some (a, rest) → Left operator operand h (chained operator operand h ts) a rest
 chain_starts operator operand h ts rest a e = record { turns = h; enough = omega arith; goes_on = rw e refl }

@@ -1,5 +1,8 @@
 -- What is read as an expression stands in the grammar, and what stands in it is read.
-use Rattle.drl_expr.proofs.Common.{◌≡◌, ℕ, zero, suc, ◌-◌, ◌<◌, ◌≤◌, Bool, true, false, cond, List, [], ◌∷◌, length, Option, Some, None, refl, sym, ap, subst, ◌∙◌, arith, IfSome, codes, TokenKind, Word, Var, Number, Text, Mark, OpenParenthesis, CloseParenthesis, Dot, Plus, Minus, Star, Opening, Negative, Parenthesis, Tree, lit, var, var_field, neg, add, sub, mul, height, Read, Phrase, Found, binds, Exact, Reader, factor_step}
+use Rattle.drl_expr.proofs.Common.{◌≡◌, ℕ, zero, suc, ◌-◌, ◌<◌, ◌≤◌, Bool, true, false, cond, List, [], ◌∷◌, length, Option, Some, None, refl, sym, ap, subst}
+use Rattle.drl_expr.proofs.Common.{◌∙◌, arith, IfSome, codes, TokenKind, Word, Var, Number, Text, Mark, OpenParenthesis, CloseParenthesis, Dot, Plus, Minus}
+use Rattle.drl_expr.proofs.Common.{Star, Opening, Negative, Parenthesis, Tree, lit, var, var_field, neg, add, sub, mul, height, Read, Phrase, Found}
+use Rattle.drl_expr.proofs.Common.{expression_binds, Exact, ExpressionReader, factor_step}
 use Rattle.std.specs.Str.{bytes_eq}
 use Rattle.std.proofs.lemmas.Slice.Eq.{bytes_eq-Decides}
 use Rattle.drl_expr.specs.declared.literal.LitTree.TheVariants as l
@@ -68,17 +71,17 @@ step_sound d h (Some (Negative, rest)) ts lower inside e low within = then (Low 
 step_sound d h (Some (Parenthesis, rest)) ts lower inside e low within = then (Low (Within d) (suc h)) rest (inside rest) _ (Low (IsFactor d) (suc h)) ts (within rest) (λ a ha.
     closed_then (Low (Within d) (suc h)) a.0 rest a.0 a.1 (Low (IsFactor d) (suc h)) ts ha (λ behind hr. rw e (in_parens d a.0 rest behind hr.0, hr.1)))
 
-factor_sound : (d : ℕ) (inside : Reader) → ((h : ℕ) (ts : List TokenKind) → Found (Low (Within d) h) ts (inside h ts)) → (h : ℕ) (ts : List TokenKind) → Found (Low (IsFactor d) h) ts (factor_at inside h ts)
+factor_sound : (d : ℕ) (inside : ExpressionReader) → ((h : ℕ) (ts : List TokenKind) → Found (Low (Within d) h) ts (inside h ts)) → (h : ℕ) (ts : List TokenKind) → Found (Low (IsFactor d) h) ts (factor_at inside h ts)
 unfolding factor_at
 factor_sound d inside within zero ts = tt
 factor_sound d inside within (suc h) ts = step_sound d h (opening_at ts) ts (factor_at inside h) (inside (suc h)) (opening_sound ts) (factor_sound d inside within h) (within (suc h))
 
-term_sound : (d : ℕ) (inside : Reader) → ((h : ℕ) (ts : List TokenKind) → Found (Low (Within d) h) ts (inside h ts)) → (h : ℕ) (ts : List TokenKind) → Found (Low (IsTerm d) h) ts (term_at inside h ts)
+term_sound : (d : ℕ) (inside : ExpressionReader) → ((h : ℕ) (ts : List TokenKind) → Found (Low (Within d) h) ts (inside h ts)) → (h : ℕ) (ts : List TokenKind) → Found (Low (IsTerm d) h) ts (term_at inside h ts)
 unfolding term_at
 term_sound d inside within h ts = then (Low (IsFactor d) h) ts (factor_at inside h ts) _ (Low (IsTerm d) h) ts (factor_sound d inside within h ts) (λ a ha.
     chain_sound star_at (factor_at inside) (IsTerm d) (IsFactor d) h h (star_joins d) (factor_sound d inside within) a.0 ts a.1 (g.factor ha.0, ha.1))
 
-expr_sound : (d : ℕ) (inside : Reader) → ((h : ℕ) (ts : List TokenKind) → Found (Low (Within d) h) ts (inside h ts)) → (h : ℕ) (ts : List TokenKind) → Found (Low (IsExpr d) h) ts (expr_at inside h ts)
+expr_sound : (d : ℕ) (inside : ExpressionReader) → ((h : ℕ) (ts : List TokenKind) → Found (Low (Within d) h) ts (inside h ts)) → (h : ℕ) (ts : List TokenKind) → Found (Low (IsExpr d) h) ts (expr_at inside h ts)
 unfolding expr_at
 expr_sound d inside within h ts = then (Low (IsTerm d) h) ts (term_at inside h ts) _ (Low (IsExpr d) h) ts (term_sound d inside within h ts) (λ a ha.
     chain_sound plus_at (term_at inside) (IsExpr d) (IsTerm d) h h (plus_joins d) (term_sound d inside within) a.0 ts a.1 (g.term ha.0, ha.1))
@@ -90,12 +93,12 @@ inside_sound (suc d) h ts = expr_sound d (inside_at d) (inside_sound d) h ts
 
 -- ---- what stands in the grammar is read
 
-no_star : (ts : List TokenKind) → 2 ≤ binds ts → star_at ts ≡ None
+no_star : (ts : List TokenKind) → 2 ≤ expression_binds ts → star_at ts ≡ None
 unfolding star_at
 no_star (Mark Star ∷ ts) h = absurd (omega arith)
 no_star ts h = refl
 
-no_plus : (ts : List TokenKind) → 3 ≤ binds ts → plus_at ts ≡ None
+no_plus : (ts : List TokenKind) → 3 ≤ expression_binds ts → plus_at ts ≡ None
 unfolding plus_at
 no_plus (Mark Plus ∷ ts) h = absurd (omega arith)
 no_plus (Mark Minus ∷ ts) h = absurd (omega arith)
@@ -110,12 +113,12 @@ positive (add a b) = omega arith
 positive (sub a b) = omega arith
 positive (mul a b) = omega arith
 
-pub factor_opens : (inside : Reader) (h : ℕ) (ts : List TokenKind) → 0 < h → factor_at inside h ts ≡ factor_step (opening_at ts) ts (factor_at inside (h - 1)) (inside h)
+pub factor_opens : (inside : ExpressionReader) (h : ℕ) (ts : List TokenKind) → 0 < h → factor_at inside h ts ≡ factor_step (opening_at ts) ts (factor_at inside (h - 1)) (inside h)
 unfolding factor_at
 factor_opens inside zero ts lt = absurd (omega arith)
 factor_opens inside (suc h) ts lt = let k : suc h - 1 ≡ h = omega arith in rw k refl
 
-var_step : (v : List ℕ) (rest : List TokenKind) → 1 ≤ binds rest → atom_at (Var v ∷ rest) ≡ Some (var v, rest)
+var_step : (v : List ℕ) (rest : List TokenKind) → 1 ≤ expression_binds rest → atom_at (Var v ∷ rest) ≡ Some (var v, rest)
 unfolding atom_at
 var_step v (Mark Dot ∷ rest) h = absurd (omega arith)
 var_step v rest h = refl
@@ -123,16 +126,16 @@ var_step v rest h = refl
 mutual
   unfolding plus_at star_at expr_at term_at opening_at atom_at after_close inside_at is_ident
 
-  expr_left : {d : ℕ} {a : Tree} {ts rest : List TokenKind} → IsExpr d a ts rest → (h : ℕ) → height a ≤ h → 2 ≤ binds rest → Left plus_at (term_at (inside_at d)) h (expr_at (inside_at d) h ts) a rest
+  expr_left : {d : ℕ} {a : Tree} {ts rest : List TokenKind} → IsExpr d a ts rest → (h : ℕ) → height a ≤ h → 2 ≤ expression_binds rest → Left plus_at (term_at (inside_at d)) h (expr_at (inside_at d) h ts) a rest
   expr_left {d} {a} {ts} {rest} (g.term ht) h low stop = chain_starts plus_at (term_at (inside_at d)) h ts rest a (chain_done (term_left ht h low (omega arith)) (no_star rest stop))
   expr_left {d} (g.plus {a} {b} {middle} ha hb) h low stop = chain_turn refl refl low (chain_done (term_left hb (h - 1) (omega arith) (omega arith)) (no_star _ stop)) (expr_left ha h (omega arith) (omega arith))
   expr_left {d} (g.minus {a} {b} {middle} ha hb) h low stop = chain_turn refl refl low (chain_done (term_left hb (h - 1) (omega arith) (omega arith)) (no_star _ stop)) (expr_left ha h (omega arith) (omega arith))
 
-  term_left : {d : ℕ} {a : Tree} {ts rest : List TokenKind} → IsTerm d a ts rest → (h : ℕ) → height a ≤ h → 1 ≤ binds rest → Left star_at (factor_at (inside_at d)) h (term_at (inside_at d) h ts) a rest
+  term_left : {d : ℕ} {a : Tree} {ts rest : List TokenKind} → IsTerm d a ts rest → (h : ℕ) → height a ≤ h → 1 ≤ expression_binds rest → Left star_at (factor_at (inside_at d)) h (term_at (inside_at d) h ts) a rest
   term_left {d} {a} {ts} {rest} (g.factor hf) h low stop = chain_starts star_at (factor_at (inside_at d)) h ts rest a (factor_again hf h low stop)
   term_left {d} (g.times {a} {b} {middle} ha hb) h low stop = chain_turn refl refl low (factor_again hb (h - 1) (omega arith) stop) (term_left ha h (omega arith) (omega arith))
 
-  factor_again : {d : ℕ} {a : Tree} {ts rest : List TokenKind} → IsFactor d a ts rest → (h : ℕ) → height a ≤ h → 1 ≤ binds rest → factor_at (inside_at d) h ts ≡ Some (a, rest)
+  factor_again : {d : ℕ} {a : Tree} {ts rest : List TokenKind} → IsFactor d a ts rest → (h : ℕ) → height a ≤ h → 1 ≤ expression_binds rest → factor_at (inside_at d) h ts ≡ Some (a, rest)
   factor_again {d} (g.negative {a} {ts} ha) h low stop = rw (factor_opens (inside_at d) h (Mark Minus ∷ ts) (omega arith), factor_again ha (h - 1) (omega arith) stop) refl
   factor_again (g.parens {d} {a} {ts} ha) h low stop = rw (factor_opens (inside_at (suc d)) h (Mark OpenParenthesis ∷ ts) (omega (arith, positive a)), chain_done (expr_left ha h low (omega arith)) refl) refl
   factor_again (g.number {d} {n} {rest}) h low stop = rw (factor_opens (inside_at d) h (Number n ∷ rest) (omega arith)) refl
@@ -143,7 +146,7 @@ mutual
   factor_again (g.field_of {d} {v} {f} {rest} hf) h low stop = rw (factor_opens (inside_at d) h (Var v ∷ Mark Dot ∷ Word f ∷ rest) (omega arith), hf) refl
 
 -- an expression that stands there and is at most so high is read
-expr_again : (d h : ℕ) (a : Tree) (ts rest : List TokenKind) → IsExpr d a ts rest → height a ≤ h → 3 ≤ binds rest → expr_at (inside_at d) h ts ≡ Some (a, rest)
+expr_again : (d h : ℕ) (a : Tree) (ts rest : List TokenKind) → IsExpr d a ts rest → height a ≤ h → 3 ≤ expression_binds rest → expr_at (inside_at d) h ts ≡ Some (a, rest)
 expr_again d h a ts rest ha low stop = chain_done (expr_left ha h low (omega arith)) (no_plus rest stop)
 
 -- ---- a phrase has a token
@@ -177,7 +180,7 @@ expression_exact = record { sound = sound; again = again; shorter = shorter }
     sound : (ts : List TokenKind) → Found IsExpression ts (expression_at ts)
     sound ts = expr_sound 32 (inside_at 32) (inside_sound 32) 32 ts
 
-    again : (a : Tree) (ts rest : List TokenKind) → IsExpression a ts rest → 3 ≤ binds rest → expression_at ts ≡ Some (a, rest)
+    again : (a : Tree) (ts rest : List TokenKind) → IsExpression a ts rest → 3 ≤ expression_binds rest → expression_at ts ≡ Some (a, rest)
     again a ts rest h stop = expr_again 32 32 a ts rest h.0 h.1 stop
 
     shorter : (a : Tree) (ts rest : List TokenKind) → IsExpression a ts rest → length rest < length ts
@@ -188,7 +191,7 @@ pub expression_found : (ts rest : List TokenKind) (a : Tree) → expression_at t
 expression_found ts rest a e = subst (Found IsExpression ts) e (expression_exact.sound ts)
 
 -- an expression that stands there is what is read, if what follows is no operator and no dot
-pub expression_again : (ts : List TokenKind) (o : Read Tree) → expression_at ts ≡ o → (a : Tree) (rest : List TokenKind) → IsExpression a ts rest → 3 ≤ binds rest → o ≡ Some (a, rest)
+pub expression_again : (ts : List TokenKind) (o : Read Tree) → expression_at ts ≡ o → (a : Tree) (rest : List TokenKind) → IsExpression a ts rest → 3 ≤ expression_binds rest → o ≡ Some (a, rest)
 expression_again ts o e a rest h stop = sym e ∙ expression_exact.again a ts rest h stop
 
 -- how many tokens are left behind what is read

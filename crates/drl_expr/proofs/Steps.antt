@@ -1,24 +1,26 @@
 -- The steps of reading an expression, as the code takes them.
-use Rattle.drl_expr.proofs.Common.{◌≡◌, ℕ, zero, suc, ◌+◌, ◌-◌, ◌<◌, ◌≤◌, Bool, true, false, List, Option, Some, None, option_map, refl, sym, ap, ◌∙◌, arith, TokenKind, Opening, Negative, Parenthesis, Tree, neg, height, Read, ◌>>=◌, opening_at, after_close, atom_at, Operator, Reader, chained, factor_step, expr_at, nat_lt, lt-ltb, le-ltb}
+use Rattle.drl_expr.proofs.Common.{◌≡◌, ℕ, zero, suc, ◌+◌, ◌-◌, ◌<◌, ◌≤◌, Bool, true, false, List, Some, None, refl, sym, ap, ◌∙◌, arith, TokenKind, Opening}
+use Rattle.drl_expr.proofs.Common.{Negative, Parenthesis, Tree, neg, height, Read, ◌>>=◌, opening_at, after_close, atom_at, Operator, ExpressionReader, chained}
+use Rattle.drl_expr.proofs.Common.{factor_step, expr_at, nat_lt, lt-ltb, le-ltb}
 use Rattle.drl_expr.specs.Reading.{chain_at, factor_at, inside_at}
 
-opens : (inside : Reader) (h : ℕ) (ts : List TokenKind) → 0 < h → factor_at inside h ts ≡ factor_step (opening_at ts) ts (factor_at inside (h - 1)) (inside h)
+opens : (inside : ExpressionReader) (h : ℕ) (ts : List TokenKind) → 0 < h → factor_at inside h ts ≡ factor_step (opening_at ts) ts (factor_at inside (h - 1)) (inside h)
 unfolding factor_at
 opens inside zero ts lt = absurd (omega arith)
 opens inside (suc h) ts lt = let k : suc h - 1 ≡ h = omega arith in rw k refl
 
-pub factor_zero : (inside : Reader) (h : ℕ) (ts : List TokenKind) → h ≡ 0 → factor_at inside h ts ≡ None
+pub factor_zero : (inside : ExpressionReader) (h : ℕ) (ts : List TokenKind) → h ≡ 0 → factor_at inside h ts ≡ None
 unfolding factor_at
 factor_zero inside zero ts e = refl
 factor_zero inside (suc h) ts e = absurd (omega arith)
 
-pub factor_none : (inside : Reader) (h : ℕ) (ts : List TokenKind) → 0 < h → opening_at ts ≡ None → factor_at inside h ts ≡ atom_at ts
+pub factor_none : (inside : ExpressionReader) (h : ℕ) (ts : List TokenKind) → 0 < h → opening_at ts ≡ None → factor_at inside h ts ≡ atom_at ts
 factor_none inside h ts lt e = rw (opens inside h ts lt, e) refl
 
-pub factor_negative : (inside : Reader) (h : ℕ) (ts rest : List TokenKind) → 0 < h → opening_at ts ≡ Some (Negative, rest) → factor_at inside h ts ≡ (factor_at inside (h - 1) rest >>= λ a. Some (neg a.0, a.1))
+pub factor_negative : (inside : ExpressionReader) (h : ℕ) (ts rest : List TokenKind) → 0 < h → opening_at ts ≡ Some (Negative, rest) → factor_at inside h ts ≡ (factor_at inside (h - 1) rest >>= λ a. Some (neg a.0, a.1))
 factor_negative inside h ts rest lt e = rw (opens inside h ts lt, e) refl
 
-pub factor_parenthesis : (inside : Reader) (h : ℕ) (ts rest : List TokenKind) → 0 < h → opening_at ts ≡ Some (Parenthesis, rest) → factor_at inside h ts ≡ (inside h rest >>= λ a. after_close a.1 >>= λ behind. Some (a.0, behind))
+pub factor_parenthesis : (inside : ExpressionReader) (h : ℕ) (ts rest : List TokenKind) → 0 < h → opening_at ts ≡ Some (Parenthesis, rest) → factor_at inside h ts ≡ (inside h rest >>= λ a. after_close a.1 >>= λ behind. Some (a.0, behind))
 factor_parenthesis inside h ts rest lt e = rw (opens inside h ts lt, e) refl
 
 pub inside_zero : (d h : ℕ) (ts : List TokenKind) → d ≡ 0 → inside_at d h ts ≡ None
@@ -33,13 +35,7 @@ inside_opens (suc d) h ts lt = let k : suc d - 1 ≡ d = omega arith in rw k ref
 
 -- ---- operands with operators between them
 
-pub seen : {B C : Type 0} (o : Option B) (view : B → C) (read : Option C) (found : B) → option_map view o ≡ read → o ≡ Some found → read ≡ Some (view found)
-seen o view read found e is = sym e ∙ ap (option_map view) is
-
-pub seen_none : {B C : Type 0} (o : Option B) (view : B → C) (read : Option C) → option_map view o ≡ read → o ≡ None → read ≡ None
-seen_none o view read e is = sym e ∙ ap (option_map view) is
-
-module _ (operator : Operator) (right : Reader) (h : ℕ) where
+module _ (operator : Operator) (right : ExpressionReader) (h : ℕ) where
   pub no_operand : (ts : List TokenKind) → right h ts ≡ None → chained operator right h ts ≡ None
   no_operand ts e = rw e refl
 
@@ -86,10 +82,10 @@ module _ (operator : Operator) (right : Reader) (h : ℕ) where
 pub is_opening : (ts : List TokenKind) (o wanted : Opening) (rest : List TokenKind) → Some (o, rest) ≡ opening_at ts → o ≡ wanted → opening_at ts ≡ Some (wanted, rest)
 is_opening ts o wanted rest e is = sym e ∙ ap (λ (k : Opening). Some (k, rest)) is
 
-pub negative_none : (inside : Reader) (h : ℕ) (ts rest : List TokenKind) → 0 < h → opening_at ts ≡ Some (Negative, rest) → factor_at inside (h - 1) rest ≡ None → None ≡ factor_at inside h ts
+pub negative_none : (inside : ExpressionReader) (h : ℕ) (ts rest : List TokenKind) → 0 < h → opening_at ts ≡ Some (Negative, rest) → factor_at inside (h - 1) rest ≡ None → None ≡ factor_at inside h ts
 negative_none inside h ts rest lt e none = sym (factor_negative inside h ts rest lt e ∙ rw none refl)
 
-pub negative_some : (inside : Reader) (h : ℕ) (ts rest behind : List TokenKind) (a : Tree) → 0 < h → opening_at ts ≡ Some (Negative, rest) → factor_at inside (h - 1) rest ≡ Some (a, behind) → Some (neg a, behind) ≡ factor_at inside h ts
+pub negative_some : (inside : ExpressionReader) (h : ℕ) (ts rest behind : List TokenKind) (a : Tree) → 0 < h → opening_at ts ≡ Some (Negative, rest) → factor_at inside (h - 1) rest ≡ Some (a, behind) → Some (neg a, behind) ≡ factor_at inside h ts
 negative_some inside h ts rest behind a lt e is = sym (factor_negative inside h ts rest lt e ∙ rw is refl)
 
 pub too_deep : (d h : ℕ) (ts rest : List TokenKind) → 0 < h → opening_at ts ≡ Some (Parenthesis, rest) → d ≡ 0 → None ≡ factor_at (inside_at d) h ts

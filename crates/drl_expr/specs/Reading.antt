@@ -33,19 +33,19 @@ star_at (Mark Star ∷ rest) = Some (mul, rest)
 star_at ts = None
 
 -- how an expression of at most this height is read
-abbrev pub Reader : Type 0
-Reader = ℕ → List TokenKind → Read Tree
+abbrev pub ExpressionReader : Type 0
+ExpressionReader = ℕ → List TokenKind → Read Tree
 
 abbrev pub chain_step : ℕ → Tree → List TokenKind → Option ((Tree → Tree → Tree) × List TokenKind) → (List TokenKind → Read Tree) → (Tree → List TokenKind → Read Tree) → Read Tree
 chain_step h a ts None right go = Some (a, ts)
 chain_step h a ts (Some op) right go = if nat_lt (height a) h then (right op.1 >>= λ b. go (op.0 a b.0) b.1) else None
 
 -- What stands behind the first operand. Each turn makes the tree higher, so the height bounds the turns.
-unfoldable pub chain_at : Operator → Reader → ℕ → ℕ → Tree → List TokenKind → Read Tree
+unfoldable pub chain_at : Operator → ExpressionReader → ℕ → ℕ → Tree → List TokenKind → Read Tree
 chain_at operator right h zero a ts = chain_step h a ts (operator ts) (λ ts. None) (λ b ts. None)
 chain_at operator right h (suc n) a ts = chain_step h a ts (operator ts) (right (h - 1)) (chain_at operator right h n)
 
-abbrev pub chained : Operator → Reader → Reader
+abbrev pub chained : Operator → ExpressionReader → ExpressionReader
 chained operator operand h ts = operand h ts >>= λ a. chain_at operator operand h h a.0 a.1
 
 unfoldable pub opening_at : List TokenKind → Option (Opening × List TokenKind)
@@ -73,18 +73,18 @@ factor_step None ts lower inside = atom_at ts
 factor_step (Some (Negative, rest)) ts lower inside = lower rest >>= λ a. Some (neg a.0, a.1)
 factor_step (Some (Parenthesis, rest)) ts lower inside = inside rest >>= λ a. after_close a.1 >>= λ behind. Some (a.0, behind)
 
-unfoldable pub factor_at : Reader → Reader
+unfoldable pub factor_at : ExpressionReader → ExpressionReader
 factor_at inside zero ts = None
 factor_at inside (suc h) ts = factor_step (opening_at ts) ts (factor_at inside h) (inside (suc h))
 
-unfoldable pub term_at : Reader → Reader
+unfoldable pub term_at : ExpressionReader → ExpressionReader
 term_at inside = chained star_at (factor_at inside)
 
-unfoldable pub expr_at : Reader → Reader
+unfoldable pub expr_at : ExpressionReader → ExpressionReader
 expr_at inside = chained plus_at (term_at inside)
 
 -- what stands in parentheses, at most so deep
-unfoldable pub inside_at : ℕ → Reader
+unfoldable pub inside_at : ℕ → ExpressionReader
 inside_at zero h ts = None
 inside_at (suc d) h ts = expr_at (inside_at d) h ts
 
@@ -103,11 +103,11 @@ abbrev pub operator_at : Level → Operator
 operator_at Sums = plus_at
 operator_at Products = star_at
 
-abbrev pub operand_at : Level → Reader → Reader
+abbrev pub operand_at : Level → ExpressionReader → ExpressionReader
 operand_at Sums inside = term_at inside
 operand_at Products inside = factor_at inside
 
-abbrev pub level_at : Level → Reader → Reader
+abbrev pub level_at : Level → ExpressionReader → ExpressionReader
 level_at level inside = chained (operator_at level) (operand_at level inside)
 
 -- a sum stands above a product

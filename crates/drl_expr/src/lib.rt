@@ -3,6 +3,7 @@
 #![tactic(auto)]
 
 mod atoms;
+mod copying;
 mod literal;
 mod marks;
 mod measured;
@@ -11,6 +12,6 @@ mod tree;
 mod words;
 
 pub use literal::LitTree;
-pub use reading::{expression, whole_expression};
+pub use reading::expression;
 pub use tree::{ExprTree, Node};
 pub use words::is_ident_word;

@@ -1,5 +1,5 @@
 ghost use Rattle.std.specs.Prelude.{◌≡◌, ◌≤◌, List, [], option_map, Option, Some, IfOk, IfSome, IfNone};
-ghost use Rattle.drl_expr.specs.Exact.{binds};
+ghost use Rattle.drl_expr.specs.Exact.{expression_binds};
 ghost use Rattle.drl_expr.specs.Tree.{Tree};
 ghost use Rattle.drl_expr.specs.Grammar.{IsExpression};
 ghost use Rattle.drl_expr.specs.Reading.{factor_at, operand_at, level_at, inside_at, expression_at};
@@ -126,26 +126,11 @@ pub fn expression(
 ) -> Result<Option<(ExprTree, &[TokenKind])>, NoMemory>
     ensures reads { IfOk result (λ found. option_map (λ f. (f.0, f.1.now)) found ≡ expression_at tokens.now) }
     ensures found { IfOk result (λ found. IfSome found (λ f. IsExpression f.0 tokens.now f.1.now)) }
-    ensures none_missed { IfOk result (λ found. (tree : Tree) → (rest : List TokenKind) → IsExpression tree tokens.now rest → 3 ≤ binds rest
+    ensures none_missed { IfOk result (λ found. (tree : Tree) → (rest : List TokenKind) → IsExpression tree tokens.now rest → 3 ≤ expression_binds rest
         → option_map {U = Tree × List TokenKind} (λ f. (f.0, f.1.now)) found ≡ Some (tree, rest)) }
 {
     match chain(alloc, Level::Sums, tokens, 32, 32)? {
         None => Ok(None),
         Some((found, rest)) => Ok(Some((found.tree, rest))),
-    }
-}
-
-/// The expression that all the tokens are; `None` where they are none.
-pub fn whole_expression(alloc: Global, tokens: &[TokenKind]) -> Result<Option<ExprTree>, NoMemory>
-    ensures found { IfOk result (λ found. IfSome found (λ tree. IsExpression tree tokens.now [])) }
-    ensures none { IfOk result (λ found. IfNone found ((tree : Tree) → IsExpression tree tokens.now [] → ⊥)) }
-{
-    let (tree, rest) = match expression(alloc, tokens)? {
-        None => return Ok(None),
-        Some(found) => found,
-    };
-    match rest {
-        [] => Ok(Some(tree)),
-        _ => Ok(None),
     }
 }

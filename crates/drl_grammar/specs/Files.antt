@@ -50,10 +50,10 @@ pub data AreItems : List WrittenItem → List TokenKind → List ℕ → Type 0 
       → AreItems items (drop (extent t ts) ts) (drop (extent t ts) lines) → AreItems (record { line = line; body = body } ∷ items) (t ∷ ts) (line ∷ lines)
 
 -- The item of this number, counted from 1, is the first for which no tree stands, and its first token is in this line.
-pub data IsRefused : ℕ → ℕ → List TokenKind → List ℕ → Type 0 where
-  here : {t : TokenKind} {ts : List TokenKind} {line : ℕ} {lines : List ℕ} → ((body : WrittenBody) → IsItem body (t ∷ take (extent t ts) ts) [] → ⊥) → IsRefused 1 line (t ∷ ts) (line ∷ lines)
+pub data IsItemRefused : ℕ → ℕ → List TokenKind → List ℕ → Type 0 where
+  here : {t : TokenKind} {ts : List TokenKind} {line : ℕ} {lines : List ℕ} → ((body : WrittenBody) → IsItem body (t ∷ take (extent t ts) ts) [] → ⊥) → IsItemRefused 1 line (t ∷ ts) (line ∷ lines)
   later : {k refused_line : ℕ} {body : WrittenBody} {t : TokenKind} {ts : List TokenKind} {line : ℕ} {lines : List ℕ} → IsItem body (t ∷ take (extent t ts) ts) []
-      → IsRefused k refused_line (drop (extent t ts) ts) (drop (extent t ts) lines) → IsRefused (k + 1) refused_line (t ∷ ts) (line ∷ lines)
+      → IsItemRefused k refused_line (drop (extent t ts) ts) (drop (extent t ts) lines) → IsItemRefused (k + 1) refused_line (t ∷ ts) (line ∷ lines)
 
 -- the bytes are tokens, and the tokens are the file's items
 pub record IsFile (file : Written) (bytes : List ℕ) : Type 0 where
@@ -65,4 +65,4 @@ pub record IsFile (file : Written) (bytes : List ℕ) : Type 0 where
 pub record IsOutside (item line : ℕ) (bytes : List ℕ) : Type 0 where
   pub tokens : List Token
   pub spelled : AreTokens tokens bytes
-  pub refused : IsRefused item line (kinds tokens) (lines_at bytes tokens)
+  pub refused : IsItemRefused item line (kinds tokens) (lines_at bytes tokens)

@@ -21,12 +21,12 @@ use Rattle.drl_grammar.specs.Actions.{IsAction}
 -- ---- names with dots
 
 -- '.' Ident
-pub data IsStep : List ℕ → List TokenKind → List TokenKind → Type 0 where
-  step : {f : List ℕ} {rest : List TokenKind} → IsIdent f → IsStep f (Mark Dot ∷ Word f ∷ rest) rest
+pub data IsPathStep : List ℕ → List TokenKind → List TokenKind → Type 0 where
+  step : {f : List ℕ} {rest : List TokenKind} → IsIdent f → IsPathStep f (Mark Dot ∷ Word f ∷ rest) rest
 
 -- Ident ('.' Ident)*
 pub data IsPath : List (List ℕ) → List TokenKind → List TokenKind → Type 0 where
-  path : {f : List ℕ} {fs : List (List ℕ)} {ts rest : List TokenKind} → IsIdent f → Many IsStep fs ts rest → IsPath (f ∷ fs) (Word f ∷ ts) rest
+  path : {f : List ℕ} {fs : List (List ℕ)} {ts rest : List TokenKind} → IsIdent f → Many IsPathStep fs ts rest → IsPath (f ∷ fs) (Word f ∷ ts) rest
 
 -- ['.' '*']
 pub data IsStar : Bool → List TokenKind → List TokenKind → Type 0 where
@@ -53,13 +53,13 @@ pub data IsField : List ℕ × List ℕ → List TokenKind → List TokenKind �
   field : {f k : List ℕ} {rest : List TokenKind} → IsIdent f → IsIdent k → IsField (f, k) (Word f ∷ Mark Colon ∷ Word k ∷ rest) rest
 
 -- 'extends' Ident
-pub data IsParent : List ℕ → List TokenKind → List TokenKind → Type 0 where
-  parent : {ty : List ℕ} {rest : List TokenKind} → IsIdent ty → IsParent ty (Word (codes "extends") ∷ Word ty ∷ rest) rest
+pub data IsParentName : List ℕ → List TokenKind → List TokenKind → Type 0 where
+  parent : {ty : List ℕ} {rest : List TokenKind} → IsIdent ty → IsParentName ty (Word (codes "extends") ∷ Word ty ∷ rest) rest
 
 -- Ident ['extends' Ident] meta* field* 'end'
 pub data IsType : WrittenType → List TokenKind → List TokenKind → Type 0 where
   type_of : {ty : List ℕ} {above : Option (List ℕ)} {ms : List Meta} {fs : List (List ℕ × List ℕ)} {ts behind_parent middle rest : List TokenKind} → IsIdent ty
-      → Maybe IsParent above ts behind_parent → Many IsMeta ms behind_parent middle → Many IsField fs middle (Word (codes "end") ∷ rest)
+      → Maybe IsParentName above ts behind_parent → Many IsMeta ms behind_parent middle → Many IsField fs middle (Word (codes "end") ∷ rest)
       → IsType (record { name = ty; parent = above; metas = ms; fields = fs }) (Word ty ∷ ts) rest
 
 -- '@' 'lateness' '(' span ')'

@@ -1,12 +1,15 @@
 -- Sums and products that stop at the greatest number of 64 bits.
-use Rattle.drl_lex.proofs.Common.{◌≡◌, ℕ, ◌+◌, ◌*◌, ◌-◌, ◌^◌, ◌<◌, min, List, length, take, get_or, true, refl, arith, Option, Some, None, option_map, codes, nat_lt, list_all, is_ascii_digit, digits_value, leb-true, part_at, last_at, time_of, total_of, digit_value, digit_value_digit}
+use Rattle.drl_lex.proofs.Common.{◌≡◌, ℕ, ◌+◌, ◌*◌, ◌-◌, ◌^◌, ◌<◌, min, List, length, take, get_or, true, refl, arith, Option, Some, None, option_map, codes}
+use Rattle.drl_lex.proofs.Common.{nat_lt, list_all, is_ascii_digit, digits_value, leb-true, unit_part_at, last_at, time_of, total_of, digit_value}
+use Rattle.drl_lex.proofs.Common.{digit_value_digit}
+use Rattle.std.proofs.lemmas.Bool.{and_parts}
 use Rattle.std.proofs.lemmas.Int.Digits.{digits_value_more}
 use Rattle.drl_lex.specs.TimeReading.{capped}
-use Rattle.drl_lex.proofs.FrontLaws.{both, passes_at}
+use Rattle.drl_lex.proofs.FrontLaws.{passes_at}
 use Rattle.drl_lex.proofs.TimeLaws.{Parts, parts_again}
 
 digit_is : (c : ℕ) → is_ascii_digit c ≡ true → digit_value c + 48 ≡ c
-digit_is c h = let parts = both _ _ h in digit_value_digit c (leb-true 48 c parts.0, leb-true c 57 parts.1)
+digit_is c h = let parts = and_parts _ _ h in digit_value_digit c (leb-true 48 c parts.0, leb-true c 57 parts.1)
 
 -- a further digit
 pub digit_more : (digits : List ℕ) (i number product result : ℕ) → list_all is_ascii_digit digits ≡ true → i < length digits → number ≡ capped (digits_value 10 (take i digits))
@@ -55,14 +58,14 @@ pair_is : (p : ℕ × List ℕ) (rest : List ℕ) → rest ≡ p.1 → p ≡ (p.
 pair_is p rest e = rw e refl
 
 -- the parts of a run one after the other
-pub time_is : (run r1 r2 r3 r4 : List ℕ) (n : ℕ) → r1 ≡ (part_at (codes "d") run).1 → r2 ≡ (part_at (codes "h") r1).1 → r3 ≡ (part_at (codes "m") r2).1 → r4 ≡ (part_at (codes "s") r3).1
+pub time_is : (run r1 r2 r3 r4 : List ℕ) (n : ℕ) → r1 ≡ (unit_part_at (codes "d") run).1 → r2 ≡ (unit_part_at (codes "h") r1).1 → r3 ≡ (unit_part_at (codes "m") r2).1 → r4 ≡ (unit_part_at (codes "s") r3).1
     → last_at (nat_lt (length r4) (length run)) r4 ≡ Some n
-    → time_of run ≡ Some (total_of (part_at (codes "d") run).0 (part_at (codes "h") r1).0 (part_at (codes "m") r2).0 (part_at (codes "s") r3).0 n)
+    → time_of run ≡ Some (total_of (unit_part_at (codes "d") run).0 (unit_part_at (codes "h") r1).0 (unit_part_at (codes "m") r2).0 (unit_part_at (codes "s") r3).0 n)
 time_is run r1 r2 r3 r4 n e1 e2 e3 e4 last =
-    let parts : Parts run (part_at (codes "d") run).0 (part_at (codes "h") r1).0 (part_at (codes "m") r2).0 (part_at (codes "s") r3).0 r1 r2 r3 r4 = record {
-      in_days = pair_is (part_at (codes "d") run) r1 e1;
-      in_hours = pair_is (part_at (codes "h") r1) r2 e2;
-      in_minutes = pair_is (part_at (codes "m") r2) r3 e3;
-      in_seconds = pair_is (part_at (codes "s") r3) r4 e4;
+    let parts : Parts run (unit_part_at (codes "d") run).0 (unit_part_at (codes "h") r1).0 (unit_part_at (codes "m") r2).0 (unit_part_at (codes "s") r3).0 r1 r2 r3 r4 = record {
+      in_days = pair_is (unit_part_at (codes "d") run) r1 e1;
+      in_hours = pair_is (unit_part_at (codes "h") r1) r2 e2;
+      in_minutes = pair_is (unit_part_at (codes "m") r2) r3 e3;
+      in_seconds = pair_is (unit_part_at (codes "s") r3) r4 e4;
     } in
     parts_again run _ _ _ _ r1 r2 r3 r4 (Some n) parts last

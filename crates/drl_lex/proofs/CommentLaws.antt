@@ -1,7 +1,8 @@
 -- The first end of a comment.
-use Rattle.drl_lex.proofs.Common.{◌≡◌, ℕ, ◌++◌, ◌&&◌, Bool, true, false, eqb, List, [], ◌∷◌, drop, Option, Some, None, refl, ap, ◌∙◌, codes, eqb-true, begins, IsWithout, close_step}
+use Rattle.drl_lex.proofs.Common.{◌≡◌, ℕ, ◌++◌, ◌&&◌, Bool, true, false, eqb, List, [], ◌∷◌, drop, Option, Some, None, refl, ap, ◌∙◌, codes, eqb-true, begins}
+use Rattle.drl_lex.proofs.Common.{IsWithout, close_step}
+use Rattle.std.proofs.lemmas.Bool.{and_parts}
 use Rattle.drl_lex.specs.Fronts.{behind_close}
-use Rattle.drl_lex.proofs.FrontLaws.{both}
 
 -- a body without `*/`, and the `*/` behind it
 pub record Closes (bytes rest : List ℕ) : Type 0 where
@@ -39,7 +40,7 @@ same_close b (c ∷ body) rest = refl
 
 close_case : (t : Bool) (b : ℕ) (bytes : List ℕ) (more : Option (List ℕ)) → closes_at b bytes ≡ t → CloseIs bytes more → CloseIs (b ∷ bytes) (close_step t (drop 1 bytes) more)
 close_case true b bytes more e h =
-    let parts = both (eqb b 42) (begins (λ c. eqb c 47) bytes) e in
+    let parts = and_parts (eqb b 42) (begins (λ c. eqb c 47) bytes) e in
     let first : b ≡ 42 = eqb-true b 42 parts.0 in
     record { body = []; parts = rw first (ap (λ (bs : List ℕ). 42 ∷ bs) (slash_is bytes parts.1)); first = nothing_without }
 close_case false b bytes (Some rest) e h = record { body = b ∷ h.body; parts = ap (λ (bs : List ℕ). b ∷ bs) h.parts; first = without_more b h.body (same_close b h.body rest ∙ rw (← h.parts) e) h.first }
@@ -58,7 +59,7 @@ tail_without b bytes h front back e = h (b ∷ front) back (ap (λ (bs : List �
 no_close : (t : Bool) (b : ℕ) (bytes : List ℕ) → closes_at b bytes ≡ t → IsWithout (codes "*/") (b ∷ bytes) → closes_at b bytes ≡ false
 no_close false b bytes e h = e
 no_close true b bytes e h =
-    let parts = both (eqb b 42) (begins (λ c. eqb c 47) bytes) e in
+    let parts = and_parts (eqb b 42) (begins (λ c. eqb c 47) bytes) e in
     let first : b ≡ 42 = eqb-true b 42 parts.0 in
     let behind : bytes ≡ 47 ∷ drop 1 bytes = slash_is bytes parts.1 in
     absurd (h [] (drop 1 bytes) (rw first (ap (λ (bs : List ℕ). 42 ∷ bs) behind)))

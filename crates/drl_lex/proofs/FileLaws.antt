@@ -1,5 +1,7 @@
 -- The bytes of a file are one list of tokens, or have one first fault, and that is what is read.
-use Rattle.drl_lex.proofs.Common.{◌≡◌, ℕ, zero, suc, ◌+◌, ◌-◌, ◌<◌, ◌≤◌, ◌++◌, List, [], ◌∷◌, length, Option, Some, None, Result, Ok, Err, refl, sym, ap, ◌∙◌, arith, length-append, append-nil, Token, TokenKind, LexCode, kept, IsFault, Read, piece_at, IsPiece, Reads, AreTokens, IsRefused, with_token, behind_piece, lexed_step}
+use Rattle.drl_lex.proofs.Common.{◌≡◌, ℕ, zero, suc, ◌+◌, ◌-◌, ◌<◌, ◌≤◌, ◌++◌, List, [], ◌∷◌, length, Option, Some, None, Result, Ok, Err, refl, sym, ap, ◌∙◌}
+use Rattle.drl_lex.proofs.Common.{arith, length-append, append-nil, Token, TokenKind, LexCode, kept, IsLexFault, ReadToken, piece_at, IsPiece, ReadsTokens}
+use Rattle.drl_lex.proofs.Common.{AreTokens, IsRefused, with_token, behind_piece, lexed_step}
 use Rattle.drl_lex.specs.Reading.{lexed_from, lexed}
 use Rattle.drl_lex.specs.Tokens as p
 use Rattle.drl_lex.proofs.PieceLaws.{Stands, piece_sound}
@@ -7,8 +9,8 @@ use Rattle.drl_lex.proofs.PiecesAgain.{piece_again, fault_again, piece_some, fau
 
 -- ---- one piece more
 
-pub reads_on : (first : ℕ) (tokens : List Token) (all : List ℕ) (at : ℕ) (rest text bytes : List ℕ) (kind : Option TokenKind) → Reads first tokens all at rest → rest ≡ text ++ bytes → IsPiece kind text bytes
-    → Reads first (tokens ++ kept at (length text) kind) all (at + length text) bytes
+pub reads_on : (first : ℕ) (tokens : List Token) (all : List ℕ) (at : ℕ) (rest text bytes : List ℕ) (kind : Option TokenKind) → ReadsTokens first tokens all at rest → rest ≡ text ++ bytes → IsPiece kind text bytes
+    → ReadsTokens first (tokens ++ kept at (length text) kind) all (at + length text) bytes
 reads_on first [] all at rest text bytes None p.done e is = p.skip e is p.done
 reads_on first [] all at rest text bytes (Some kind) p.done e is = p.next e is p.done
 reads_on first tokens all at rest text bytes kind (p.skip e0 is0 h) e is = p.skip e0 is0 (reads_on _ tokens _ at rest text bytes kind h e is)
@@ -53,7 +55,7 @@ no_room : (text bytes all : List ℕ) → all ≡ text ++ bytes → 0 < length t
 no_room text bytes all e some le = let len = ap length e ∙ length-append text bytes in omega arith
 
 -- what stands behind what was read is read next
-read_before : (n at : ℕ) (tokens : List Token) (all : List ℕ) (end : ℕ) (rest : List ℕ) (r : Result (List Token) (LexCode × ℕ)) → Reads at tokens all end rest → length all ≤ n
+read_before : (n at : ℕ) (tokens : List Token) (all : List ℕ) (end : ℕ) (rest : List ℕ) (r : Result (List Token) (LexCode × ℕ)) → ReadsTokens at tokens all end rest → length all ≤ n
     → ((m : ℕ) → length rest ≤ m → lexed_from m end rest ≡ r) → lexed_from n at all ≡ with_tokens tokens r
 read_before n at [] all end rest r p.done le last = last n le ∙ sym (no_tokens r)
 read_before zero at tokens all end rest r (p.skip {text} {bytes} e is h) le last = absurd (no_room text bytes all e (piece_some None text bytes is) le)
@@ -71,7 +73,7 @@ unfolding lexed_from
 nothing_left zero at = refl
 nothing_left (suc n) at = refl
 
-fault_left : (n at place : ℕ) (code : LexCode) (rest : List ℕ) → IsFault at code place rest → length rest ≤ n → lexed_from n at rest ≡ Err (code, place)
+fault_left : (n at place : ℕ) (code : LexCode) (rest : List ℕ) → IsLexFault at code place rest → length rest ≤ n → lexed_from n at rest ≡ Err (code, place)
 fault_left n at place code [] fault le = let some = fault_some at place code [] fault in absurd (omega arith)
 fault_left zero at place code (b ∷ rest) fault le = absurd (omega arith)
 fault_left (suc n) at place code (b ∷ rest) fault le = step_is n at (b ∷ rest) (omega arith) ∙ rw (fault_again at place code (b ∷ rest) fault) refl
@@ -92,11 +94,11 @@ pub record Refusal (at : ℕ) (bytes : List ℕ) (fault : LexCode × ℕ) : Type
   pub tokens : List Token
   pub end : ℕ
   pub rest : List ℕ
-  pub before : Reads at tokens bytes end rest
-  pub is_fault : IsFault end fault.0 fault.1 rest
+  pub before : ReadsTokens at tokens bytes end rest
+  pub is_fault : IsLexFault end fault.0 fault.1 rest
 
 abbrev LexedIs : ℕ → List ℕ → Result (List Token) (LexCode × ℕ) → Type 0
-LexedIs at bytes (Ok tokens) = (end : ℕ) × Reads at tokens bytes end []
+LexedIs at bytes (Ok tokens) = (end : ℕ) × ReadsTokens at tokens bytes end []
 LexedIs at bytes (Err fault) = Refusal at bytes fault
 
 behind_sound : (at : ℕ) (kind : Option TokenKind) (text bytes all : List ℕ) (more : Result (List Token) (LexCode × ℕ)) → all ≡ text ++ bytes → IsPiece kind text bytes → LexedIs (at + length text) bytes more
@@ -112,7 +114,7 @@ behind_sound at (Some kind) text bytes all (Err fault) e is h = record {
   is_fault = h.is_fault;
 }
 
-step_sound : (at b : ℕ) (bytes : List ℕ) (r : Read (Option TokenKind)) (more : ℕ → List ℕ → Result (List Token) (LexCode × ℕ)) → Stands at (b ∷ bytes) r
+step_sound : (at b : ℕ) (bytes : List ℕ) (r : ReadToken (Option TokenKind)) (more : ℕ → List ℕ → Result (List Token) (LexCode × ℕ)) → Stands at (b ∷ bytes) r
     → ((k : ℕ) (rest : List ℕ) → length rest < length (b ∷ bytes) → LexedIs k rest (more k rest)) → LexedIs at (b ∷ bytes) (lexed_step at (length (b ∷ bytes)) r more)
 step_sound at b bytes (Ok read) more h reads =
     let len : length (b ∷ bytes) ≡ length h.text + length read.1 = ap length h.parts ∙ length-append h.text read.1 in
@@ -129,14 +131,14 @@ lexed_is (suc n) at [] le = (at, p.done)
 lexed_is (suc n) at (b ∷ bytes) le = step_sound at b bytes (piece_at at (b ∷ bytes)) (lexed_from n) (piece_sound at b bytes) (λ k rest lt. lexed_is n k rest (omega arith))
 
 -- the offset at the end
-reads_len : (at : ℕ) (tokens : List Token) (all : List ℕ) (end : ℕ) (rest : List ℕ) → Reads at tokens all end rest → at + length all ≡ end + length rest
+reads_len : (at : ℕ) (tokens : List Token) (all : List ℕ) (end : ℕ) (rest : List ℕ) → ReadsTokens at tokens all end rest → at + length all ≡ end + length rest
 reads_len at [] all end rest p.done = refl
 reads_len at tokens all end rest (p.skip {text} {bytes} e is h) =
     let len = ap length e ∙ length-append text bytes in let more = reads_len (at + length text) tokens bytes end rest h in omega arith
 reads_len at tokens all end rest (p.next {tokens = others} {text} {bytes} e is h) =
     let len = ap length e ∙ length-append text bytes in let more = reads_len (at + length text) others bytes end rest h in omega arith
 
-pub ends_there : (tokens : List Token) (bytes : List ℕ) (end : ℕ) → Reads 0 tokens bytes end [] → AreTokens tokens bytes
+pub ends_there : (tokens : List Token) (bytes : List ℕ) (end : ℕ) → ReadsTokens 0 tokens bytes end [] → AreTokens tokens bytes
 ends_there tokens bytes end h = let len = reads_len 0 tokens bytes end [] h in let same : length bytes ≡ end = omega arith in rw same h
 
 tokens_case : (tokens : List Token) (bytes : List ℕ) (r : Result (List Token) (LexCode × ℕ)) → LexedIs 0 bytes r → r ≡ Ok tokens → AreTokens tokens bytes

@@ -1,10 +1,8 @@
 -- The longest front of bytes that pass a test, and the first end of a comment.
-use Rattle.drl_lex.proofs.Common.{◌≡◌, ℕ, zero, suc, ◌<◌, ◌≤◌, ◌++◌, Bool, true, false, ◌&&◌, List, [], ◌∷◌, length, take, drop, get_or, refl, ap, ◌∙◌, arith, list_all, begins, at_drop_more, longest_step}
+use Rattle.drl_lex.proofs.Common.{◌≡◌, ℕ, zero, suc, ◌<◌, ◌≤◌, ◌++◌, Bool, true, false, List, [], ◌∷◌, length, take, drop, get_or, refl, ap, ◌∙◌, arith}
+use Rattle.drl_lex.proofs.Common.{list_all, begins, at_drop_more, longest_step}
+use Rattle.std.proofs.lemmas.Bool.{and_parts}
 use Rattle.drl_lex.specs.Fronts.{longest}
-
-pub both : (a b : Bool) → (a && b) ≡ true → (a ≡ true) × (b ≡ true)
-both true b e = (refl, e)
-both false b e = absurd cc
 
 longest_at : (test : ℕ → Bool) (bytes : List ℕ) (i : ℕ) → list_all test (take i bytes) ≡ true → begins test (drop i bytes) ≡ false → longest test bytes ≡ (take i bytes, drop i bytes)
 unfolding longest
@@ -12,7 +10,7 @@ longest_at test [] zero all stop = refl
 longest_at test [] (suc i) all stop = refl
 longest_at test (b ∷ bytes) zero all stop = rw stop refl
 longest_at test (b ∷ bytes) (suc i) all stop =
-    let parts = both (test b) (list_all test (take i bytes)) all in
+    let parts = and_parts (test b) (list_all test (take i bytes)) all in
     rw (parts.0, longest_at test bytes i parts.1 stop) refl
 
 -- the byte behind the front does not pass
@@ -50,15 +48,15 @@ unfolding longest
 longest_again test [] [] all stop = refl
 longest_again test [] (b ∷ rest) all stop = rw stop refl
 longest_again test (b ∷ front) rest all stop =
-    let parts = both (test b) (list_all test front) all in
+    let parts = and_parts (test b) (list_all test front) all in
     rw (parts.0, longest_again test front rest parts.1 stop) refl
 
 pub passes_at : (test : ℕ → Bool) (bytes : List ℕ) (i : ℕ) → list_all test bytes ≡ true → i < length bytes → test (get_or bytes i 0) ≡ true
 passes_at test [] i all lt = absurd (omega arith)
-passes_at test (b ∷ bytes) zero all lt = (both (test b) (list_all test bytes) all).0
-passes_at test (b ∷ bytes) (suc i) all lt = passes_at test bytes i (both (test b) (list_all test bytes) all).1 (omega arith)
+passes_at test (b ∷ bytes) zero all lt = (and_parts (test b) (list_all test bytes) all).0
+passes_at test (b ∷ bytes) (suc i) all lt = passes_at test bytes i (and_parts (test b) (list_all test bytes) all).1 (omega arith)
 
 pub all_pass : (test : ℕ → Bool) (bytes : List ℕ) (i : ℕ) → length bytes ≤ i → list_all test (take i bytes) ≡ true → list_all test bytes ≡ true
 all_pass test [] i le all = refl
 all_pass test (b ∷ bytes) zero le all = absurd (omega arith)
-all_pass test (b ∷ bytes) (suc i) le all = let parts = both (test b) (list_all test (take i bytes)) all in rw (parts.0) (all_pass test bytes i (omega arith) parts.1)
+all_pass test (b ∷ bytes) (suc i) le all = let parts = and_parts (test b) (list_all test (take i bytes)) all in rw (parts.0) (all_pass test bytes i (omega arith) parts.1)

@@ -1,10 +1,13 @@
 -- The mark that is read is the longest one, and it is read.
-use Rattle.drl_lex.proofs.Common.{◌≡◌, ℕ, ◌++◌, ◌&&◌, Bool, true, false, cond, eqb, List, [], ◌∷◌, Option, Some, None, refl, sym, ap, ◌∙◌, option_map, IfSome, eqb-true, Equal, Less, LessOrEqual, Greater, GreaterOrEqual, Assign, Comparison, Other, begins, mark_text, lengthens, NotEqual, OpenParenthesis, CloseParenthesis, OpenBrace, CloseBrace, OpenBracket, CloseBracket, Comma, Semicolon, Colon, Dot, At, Plus, Minus, Star, Or, And, mark_step}
+use Rattle.drl_lex.proofs.Common.{◌≡◌, ℕ, ◌++◌, ◌&&◌, Bool, true, false, cond, eqb, List, [], ◌∷◌, Option, Some, None, refl, sym, ap, ◌∙◌, option_map, IfSome}
+use Rattle.drl_lex.proofs.Common.{eqb-true, Equal, Less, LessOrEqual, Greater, GreaterOrEqual, Assign, Comparison, Other, begins, mark_text, lengthens}
+use Rattle.drl_lex.proofs.Common.{NotEqual, OpenParenthesis, CloseParenthesis, OpenBrace, CloseBrace, OpenBracket, CloseBracket, Comma, Semicolon, Colon, Dot}
+use Rattle.drl_lex.proofs.Common.{At, Plus, Minus, Star, Or, And, mark_step}
+use Rattle.std.proofs.lemmas.Bool.{and_parts}
 use Rattle.drl_lex.specs.declared.token.Mark.{Mark}
 use Rattle.drl_lex.specs.Bytes.{is_blank, is_quote, begins_word}
 use Rattle.drl_lex.specs.Leads.{lead_of}
 use Rattle.drl_lex.specs.MarkReading.{single_mark, double_mark, mark_at}
-use Rattle.drl_lex.proofs.FrontLaws.{both}
 
 -- a mark of one byte, and no longer one where no mark of two bytes stands
 pub record IsSingle (b : ℕ) (mark : Mark) : Type 0 where
@@ -61,7 +64,7 @@ single_is b =
 
 pair : (b c m n : ℕ) (mark : Mark) → mark_text mark ≡ m ∷ n ∷ [] → ((d : ℕ) → lengthens mark d ≡ false) → (eqb b m && eqb c n) ≡ true → IsDouble b c mark
 pair b c m n mark text alone e =
-    let parts = both (eqb b m) (eqb c n) e in
+    let parts = and_parts (eqb b m) (eqb c n) e in
     let first : b ≡ m = eqb-true b m parts.0 in
     let second : c ≡ n = eqb-true c n parts.1 in
     record { text = rw (first, second) text; alone = alone }

@@ -1,5 +1,12 @@
 -- What is read at the front of the bytes stands there: a blank, a comment, a token, or a fault.
-use Rattle.drl_lex.proofs.Common.{◌≡◌, ℕ, ◌+◌, ◌<◌, ◌++◌, Bool, true, false, cond, eqb, List, [], ◌∷◌, length, Option, Some, None, Result, Ok, Err, eq-eqb, refl, ap, ◌∙◌, arith, append_assoc, codes, is_some, IfSome, list_all, is_ascii_digit, is_utf8, eqb-true, length-append, TokenKind, Word, Var, Number, Time, Text, Mark, Assign, Comparison, Equal, Less, LessOrEqual, Greater, GreaterOrEqual, LexCode, BadChar, Lead, Blank, Hash, Slash, Quote, Dollar, Digit, Letter, Other, is_word_byte, is_run_byte, is_line_byte, begins, BeginsNothing, IsRun, IsOpened, IsFault, behind_close, mark_text, lengthens, Read, behind_block, token_read, mark_read, var_step, run_kind, with_rest, text_step, content_at, IsText, Spells, longer, IsComment, IsPiece, lead_of, comment_read, text_read}
+use Rattle.drl_lex.proofs.Common.{◌≡◌, ℕ, ◌+◌, ◌<◌, ◌++◌, Bool, true, false, cond, eqb, List, [], ◌∷◌, length, Option, Some, None, Result, Ok, Err, eq-eqb}
+use Rattle.drl_lex.proofs.Common.{refl, ap, ◌∙◌, arith, append_assoc, codes, is_some, IfSome, list_all, is_ascii_digit, is_utf8, eqb-true, length-append}
+use Rattle.drl_lex.proofs.Common.{TokenKind, Word, Var, Number, Time, Text, Mark, Assign, Comparison, Equal, Less, LessOrEqual, Greater, GreaterOrEqual}
+use Rattle.drl_lex.proofs.Common.{LexCode, BadChar, Lead, Blank, Hash, Slash, Quote, Dollar, Digit, Letter, Other, is_word_byte, is_run_byte, is_line_byte}
+use Rattle.drl_lex.proofs.Common.{begins, BeginsNothing, IsDigitRun, IsOpened, IsLexFault, behind_close, mark_text, lengthens, ReadToken, behind_block}
+use Rattle.drl_lex.proofs.Common.{token_read, mark_read, var_step, run_kind, with_rest, text_step, content_at, Spells, longer, IsComment, IsPiece, lead_of}
+use Rattle.drl_lex.proofs.Common.{comment_read, text_read}
+use Rattle.std.proofs.lemmas.Bool.{and_parts}
 use Rattle.drl_lex.specs.declared.token.Mark.{Mark as MarkData}
 use Rattle.drl_lex.specs.Bytes.{is_blank, begins_word, is_quote}
 use Rattle.drl_lex.specs.Faults as f
@@ -9,11 +16,11 @@ use Rattle.drl_lex.specs.Reading.{slash_at, word_at, var_at, run_at, text_at, pi
 use Rattle.drl_lex.specs.Texts.{utf8_text}
 use Rattle.drl_lex.specs.Tokens as p
 use Rattle.drl_lex.proofs.CommentLaws.{CloseIs, close_is}
-use Rattle.drl_lex.proofs.FrontLaws.{both, longest_is}
+use Rattle.drl_lex.proofs.FrontLaws.{longest_is}
 use Rattle.drl_lex.proofs.LeadLaws.{IsOther, LeadIs, lead_is, digit_runs, letter_is_word_byte}
 use Rattle.drl_lex.proofs.MarkLaws.{MarkIs, mark_sound, mark_again}
 use Rattle.drl_lex.proofs.RunLaws.{KindIs, run_kind_sound, numeral_begins, time_begins}
-use Rattle.drl_lex.proofs.TextLaws.{Stops, Closed, Stopped, ContentIs, content_sound}
+use Rattle.drl_lex.proofs.TextLaws.{Stops, Closed, ContentIs, content_sound}
 use Rattle.drl_lex.proofs.TextLaws as x
 
 -- a piece at the front, and the bytes behind it
@@ -23,9 +30,9 @@ pub record Front (bytes : List ℕ) (read : Option TokenKind × List ℕ) : Type
   pub some : 0 < length text
   pub is : IsPiece read.0 text read.1
 
-abbrev pub Stands : ℕ → List ℕ → Read (Option TokenKind) → Type 0
+abbrev pub Stands : ℕ → List ℕ → ReadToken (Option TokenKind) → Type 0
 Stands at bytes (Ok read) = Front bytes read
-Stands at bytes (Err fault) = IsFault at fault.0 fault.1 bytes
+Stands at bytes (Err fault) = IsLexFault at fault.0 fault.1 bytes
 
 -- ---- what a token begins with
 
@@ -65,7 +72,7 @@ mark_begins false mark rest b bytes h e =
 var_begins : (name rest : List ℕ) (b : ℕ) (bytes : List ℕ) → b ∷ bytes ≡ 36 ∷ (name ++ rest) → 0 < length name → list_all is_word_byte name ≡ true → (b ≡ 36) × (begins is_word_byte bytes ≡ true)
 var_begins [] rest b bytes e some all = absurd (omega arith)
 var_begins (c ∷ name) rest b bytes e some all =
-    (head_is b 36 bytes (c ∷ (name ++ rest)) e, rw (tail_is b 36 bytes (c ∷ (name ++ rest)) e) (both (is_word_byte c) (list_all is_word_byte name) all).0)
+    (head_is b 36 bytes (c ∷ (name ++ rest)) e, rw (tail_is b 36 bytes (c ∷ (name ++ rest)) e) (and_parts (is_word_byte c) (list_all is_word_byte name) all).0)
 
 token_begins : (kind : TokenKind) (text rest : List ℕ) (b : ℕ) (bytes : List ℕ) → b ∷ bytes ≡ text ++ rest → Spells kind text → TokenBegins kind b bytes
 token_begins (Word name) text rest b bytes e h = begins_same begins_word name rest b bytes (rw h.0 at e) h.1
@@ -217,7 +224,7 @@ same_stop : (kind : TokenKind) (rest : List ℕ) → ((b : ℕ) → longer kind 
 same_stop kind [] same stop = refl
 same_stop kind (b ∷ rest) same stop = same b ∙ stop
 
-run_case : (at : ℕ) (run bytes : List ℕ) (r : Result TokenKind (LexCode × ℕ)) (is : IsRun run bytes) → 0 < length run → KindIs at run bytes r → Stands at bytes (token_read (with_rest is.rest r))
+run_case : (at : ℕ) (run bytes : List ℕ) (r : Result TokenKind (LexCode × ℕ)) (is : IsDigitRun run bytes) → 0 < length run → KindIs at run bytes r → Stands at bytes (token_read (with_rest is.rest r))
 run_case at run bytes (Ok kind) is some h = record { text = run; parts = is.parts; some = some; is = p.token h.0 (same_stop kind is.rest h.1 is.stop) }
 run_case at run bytes (Err fault) is some h = h
 
@@ -227,7 +234,7 @@ run_sound at b bytes e =
     let h = longest_is is_run_byte (b ∷ bytes) in
     let run = (longest is_run_byte (b ∷ bytes)).0 in
     let first : run ≡ b ∷ (longest is_run_byte bytes).0 = front_first is_run_byte b bytes (digit_runs b e) in
-    let is : IsRun run (b ∷ bytes) = record { rest = (longest is_run_byte (b ∷ bytes)).1; parts = h.parts; begin = rw first e; all = h.passes; stop = h.stop } in
+    let is : IsDigitRun run (b ∷ bytes) = record { rest = (longest is_run_byte (b ∷ bytes)).1; parts = h.parts; begin = rw first e; all = h.passes; stop = h.stop } in
     run_case at run (b ∷ bytes) (run_kind at run) is (rw first (omega arith)) (run_kind_sound at run (b ∷ bytes) is)
 
 -- ---- texts
@@ -247,11 +254,11 @@ utf8_case at quote bytes read true e q h = record {
 utf8_case at quote bytes read false e q h = f.no_utf8 (record { opened = ap (λ (bs : List ℕ). quote ∷ bs) h.parts; is_a_quote = q; means = h.means }) e
 
 stop_case : (at quote place : ℕ) (bytes content written rest : List ℕ) (fault : LexCode × ℕ) → place ≡ at + (1 + length written) → IsOpened quote content written rest bytes → Stops at place fault rest
-    → IsFault at fault.0 fault.1 bytes
+    → IsLexFault at fault.0 fault.1 bytes
 stop_case at quote place bytes content written rest fault same is (x.bad_letter h) = rw same (f.bad_escape is h)
 stop_case at quote place bytes content written rest fault same is (x.left_open h) = f.open_text is h
 
-text_case : (at quote : ℕ) (bytes : List ℕ) (r : Read (List ℕ)) → is_quote quote ≡ true → ContentIs at quote (at + 1) bytes r → Stands at (quote ∷ bytes) (token_read (text_step at r))
+text_case : (at quote : ℕ) (bytes : List ℕ) (r : ReadToken (List ℕ)) → is_quote quote ≡ true → ContentIs at quote (at + 1) bytes r → Stands at (quote ∷ bytes) (token_read (text_step at r))
 unfolding utf8_text
 text_case at quote bytes (Ok read) q h = utf8_case at quote bytes read (is_utf8 read.0) refl q h
 text_case at quote bytes (Err fault) q h =

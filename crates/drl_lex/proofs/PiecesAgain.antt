@@ -1,5 +1,12 @@
 -- What stands at the front of the bytes is read.
-use Rattle.drl_lex.proofs.Common.{◌≡◌, ℕ, ◌+◌, ◌^◌, ◌<◌, ◌≤◌, ◌++◌, Bool, true, false, cond, eqb, List, [], ◌∷◌, length, Option, Some, None, Ok, Err, refl, ap, ◌∙◌, arith, append_assoc, codes, IfSome, nat_lt, nat_le, list_all, is_ascii_digit, is_utf8, digits_value, eqb-true, nat_tests, TokenKind, Word, Var, Number, Time, Text, Mark, LexCode, BadChar, OpenText, NumberLarge, Lead, Blank, Hash, Slash, Quote, Dollar, Digit, Letter, Other, is_word_byte, is_run_byte, is_line_byte, begins, IsWithout, BeginsNothing, IsRun, IsOpened, IsFault, longest, behind_close, mark_text, lengthens, token_read, mark_read, number_kind, time_kind, run_kind, with_rest, var_step, behind_block, text_step, content_at, time_of, IsNumeral, IsTime, IsText, Spells, longer, IsComment, IsPiece, OpenComment, begins_word, mark_at}
+use Rattle.drl_lex.proofs.Common.{◌≡◌, ℕ, ◌+◌, ◌^◌, ◌<◌, ◌≤◌, ◌++◌, Bool, true, false, cond, eqb, List, [], ◌∷◌, length, Option, Some, None, Ok, Err, refl, ap}
+use Rattle.drl_lex.proofs.Common.{◌∙◌, arith, append_assoc, codes, IfSome, nat_lt, nat_le, list_all, is_ascii_digit, is_utf8, digits_value, eqb-true, nat_tests}
+use Rattle.drl_lex.proofs.Common.{TokenKind, Word, Var, Number, Time, Text, Mark, LexCode, BadChar, OpenText, NumberLarge, Lead, Blank, Hash, Slash, Quote}
+use Rattle.drl_lex.proofs.Common.{Dollar, Digit, Letter, Other, is_word_byte, is_run_byte, is_line_byte, begins, IsWithout, BeginsNothing, IsDigitRun, IsOpened}
+use Rattle.drl_lex.proofs.Common.{IsLexFault, longest, behind_close, mark_text, lengthens, token_read, mark_read, number_kind, time_kind, run_kind, with_rest}
+use Rattle.drl_lex.proofs.Common.{var_step, behind_block, text_step, content_at, time_of, IsNumeral, IsTime, IsText, Spells, longer, IsComment, IsPiece}
+use Rattle.drl_lex.proofs.Common.{OpenComment, begins_word, mark_at}
+use Rattle.std.proofs.lemmas.Bool.{and_parts}
 use Rattle.drl_lex.specs.declared.token.Mark.{Mark as MarkData}
 use Rattle.drl_lex.specs.Bytes.{is_blank, is_quote}
 use Rattle.drl_lex.specs.Faults as f
@@ -8,7 +15,7 @@ use Rattle.drl_lex.specs.Reading.{slash_at, word_at, var_at, run_at, text_at, pi
 use Rattle.drl_lex.specs.Texts.{utf8_text}
 use Rattle.drl_lex.specs.Tokens as p
 use Rattle.drl_lex.proofs.CommentLaws.{close_again, open_again}
-use Rattle.drl_lex.proofs.FrontLaws.{both, longest_is, longest_again}
+use Rattle.drl_lex.proofs.FrontLaws.{longest_is, longest_again}
 use Rattle.drl_lex.proofs.LeadLaws.{LeadIs, lead_is, letter_is_word_byte, blank_lead, digit_lead, letter_lead, quote_lead}
 use Rattle.drl_lex.proofs.MarkLaws.{MarkIs, mark_sound, mark_again}
 use Rattle.drl_lex.proofs.PieceLaws.{mark_some}
@@ -165,7 +172,7 @@ slash_nothing at (c ∷ bytes) h = no_slash at c bytes (eqb c 47) (eqb c 42) ref
 no_var : (at : ℕ) (bytes name rest : List ℕ) → bytes ≡ name ++ rest → list_all is_word_byte name ≡ true → BeginsNothing (36 ∷ bytes) → var_step at name rest ≡ Err (BadChar, at)
 no_var at bytes [] rest e all h = refl
 no_var at bytes (c ∷ name) rest e all h =
-    let first = (both (is_word_byte c) (list_all is_word_byte name) all).0 in
+    let first = (and_parts (is_word_byte c) (list_all is_word_byte name) all).0 in
     absurd (h.no_token (Var (c ∷ [])) (36 ∷ c ∷ []) (name ++ rest) (ap (λ (bs : List ℕ). 36 ∷ bs) e) (refl, omega arith, rw first refl))
 
 var_nothing : (at : ℕ) (bytes : List ℕ) → BeginsNothing (36 ∷ bytes) → var_at at bytes ≡ Err (BadChar, at)
@@ -201,7 +208,7 @@ no_digits : (run : List ℕ) → begins is_ascii_digit run ≡ true → ((n : �
 no_digits [] begin none all = cc
 no_digits (b ∷ run) begin none all = none (digits_value 10 (b ∷ run)) (record { some = omega arith; digits = all; value = refl })
 
-run_nothing : (at : ℕ) (run bytes : List ℕ) → IsRun run bytes → ((n : ℕ) → IsNumeral n run → ⊥) → ((ms : ℕ) → IsTime ms run → ⊥) → piece_at at bytes ≡ Err (BadChar, at)
+run_nothing : (at : ℕ) (run bytes : List ℕ) → IsDigitRun run bytes → ((n : ℕ) → IsNumeral n run → ⊥) → ((ms : ℕ) → IsTime ms run → ⊥) → piece_at at bytes ≡ Err (BadChar, at)
 run_nothing at run bytes is none no_time =
     ap (piece_at at) is.parts ∙ run_again at run is.rest is.begin is.all is.stop
     ∙ rw (other_again at run None (no_digits run is.begin none) (no_time_none run (time_of run) (time_sound run) no_time)) refl
@@ -216,7 +223,7 @@ text_nothing at quote content written rest bytes fault is stops =
     ap (piece_at at) is.opened ∙ quote_again at quote (written ++ rest) is.is_a_quote
     ∙ rw (stopped_again at quote (at + 1) content written rest fault is.is_a_quote is.means stops) refl
 
-pub fault_again : (at place : ℕ) (code : LexCode) (bytes : List ℕ) → IsFault at code place bytes → piece_at at bytes ≡ Err (code, place)
+pub fault_again : (at place : ℕ) (code : LexCode) (bytes : List ℕ) → IsLexFault at code place bytes → piece_at at bytes ≡ Err (code, place)
 fault_again at place code bytes (f.no_token h) = nothing_again at bytes h
 fault_again at place code bytes (f.no_number {run} is none no_time) = run_nothing at run bytes is none no_time
 fault_again at place code bytes (f.large_number {n} {run} is h le) = rw is.parts (run_again at run is.rest is.begin is.all is.stop ∙ rw (number_again at n run h, number_kind_large at n le) refl)
@@ -231,11 +238,11 @@ fault_again at place code bytes (f.no_utf8 {quote} {content} {written} {rest} is
     rw is.opened (quote_again at quote (written ++ (quote ∷ rest)) is.is_a_quote
     ∙ rw (closed_again at quote (at + 1) content written rest is.is_a_quote is.means, utf8_is content false h) refl)
 
-run_bytes : (run bytes : List ℕ) → IsRun run bytes → 0 < length bytes
+run_bytes : (run bytes : List ℕ) → IsDigitRun run bytes → 0 < length bytes
 run_bytes [] bytes is = let begin = is.begin in absurd cc
 run_bytes (b ∷ run) bytes is = rw is.parts (omega arith)
 
-pub fault_some : (at place : ℕ) (code : LexCode) (bytes : List ℕ) → IsFault at code place bytes → 0 < length bytes
+pub fault_some : (at place : ℕ) (code : LexCode) (bytes : List ℕ) → IsLexFault at code place bytes → 0 < length bytes
 fault_some at place code bytes (f.no_token h) = h.some
 fault_some at place code bytes (f.no_number {run} is none no_time) = run_bytes run bytes is
 fault_some at place code bytes (f.large_number {run} is h le) = run_bytes run bytes is

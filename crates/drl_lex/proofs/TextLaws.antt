@@ -1,5 +1,7 @@
 -- What stands between quotes is read, and nothing else.
-use Rattle.drl_lex.proofs.Common.{◌≡◌, ℕ, ◌+◌, ◌++◌, ◌||◌, Bool, true, false, not, cond, eqb, List, [], ◌∷◌, length, Option, Some, None, Ok, Err, eq-eqb, refl, ap, ◌∙◌, arith, is_some, eqb-true, nat_tests, append-nil, LexCode, BadChar, OpenText, Backslash, Plain, begins, Read, with_byte, escaped_byte, Closing, Newline, content_end, content_step, escape_step, IsContent}
+use Rattle.drl_lex.proofs.Common.{◌≡◌, ℕ, ◌+◌, ◌++◌, ◌||◌, Bool, true, false, not, cond, eqb, List, [], ◌∷◌, length, Option, Some, None, Ok, Err, eq-eqb, refl}
+use Rattle.drl_lex.proofs.Common.{ap, ◌∙◌, arith, is_some, eqb-true, nat_tests, append-nil, LexCode, BadChar, OpenText, Backslash, Plain, begins, ReadToken}
+use Rattle.drl_lex.proofs.Common.{with_byte, escaped_byte, Closing, Newline, content_end, content_step, escape_step, IsContent}
 use Rattle.drl_lex.specs.declared.bytes.TextByte.{TextByte}
 use Rattle.drl_lex.specs.Bytes.{is_line_byte, is_quote}
 use Rattle.drl_lex.specs.Leads.{text_byte_of}
@@ -28,7 +30,7 @@ pub record Stopped (at quote place : ℕ) (bytes : List ℕ) (fault : LexCode ×
   pub means : IsContent quote content written
   pub stops : Stops at (place + length written) fault rest
 
-abbrev pub ContentIs : ℕ → ℕ → ℕ → List ℕ → Read (List ℕ) → Type 0
+abbrev pub ContentIs : ℕ → ℕ → ℕ → List ℕ → ReadToken (List ℕ) → Type 0
 ContentIs at quote place bytes (Ok read) = Closed quote bytes read
 ContentIs at quote place bytes (Err fault) = Stopped at quote place bytes fault
 
@@ -56,7 +58,7 @@ no_line : (b : ℕ) (bytes : List ℕ) → b ≡ 10 → begins is_line_byte (b �
 unfolding is_line_byte
 no_line b bytes e = rw e refl
 
-one_byte : (at quote place b : ℕ) (bytes : List ℕ) (more : Read (List ℕ)) → is_plain quote b ≡ true → ContentIs at quote (place + 1) bytes more → ContentIs at quote place (b ∷ bytes) (with_byte b more)
+one_byte : (at quote place b : ℕ) (bytes : List ℕ) (more : ReadToken (List ℕ)) → is_plain quote b ≡ true → ContentIs at quote (place + 1) bytes more → ContentIs at quote place (b ∷ bytes) (with_byte b more)
 one_byte at quote place b bytes (Ok read) is h = record { written = b ∷ h.written; parts = ap (λ (bs : List ℕ). b ∷ bs) h.parts; means = t.plain is h.means }
 one_byte at quote place b bytes (Err fault) is h = record {
   content = b ∷ h.content;
@@ -67,7 +69,7 @@ one_byte at quote place b bytes (Err fault) is h = record {
   stops = let same : place + length (b ∷ h.written) ≡ place + 1 + length h.written = omega arith in rw same h.stops;
 }
 
-escaped : (at quote place b letter meant : ℕ) (bytes : List ℕ) (more : Read (List ℕ)) → b ≡ 92 → escaped_byte letter ≡ Some meant → ContentIs at quote (place + 2) bytes more
+escaped : (at quote place b letter meant : ℕ) (bytes : List ℕ) (more : ReadToken (List ℕ)) → b ≡ 92 → escaped_byte letter ≡ Some meant → ContentIs at quote (place + 2) bytes more
     → ContentIs at quote place (b ∷ letter ∷ bytes) (with_byte meant more)
 escaped at quote place b letter meant bytes (Ok read) e is h = record {
   written = 92 ∷ letter ∷ h.written;
@@ -89,12 +91,12 @@ end_sound at quote place b Backslash is = rw is (stop_here at quote place (92 �
 end_sound at quote place b Newline is = stop_here at quote place (b ∷ []) (OpenText, at) (left_open (no_line b [] is))
 end_sound at quote place b Plain is = record { content = b ∷ []; written = b ∷ []; rest = []; parts = refl; means = t.plain is t.nothing; stops = left_open refl }
 
-escape_sound : (at quote place b c : ℕ) (bytes : List ℕ) (o : Option ℕ) (more : Read (List ℕ)) → b ≡ 92 → escaped_byte c ≡ o → ContentIs at quote (place + 2) bytes more
+escape_sound : (at quote place b c : ℕ) (bytes : List ℕ) (o : Option ℕ) (more : ReadToken (List ℕ)) → b ≡ 92 → escaped_byte c ≡ o → ContentIs at quote (place + 2) bytes more
     → ContentIs at quote place (b ∷ c ∷ bytes) (escape_step place o more)
 escape_sound at quote place b c bytes (Some meant) more e is h = escaped at quote place b c meant bytes more e is h
 escape_sound at quote place b c bytes None more e is h = rw e (stop_here at quote place (92 ∷ c ∷ bytes) (BadChar, place) (bad_letter (ap is_some is)))
 
-step_sound : (at quote place b c : ℕ) (bytes : List ℕ) (byte : TextByte) (one two : Read (List ℕ)) → TextByteIs quote b byte → ContentIs at quote (place + 1) (c ∷ bytes) one → ContentIs at quote (place + 2) bytes two
+step_sound : (at quote place b c : ℕ) (bytes : List ℕ) (byte : TextByte) (one two : ReadToken (List ℕ)) → TextByteIs quote b byte → ContentIs at quote (place + 1) (c ∷ bytes) one → ContentIs at quote (place + 2) bytes two
     → ContentIs at quote place (b ∷ c ∷ bytes) (content_step at place byte b c bytes one two)
 step_sound at quote place b c bytes Closing one two is h1 h2 = record { written = []; parts = ap (λ (x : ℕ). x ∷ c ∷ bytes) is; means = t.nothing }
 step_sound at quote place b c bytes Backslash one two is h1 h2 = escape_sound at quote place b c bytes (escaped_byte c) two is refl h2
@@ -150,11 +152,11 @@ escape_at : (at quote place letter meant : ℕ) (bytes : List ℕ) → text_byte
 unfolding content_at
 escape_at at quote place letter meant bytes e is = rw (e, is) refl
 
-behind_more : (b : ℕ) (content : List ℕ) (read : Read (List ℕ)) → with_byte b (behind content read) ≡ behind (b ∷ content) read
+behind_more : (b : ℕ) (content : List ℕ) (read : ReadToken (List ℕ)) → with_byte b (behind content read) ≡ behind (b ∷ content) read
 behind_more b content (Ok read) = refl
 behind_more b content (Err fault) = refl
 
-behind_none : (read : Read (List ℕ)) → read ≡ behind [] read
+behind_none : (read : ReadToken (List ℕ)) → read ≡ behind [] read
 behind_none (Ok read) = refl
 behind_none (Err fault) = refl
 
@@ -166,12 +168,12 @@ content_before at quote [] [] tail q t.nothing place =
 content_before at quote content written tail q (t.plain {b} {content = more} {written = others} is h) place =
     let same : place + length (b ∷ others) ≡ place + 1 + length others = omega arith in
     plain_at at quote place b (others ++ tail) (plain_byte quote b is)
-    ∙ ap (λ (r : Read (List ℕ)). with_byte b r) (content_before at quote more others tail q h (place + 1))
+    ∙ ap (λ (r : ReadToken (List ℕ)). with_byte b r) (content_before at quote more others tail q h (place + 1))
     ∙ rw same (behind_more b more (content_at at quote (place + 1 + length others) tail))
 content_before at quote content written tail q (t.escape {letter} {b} {content = more} {written = others} is h) place =
     let same : place + length (92 ∷ letter ∷ others) ≡ place + 2 + length others = omega arith in
     escape_at at quote place letter b (others ++ tail) (backslash_byte quote q) is
-    ∙ ap (λ (r : Read (List ℕ)). with_byte b r) (content_before at quote more others tail q h (place + 2))
+    ∙ ap (λ (r : ReadToken (List ℕ)). with_byte b r) (content_before at quote more others tail q h (place + 2))
     ∙ rw same (behind_more b more (content_at at quote (place + 2 + length others) tail))
 
 closes_at : (at quote place : ℕ) (rest : List ℕ) → content_at at quote place (quote ∷ rest) ≡ Ok ([], rest)
@@ -179,7 +181,7 @@ unfolding content_at
 closes_at at quote place [] = rw quote_byte refl
 closes_at at quote place (c ∷ rest) = rw quote_byte refl
 
-no_letter : (o : Option ℕ) (place : ℕ) (more : Read (List ℕ)) → is_some o ≡ false → escape_step place o more ≡ Err (BadChar, place)
+no_letter : (o : Option ℕ) (place : ℕ) (more : ReadToken (List ℕ)) → is_some o ≡ false → escape_step place o more ≡ Err (BadChar, place)
 no_letter None place more e = refl
 no_letter (Some b) place more e = absurd cc
 
@@ -206,4 +208,4 @@ closed_again at quote place content written rest q h =
 pub stopped_again : (at quote place : ℕ) (content written rest : List ℕ) (fault : LexCode × ℕ) → is_quote quote ≡ true → IsContent quote content written → Stops at (place + length written) fault rest
     → content_at at quote place (written ++ rest) ≡ Err fault
 stopped_again at quote place content written rest fault q h stops =
-    content_before at quote content written rest q h place ∙ ap (λ (r : Read (List ℕ)). behind content r) (stops_at at quote (place + length written) fault rest q stops)
+    content_before at quote content written rest q h place ∙ ap (λ (r : ReadToken (List ℕ)). behind content r) (stops_at at quote (place + length written) fault rest q stops)

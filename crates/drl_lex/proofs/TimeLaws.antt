@@ -1,11 +1,14 @@
 -- What is read as a length of time is written so, and what is written so is read.
-use Rattle.drl_lex.proofs.Common.{◌≡◌, ℕ, ◌+◌, ◌<◌, ◌≤◌, ◌++◌, Bool, true, false, not, ◌&&◌, ◌||◌, cond, List, [], ◌∷◌, length, refl, ap, ◌∙◌, arith, Option, Some, None, append_assoc, codes, option_map, nat_lt, IfSome, list_all, is_ascii_digit, digits_value, ltb-true, nat_tests, length-append, append-nil, begins, IsNumeral, IsPart, IsLastPart, IsTime, is_empty, total_of, bytes_eq}
+use Rattle.drl_lex.proofs.Common.{◌≡◌, ℕ, ◌+◌, ◌<◌, ◌≤◌, ◌++◌, Bool, true, false, not, ◌&&◌, ◌||◌, cond, List, [], ◌∷◌, length, refl, ap, ◌∙◌, arith, Option}
+use Rattle.drl_lex.proofs.Common.{Some, None, append_assoc, codes, option_map, nat_lt, IfSome, list_all, is_ascii_digit, digits_value, ltb-true, nat_tests}
+use Rattle.drl_lex.proofs.Common.{length-append, append-nil, begins, IsNumeral, IsTimePart, IsLastPart, IsTime, is_empty_text, total_of, bytes_eq}
+use Rattle.std.proofs.lemmas.Bool.{and_parts, and_right, not-true}
 use Rattle.std.proofs.lemmas.Slice.Eq.{bytes_eq-Decides}
 use Rattle.drl_lex.specs.Bytes.{is_unit_byte}
 use Rattle.drl_lex.specs.Fronts.{longest}
 use Rattle.drl_lex.specs.Times as t
-use Rattle.drl_lex.specs.TimeReading.{part_at, last_at, time_of}
-use Rattle.drl_lex.proofs.FrontLaws.{both, longest_is, longest_again}
+use Rattle.drl_lex.specs.TimeReading.{unit_part_at, last_at, time_of}
+use Rattle.drl_lex.proofs.FrontLaws.{longest_is, longest_again}
 
 pub same_bytes : (xs ys : List ℕ) → bytes_eq xs ys ≡ true → xs ≡ ys
 same_bytes xs ys e = (bytes_eq-Decides xs ys).0 e
@@ -19,39 +22,35 @@ equal_bytes xs = (bytes_eq-Decides xs xs).1 refl
 pub record PartIs (unit bytes : List ℕ) (read : ℕ × List ℕ) : Type 0 where
   pub text : List ℕ
   pub parts : bytes ≡ text ++ read.1
-  pub is_part : IsPart unit read.0 text
+  pub is_part : IsTimePart unit read.0 text
 
-pub numeral_of : (digits : List ℕ) → is_empty digits ≡ false → list_all is_ascii_digit digits ≡ true → IsNumeral (digits_value 10 digits) digits
+pub numeral_of : (digits : List ℕ) → is_empty_text digits ≡ false → list_all is_ascii_digit digits ≡ true → IsNumeral (digits_value 10 digits) digits
 numeral_of [] e all = absurd cc
 numeral_of (b ∷ digits) e all = record { some = omega arith; digits = all; value = refl }
 
-pub not_true : (b : Bool) → not b ≡ true → b ≡ false
-not_true true e = absurd cc
-not_true false e = refl
-
-part_case : (t : Bool) (unit bytes digits letters rest : List ℕ) → (not (is_empty digits) && bytes_eq letters unit) ≡ t → bytes ≡ digits ++ (letters ++ rest) → list_all is_ascii_digit digits ≡ true
+part_case : (t : Bool) (unit bytes digits letters rest : List ℕ) → (not (is_empty_text digits) && bytes_eq letters unit) ≡ t → bytes ≡ digits ++ (letters ++ rest) → list_all is_ascii_digit digits ≡ true
     → PartIs unit bytes (cond t (digits_value 10 digits, rest) (0, bytes))
 part_case true unit bytes digits letters rest e parts all =
-    let h = both (not (is_empty digits)) (bytes_eq letters unit) e in
+    let h = and_parts (not (is_empty_text digits)) (bytes_eq letters unit) e in
     let same : letters ≡ unit = same_bytes letters unit h.1 in
-    record { text = digits ++ unit; parts = parts ∙ rw (same, append_assoc) refl; is_part = t.some_part (numeral_of digits (not_true _ h.0) all) refl }
+    record { text = digits ++ unit; parts = parts ∙ rw (same, append_assoc) refl; is_part = t.some_part (numeral_of digits (not-true _ h.0) all) refl }
 part_case false unit bytes digits letters rest e parts all = record { text = []; parts = refl; is_part = t.no_part }
 
-pub part_sound : (unit bytes : List ℕ) → PartIs unit bytes (part_at unit bytes)
-unfolding part_at
+pub part_sound : (unit bytes : List ℕ) → PartIs unit bytes (unit_part_at unit bytes)
+unfolding unit_part_at
 part_sound unit bytes =
     let d = longest_is is_ascii_digit bytes in
     let l = longest_is is_unit_byte (longest is_ascii_digit bytes).1 in
     let digits = (longest is_ascii_digit bytes).0 in
     let letters = (longest is_unit_byte (longest is_ascii_digit bytes).1).0 in
     let parts : bytes ≡ digits ++ (letters ++ (longest is_unit_byte (longest is_ascii_digit bytes).1).1) = d.parts ∙ ap (λ (bs : List ℕ). digits ++ bs) l.parts in
-    part_case (not (is_empty digits) && bytes_eq letters unit) unit bytes digits letters (longest is_unit_byte (longest is_ascii_digit bytes).1).1 refl parts d.passes
+    part_case (not (is_empty_text digits) && bytes_eq letters unit) unit bytes digits letters (longest is_unit_byte (longest is_ascii_digit bytes).1).1 refl parts d.passes
 
-last_case : (others digits unit : List ℕ) (flag t : Bool) → list_all is_ascii_digit digits ≡ true → (flag ≡ true → 0 < length others) → (not (is_empty digits) && bytes_eq unit (codes "ms")) ≡ t
-    → IfSome (cond (t || (is_empty unit && flag)) (Some (digits_value 10 digits)) None) (λ n. IsLastPart others n (digits ++ unit))
+last_case : (others digits unit : List ℕ) (flag t : Bool) → list_all is_ascii_digit digits ≡ true → (flag ≡ true → 0 < length others) → (not (is_empty_text digits) && bytes_eq unit (codes "ms")) ≡ t
+    → IfSome (cond (t || (is_empty_text unit && flag)) (Some (digits_value 10 digits)) None) (λ n. IsLastPart others n (digits ++ unit))
 last_case others digits unit flag true all some e =
-    let h = both (not (is_empty digits)) (bytes_eq unit (codes "ms")) e in
-    t.some_last (numeral_of digits (not_true _ h.0) all) (ap (λ (bs : List ℕ). digits ++ bs) (same_bytes unit (codes "ms") h.1))
+    let h = and_parts (not (is_empty_text digits)) (bytes_eq unit (codes "ms")) e in
+    t.some_last (numeral_of digits (not-true _ h.0) all) (ap (λ (bs : List ℕ). digits ++ bs) (same_bytes unit (codes "ms") h.1))
 last_case others [] [] true false all some e = t.no_last (some refl)
 last_case others (b ∷ digits) [] true false all some e = rw append-nil (t.no_unit (some refl) (numeral_of (b ∷ digits) refl all))
 last_case others digits [] false false all some e = tt
@@ -62,7 +61,7 @@ unfolding last_at
 last_sound others bytes flag some =
     let front = longest is_ascii_digit bytes in
     let d = longest_is is_ascii_digit bytes in
-    let read = last_case others front.0 front.1 flag (not (is_empty front.0) && bytes_eq front.1 (codes "ms")) d.passes some refl in
+    let read = last_case others front.0 front.1 flag (not (is_empty_text front.0) && bytes_eq front.1 (codes "ms")) d.passes some refl in
     rw (← d.parts) at read
 
 -- what was written before the rest takes bytes
@@ -101,10 +100,10 @@ times_sound (Some n) run d h m s pd ph pm ps last =
 pub time_sound : (run : List ℕ) → IfSome (time_of run) (λ ms. IsTime ms run)
 unfolding time_of
 time_sound run =
-    let d = part_at (codes "d") run in
-    let h = part_at (codes "h") d.1 in
-    let m = part_at (codes "m") h.1 in
-    let s = part_at (codes "s") m.1 in
+    let d = unit_part_at (codes "d") run in
+    let h = unit_part_at (codes "h") d.1 in
+    let m = unit_part_at (codes "m") h.1 in
+    let s = unit_part_at (codes "s") m.1 in
     times_sound (last_at (nat_lt (length s.1) (length run)) s.1) run d h m s (part_sound (codes "d") run) (part_sound (codes "h") d.1) (part_sound (codes "m") h.1) (part_sound (codes "s") m.1)
     (λ others e. last_sound others s.1 (nat_lt (length s.1) (length run)) (longer_parts run others s.1 e))
 
@@ -130,14 +129,14 @@ pub record IsUnit (unit : List ℕ) : Type 0 where
 begins_unit : (digits rest : List ℕ) → 0 < length digits → list_all is_ascii_digit digits ≡ true → begins is_unit_byte (digits ++ rest) ≡ false
 unfolding is_unit_byte
 begins_unit [] rest some all = absurd (omega arith)
-begins_unit (b ∷ digits) rest some all = let h = both (is_ascii_digit b) (list_all is_ascii_digit digits) all in rw h.0 refl
+begins_unit (b ∷ digits) rest some all = let h = and_parts (is_ascii_digit b) (list_all is_ascii_digit digits) all in rw h.0 refl
 
 begins_digit : (unit rest : List ℕ) → IsUnit unit → begins is_ascii_digit (unit ++ rest) ≡ false
 unfolding is_unit_byte
 begins_digit [] rest h = absurd (omega arith)
-begins_digit (b ∷ unit) rest h = not_true (is_ascii_digit b) (both (not (is_ascii_digit b)) (list_all (λ c. not (is_ascii_digit c)) unit) h.all).0
+begins_digit (b ∷ unit) rest h = not-true (is_ascii_digit b) (and_parts (not (is_ascii_digit b)) (list_all (λ c. not (is_ascii_digit c)) unit) h.all).0
 
-not_empty : (n : ℕ) (digits : List ℕ) → IsNumeral n digits → is_empty digits ≡ false
+not_empty : (n : ℕ) (digits : List ℕ) → IsNumeral n digits → is_empty_text digits ≡ false
 not_empty n [] h = absurd (omega arith)
 not_empty n (b ∷ digits) h = refl
 
@@ -156,18 +155,14 @@ unit_is : (digits unit rest : List ℕ) → Cut digits unit rest → unit_at (di
 unfolding unit_at
 unit_is digits unit rest h = ap (λ (p : List ℕ × List ℕ). (longest is_unit_byte p.1).0) h.in_digits ∙ ap (λ (p : List ℕ × List ℕ). p.0) h.in_unit
 
-no_such : (a b : Bool) → b ≡ false → (a && b) ≡ false
-no_such true b e = e
-no_such false b e = refl
-
-part_again : (unit text rest : List ℕ) (count : ℕ) → IsPart unit count text → IsUnit unit → begins is_unit_byte rest ≡ false → bytes_eq (unit_at rest) unit ≡ false → part_at unit (text ++ rest) ≡ (count, rest)
-unfolding part_at unit_at
-part_again unit [] rest count t.no_part u stop other = rw (no_such (not (is_empty (longest is_ascii_digit rest).0)) _ other) refl
+part_again : (unit text rest : List ℕ) (count : ℕ) → IsTimePart unit count text → IsUnit unit → begins is_unit_byte rest ≡ false → bytes_eq (unit_at rest) unit ≡ false → unit_part_at unit (text ++ rest) ≡ (count, rest)
+unfolding unit_part_at unit_at
+part_again unit [] rest count t.no_part u stop other = rw (and_right (not (is_empty_text (longest is_ascii_digit rest).0)) _ other) refl
 part_again unit text rest count (t.some_part {digits} n e) u stop other =
     let h = cut count digits unit rest n u stop in
     rw (e, append_assoc, h.in_digits, h.in_unit, equal_bytes unit, not_empty count digits n, n.value) refl
 
-follows_part : (unit text rest : List ℕ) (count k : ℕ) → IsPart unit count text → IsUnit unit → rank_of unit ≡ k → Follows (k + 1) rest → Follows k (text ++ rest)
+follows_part : (unit text rest : List ℕ) (count k : ℕ) → IsTimePart unit count text → IsUnit unit → rank_of unit ≡ k → Follows (k + 1) rest → Follows k (text ++ rest)
 follows_part unit [] rest count k t.no_part u rank h = record { stop = h.stop; late = let late = h.late in omega arith }
 follows_part unit text rest count k (t.some_part {digits} n e) u rank h =
     let c = cut count digits unit rest n u h.stop in
@@ -227,10 +222,10 @@ last_again others text count flag (t.no_unit some n) written =
 
 -- the parts of a time, as they are read
 pub record Parts (run : List ℕ) (days hours minutes seconds : ℕ) (h m s l : List ℕ) : Type 0 where
-  pub in_days : part_at (codes "d") run ≡ (days, h)
-  pub in_hours : part_at (codes "h") h ≡ (hours, m)
-  pub in_minutes : part_at (codes "m") m ≡ (minutes, s)
-  pub in_seconds : part_at (codes "s") s ≡ (seconds, l)
+  pub in_days : unit_part_at (codes "d") run ≡ (days, h)
+  pub in_hours : unit_part_at (codes "h") h ≡ (hours, m)
+  pub in_minutes : unit_part_at (codes "m") m ≡ (minutes, s)
+  pub in_seconds : unit_part_at (codes "s") s ≡ (seconds, l)
 
 pub parts_again : (run : List ℕ) (days hours minutes seconds : ℕ) (h m s l : List ℕ) (last : Option ℕ) → Parts run days hours minutes seconds h m s l → last_at (nat_lt (length l) (length run)) l ≡ last
     → time_of run ≡ option_map (total_of days hours minutes seconds) last

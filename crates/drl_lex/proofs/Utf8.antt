@@ -1,10 +1,11 @@
 -- Bytes as text.
-use Rattle.drl_lex.proofs.Common.{◌≡◌, ℕ, ◌<◌, zero, suc, List, [], ◌∷◌, true, false, Bool, None, Result, Ok, Err, Bor, refl, sym, arith, list_all, is_utf8, nat_tests, MatchResult, IsOk, IsUtf8, IsAscii, IsUtf8-from_ascii, is_utf8-from_IsUtf8, IsUtf8-from_is_utf8}
+use Rattle.drl_lex.proofs.Common.{◌≡◌, ℕ, ◌<◌, zero, suc, List, [], ◌∷◌, true, false, Bool, None, Result, Ok, Err, Bor, refl, sym, arith, list_all, is_utf8}
+use Rattle.drl_lex.proofs.Common.{nat_tests, MatchResult, IsOk, IsUtf8, IsAscii, IsUtf8-from_ascii, is_utf8-from_IsUtf8, IsUtf8-from_is_utf8}
+use Rattle.std.proofs.lemmas.Bool.{and_parts}
 use Rattle.std.proofs.Common.{option_map}
 use Rattle.std.specs.Result.{result_ok}
 use Rattle.drl_lex.specs.Bytes.{is_word_byte}
 use Rattle.drl_lex.specs.Texts.{utf8_text}
-use Rattle.drl_lex.proofs.FrontLaws.{both}
 
 not_utf8 : (b : Bool) (bytes : List ℕ) → is_utf8 bytes ≡ b → (IsUtf8 bytes → ⊥) → utf8_text bytes ≡ None
 unfolding utf8_text
@@ -22,8 +23,8 @@ word_byte_lt b h = grind (arith, nat_tests)
 
 words_are_ascii : (bytes : List ℕ) → list_all is_word_byte bytes ≡ true → IsAscii bytes
 words_are_ascii [] all i = omega arith
-words_are_ascii (b ∷ bytes) all zero = word_byte_lt b (both (is_word_byte b) (list_all is_word_byte bytes) all).0
-words_are_ascii (b ∷ bytes) all (suc i) = words_are_ascii bytes (both (is_word_byte b) (list_all is_word_byte bytes) all).1 i
+words_are_ascii (b ∷ bytes) all zero = word_byte_lt b (and_parts (is_word_byte b) (list_all is_word_byte bytes) all).0
+words_are_ascii (b ∷ bytes) all (suc i) = words_are_ascii bytes (and_parts (is_word_byte b) (list_all is_word_byte bytes) all).1 i
 
 pub word_is_text : {A E : Type 0} (bytes : List ℕ) (r : Result A E) (P : A → Type 0) (Q : E → Type 0) → list_all is_word_byte bytes ≡ true → MatchResult r P (λ e. (IsUtf8 bytes → ⊥) × Q e) → IsOk r
 word_is_text bytes (Ok s) P Q all h = refl

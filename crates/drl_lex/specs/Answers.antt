@@ -6,14 +6,14 @@ use Rattle.drl_lex.specs.declared.fault.LexCode.{LexCode}
 use Rattle.drl_lex.specs.declared.fault.LexFault.{LexFault}
 use Rattle.drl_lex.specs.declared.fault.LexFault.TheVariants.{Refused, NoMemory}
 
-abbrev pub Fails : {Y : Type 0} → LexFault → Result Y (LexCode × ℕ) → Type 0
-Fails (Refused code place) read = read ≡ Err (code, place)
-Fails NoMemory read = Unit {0}
+abbrev pub FailsLexing : {Y : Type 0} → LexFault → Result Y (LexCode × ℕ) → Type 0
+FailsLexing (Refused code place) read = read ≡ Err (code, place)
+FailsLexing NoMemory read = Unit {0}
 
 -- what was answered, seen by `view`, is what is read, unless memory was refused
-abbrev pub Gives : {X Y : Type 0} → (X → Y) → Result X LexFault → Result Y (LexCode × ℕ) → Type 0
-Gives view (Ok x) read = read ≡ Ok (view x)
-Gives view (Err fault) read = Fails fault read
+abbrev pub GivesTokens : {X Y : Type 0} → (X → Y) → Result X LexFault → Result Y (LexCode × ℕ) → Type 0
+GivesTokens view (Ok x) read = read ≡ Ok (view x)
+GivesTokens view (Err fault) read = FailsLexing fault read
 
 -- the token that a piece of so many bytes at offset `at` is, if it is one
 abbrev pub kept : ℕ → ℕ → Option TokenKind → List Token

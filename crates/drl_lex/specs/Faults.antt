@@ -12,7 +12,7 @@ use Rattle.drl_lex.specs.declared.fault.LexFault.TheVariants.{Refused, NoMemory}
 use Rattle.drl_lex.specs.Bytes.{is_blank, is_run_byte, is_quote, is_line_byte, begins, IsWithout}
 use Rattle.drl_lex.specs.Times.{IsNumeral, IsTime}
 use Rattle.drl_lex.specs.Texts.{escaped_byte, IsContent}
-use Rattle.drl_lex.specs.Tokens.{Spells, Reads}
+use Rattle.drl_lex.specs.Tokens.{Spells, ReadsTokens}
 
 -- no token stands at the front of the bytes, and their first byte is no blank and begins no comment, no text
 -- and no run
@@ -27,7 +27,7 @@ pub record BeginsNothing (bytes : List ℕ) : Type 0 where
   pub no_token : (kind : TokenKind) (text rest : List ℕ) → bytes ≡ text ++ rest → Spells kind text → ⊥
 
 -- a run that begins with a digit, as long as possible, at the front of the bytes
-pub record IsRun (run bytes : List ℕ) : Type 0 where
+pub record IsDigitRun (run bytes : List ℕ) : Type 0 where
   pub rest : List ℕ
   pub parts : bytes ≡ run ++ rest
   pub begin : begins is_ascii_digit run ≡ true
@@ -43,26 +43,26 @@ pub record IsOpened (quote : ℕ) (content written rest bytes : List ℕ) : Type
 -- A fault of what begins with the bytes, the first of which stands at offset `at`, and the offset that is told. In a
 -- text what stands before the fault is read without one, so faults are met from left to right; that the content is
 -- no UTF-8 comes last.
-pub data IsFault (at : ℕ) : LexCode → ℕ → List ℕ → Type 0 where
-  no_token : {bytes : List ℕ} → BeginsNothing bytes → IsFault at BadChar at bytes
-  no_number : {run bytes : List ℕ} → IsRun run bytes → ((n : ℕ) → IsNumeral n run → ⊥) → ((ms : ℕ) → IsTime ms run → ⊥) → IsFault at BadChar at bytes
-  large_number : {n : ℕ} {run bytes : List ℕ} → IsRun run bytes → IsNumeral n run → 2 ^ 63 ≤ n → IsFault at NumberLarge at bytes
-  large_time : {ms : ℕ} {run bytes : List ℕ} → IsRun run bytes → IsTime ms run → 2 ^ 53 < ms → IsFault at NumberLarge at bytes
-  open_comment : {body bytes : List ℕ} → bytes ≡ codes "/*" ++ body → IsWithout (codes "*/") body → IsFault at OpenComment at bytes
+pub data IsLexFault (at : ℕ) : LexCode → ℕ → List ℕ → Type 0 where
+  no_token : {bytes : List ℕ} → BeginsNothing bytes → IsLexFault at BadChar at bytes
+  no_number : {run bytes : List ℕ} → IsDigitRun run bytes → ((n : ℕ) → IsNumeral n run → ⊥) → ((ms : ℕ) → IsTime ms run → ⊥) → IsLexFault at BadChar at bytes
+  large_number : {n : ℕ} {run bytes : List ℕ} → IsDigitRun run bytes → IsNumeral n run → 2 ^ 63 ≤ n → IsLexFault at NumberLarge at bytes
+  large_time : {ms : ℕ} {run bytes : List ℕ} → IsDigitRun run bytes → IsTime ms run → 2 ^ 53 < ms → IsLexFault at NumberLarge at bytes
+  open_comment : {body bytes : List ℕ} → bytes ≡ codes "/*" ++ body → IsWithout (codes "*/") body → IsLexFault at OpenComment at bytes
   bad_escape : {quote : ℕ} {content written rest bytes : List ℕ} → IsOpened quote content written (92 ∷ rest) bytes
-      → begins (λ letter. is_some (escaped_byte letter)) rest ≡ false → IsFault at BadChar (at + (1 + length written)) bytes
+      → begins (λ letter. is_some (escaped_byte letter)) rest ≡ false → IsLexFault at BadChar (at + (1 + length written)) bytes
   open_text : {quote : ℕ} {content written rest bytes : List ℕ} → IsOpened quote content written rest bytes
-      → begins is_line_byte rest ≡ false → IsFault at OpenText at bytes
+      → begins is_line_byte rest ≡ false → IsLexFault at OpenText at bytes
   no_utf8 : {quote : ℕ} {content written rest bytes : List ℕ} → IsOpened quote content written (quote ∷ rest) bytes
-      → is_utf8 content ≡ false → IsFault at BadChar at bytes
+      → is_utf8 content ≡ false → IsLexFault at BadChar at bytes
 
 -- Tokens stand up to some byte, and there is this fault.
 pub record IsRefused (code : LexCode) (place : ℕ) (bytes : List ℕ) : Type 0 where
   pub tokens : List Token
   pub at : ℕ
   pub rest : List ℕ
-  pub before : Reads 0 tokens bytes at rest
-  pub fault : IsFault at code place rest
+  pub before : ReadsTokens 0 tokens bytes at rest
+  pub fault : IsLexFault at code place rest
 
 -- the fault that stands first; memory may be refused at any file
 abbrev pub IsFirstFault : LexFault → List ℕ → Type 0

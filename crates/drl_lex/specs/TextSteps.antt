@@ -3,10 +3,10 @@ use Rattle.std.specs.Prelude.{◌≡◌, ℕ, ◌<◌, ◌+◌, List, [], length
 use Rattle.drl_lex.specs.declared.fault.LexCode.TheVariants.{BadChar, OpenText}
 use Rattle.drl_lex.specs.declared.texts.TextStep.{TextStep}
 use Rattle.drl_lex.specs.declared.texts.TextStep.TheVariants.{Closed, Byte, BadEscape, Open}
-use Rattle.drl_lex.specs.Reading.{Read, content_at, with_byte}
+use Rattle.drl_lex.specs.Reading.{ReadToken, content_at, with_byte}
 
 -- what is read from offset `place` on, where the bytes there begin with this
-abbrev pub step_read : ℕ → ℕ → ℕ → TextStep → Read (List ℕ)
+abbrev pub step_read : ℕ → ℕ → ℕ → TextStep → ReadToken (List ℕ)
 step_read at quote place (Closed rest) = Ok ([], rest.now)
 step_read at quote place (Byte meant taken rest) = with_byte meant (content_at at quote (place + taken) rest.now)
 step_read at quote place BadEscape = Err (BadChar, place)

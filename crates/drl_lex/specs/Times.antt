@@ -11,9 +11,9 @@ pub record IsNumeral (n : ℕ) (text : List ℕ) : Type 0 where
   pub value : digits_value 10 text ≡ n
 
 -- so many of a unit: digits and the unit, or nothing for none
-pub data IsPart (unit : List ℕ) : ℕ → List ℕ → Type 0 where
-  no_part : IsPart unit 0 []
-  some_part : {count : ℕ} {digits text : List ℕ} → IsNumeral count digits → text ≡ digits ++ unit → IsPart unit count text
+pub data IsTimePart (unit : List ℕ) : ℕ → List ℕ → Type 0 where
+  no_part : IsTimePart unit 0 []
+  some_part : {count : ℕ} {digits text : List ℕ} → IsNumeral count digits → text ≡ digits ++ unit → IsTimePart unit count text
 
 -- the milliseconds behind the other parts: their unit may be left out where another part is written
 pub data IsLastPart (others : List ℕ) : ℕ → List ℕ → Type 0 where
@@ -34,9 +34,9 @@ pub record IsTime (ms : ℕ) (text : List ℕ) : Type 0 where
   pub second_part : List ℕ
   pub last_part : List ℕ
   pub parts : text ≡ day_part ++ (hour_part ++ (minute_part ++ (second_part ++ last_part)))
-  pub in_days : IsPart (codes "d") days day_part
-  pub in_hours : IsPart (codes "h") hours hour_part
-  pub in_minutes : IsPart (codes "m") minutes minute_part
-  pub in_seconds : IsPart (codes "s") seconds second_part
+  pub in_days : IsTimePart (codes "d") days day_part
+  pub in_hours : IsTimePart (codes "h") hours hour_part
+  pub in_minutes : IsTimePart (codes "m") minutes minute_part
+  pub in_seconds : IsTimePart (codes "s") seconds second_part
   pub in_millis : IsLastPart (day_part ++ (hour_part ++ (minute_part ++ second_part))) rest last_part
   pub total : ms ≡ days * 86400000 + hours * 3600000 + minutes * 60000 + seconds * 1000 + rest

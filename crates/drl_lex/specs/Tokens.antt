@@ -51,13 +51,13 @@ pub data IsPiece : Option TokenKind → List ℕ → List ℕ → Type 0 where
 
 -- From some bytes, the first at offset `at`, up to others, the first at offset `end`, stand these tokens with their
 -- offsets and lengths, parted by blanks and comments.
-pub data Reads : ℕ → List Token → List ℕ → ℕ → List ℕ → Type 0 where
-  done : {at : ℕ} {rest : List ℕ} → Reads at [] rest at rest
+pub data ReadsTokens : ℕ → List Token → List ℕ → ℕ → List ℕ → Type 0 where
+  done : {at : ℕ} {rest : List ℕ} → ReadsTokens at [] rest at rest
   skip : {at end : ℕ} {tokens : List Token} {text bytes all rest : List ℕ} → all ≡ text ++ bytes → IsPiece None text bytes
-      → Reads (at + length text) tokens bytes end rest → Reads at tokens all end rest
+      → ReadsTokens (at + length text) tokens bytes end rest → ReadsTokens at tokens all end rest
   next : {at end : ℕ} {kind : TokenKind} {tokens : List Token} {text bytes all rest : List ℕ} → all ≡ text ++ bytes → IsPiece (Some kind) text bytes
-      → Reads (at + length text) tokens bytes end rest → Reads at (record { kind = kind; at = at; len = length text } ∷ tokens) all end rest
+      → ReadsTokens (at + length text) tokens bytes end rest → ReadsTokens at (record { kind = kind; at = at; len = length text } ∷ tokens) all end rest
 
 -- the bytes are these tokens
 abbrev pub AreTokens : List Token → List ℕ → Type 0
-AreTokens tokens bytes = Reads 0 tokens bytes (length bytes) []
+AreTokens tokens bytes = ReadsTokens 0 tokens bytes (length bytes) []

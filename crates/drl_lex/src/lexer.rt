@@ -1,5 +1,5 @@
 ghost use Rattle.std.specs.Prelude.{◌≡◌, ℕ, ◌+◌, ◌<◌, ◌^◌, ◌++◌, length, IfOk, IfErr, OnOk};
-ghost use Rattle.drl_lex.specs.Answers.{Gives, kept};
+ghost use Rattle.drl_lex.specs.Answers.{GivesTokens, kept};
 ghost use Rattle.drl_lex.specs.Faults.{IsFirstFault};
 ghost use Rattle.drl_lex.specs.Reading.{slash_at, piece_at, lexed};
 ghost use Rattle.drl_lex.specs.Tokens.{AreTokens};
@@ -15,7 +15,7 @@ use std::alloc::Global;
 /// What stands behind the comment that the slash at offset `at`, right before the bytes, begins.
 #[tactic(auto, unfolding(crate::specs::Reading::slash_at))]
 fn slash_at(at: usize, bytes: &[u8]) -> Result<&[u8], LexFault>
-    ensures { Gives (λ rest. rest.now) result (slash_at at bytes.now) }
+    ensures { GivesTokens (λ rest. rest.now) result (slash_at at bytes.now) }
 {
     match bytes {
         [b'/', line @ ..] => Ok(split_front(Class::LineBytes, line).1),
@@ -35,7 +35,7 @@ type Piece<'a> = (Option<TokenKind>, &'a [u8]);
 fn piece_at(alloc: Global, at: usize, bytes: &[u8]) -> Result<Piece<'_>, LexFault>
     requires some { 0 < length bytes.now }
     requires fits { at + length bytes.now < 2 ^ 64 }
-    ensures { Gives (λ piece. (piece.0, piece.1.now)) result (piece_at at bytes.now) }
+    ensures { GivesTokens (λ piece. (piece.0, piece.1.now)) result (piece_at at bytes.now) }
 {
     let first = bytes[0];
     let behind = &bytes[1..];
@@ -78,7 +78,7 @@ pub fn lex(alloc: Global, bytes: &[u8]) -> Result<Seq<Token>, LexFault>
     ensures refused { IfErr result (λ fault. IsFirstFault fault bytes.now) }
 
     // The same, as a function of the bytes.
-    ensures read { Gives (λ tokens. tokens) result (lexed bytes.now) }
+    ensures read { GivesTokens (λ tokens. tokens) result (lexed bytes.now) }
 {
     let mut tokens = Vec::new(alloc);
     let mut rest = bytes;

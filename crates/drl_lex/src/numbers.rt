@@ -2,9 +2,9 @@ ghost use Rattle.std.specs.Prelude.{◌≡◌, true, option_map};
 ghost use Rattle.std.specs.List.{list_all};
 ghost use Rattle.std.specs.Char.{is_ascii_digit};
 ghost use Rattle.std.specs.Str.Parse.{digits_value};
-ghost use Rattle.drl_lex.specs.Answers.{Gives};
+ghost use Rattle.drl_lex.specs.Answers.{GivesTokens};
 ghost use Rattle.drl_lex.specs.Reading.{run_kind, run_at};
-ghost use Rattle.drl_lex.specs.TimeReading.{capped, part_at, last_at, time_of};
+ghost use Rattle.drl_lex.specs.TimeReading.{capped, unit_part_at, last_at, time_of};
 
 use crate::bytes::{Class, split_front};
 use crate::{LexCode, LexFault, Natural, TokenKind};
@@ -30,10 +30,10 @@ fn number_of(digits: &[u8]) -> u64
 }
 
 /// How many of the unit stand at the front, and the bytes behind them.
-#[tactic(auto, unfolding(crate::specs::TimeReading::part_at, crate::specs::TimeReading::capped))]
+#[tactic(auto, unfolding(crate::specs::TimeReading::unit_part_at, crate::specs::TimeReading::capped))]
 fn part_at<'a>(unit: &[u8], bytes: &'a [u8]) -> (u64, &'a [u8])
-    ensures number { result.0 ≡ capped (part_at unit.now bytes.now).0 }
-    ensures rest { result.1.now ≡ (part_at unit.now bytes.now).1 }
+    ensures number { result.0 ≡ capped (unit_part_at unit.now bytes.now).0 }
+    ensures rest { result.1.now ≡ (unit_part_at unit.now bytes.now).1 }
 {
     let (digits, behind) = split_front(Class::Digits, bytes);
     let (letters, rest) = split_front(Class::UnitBytes, behind);
@@ -81,7 +81,7 @@ fn time_of(run: &[u8]) -> Option<u64>
 /// The number or the time that a run which begins with a digit at offset `at` is.
 #[tactic(auto, unfolding(crate::specs::Reading::run_kind, crate::specs::TimeReading::capped))]
 fn run_kind(at: usize, run: &[u8]) -> Result<TokenKind, LexFault>
-    ensures { Gives (λ kind. kind) result (run_kind at run.now) }
+    ensures { GivesTokens (λ kind. kind) result (run_kind at run.now) }
 {
     let (digits, letters) = split_front(Class::Digits, run);
     if letters.is_empty() {
@@ -102,7 +102,7 @@ fn run_kind(at: usize, run: &[u8]) -> Result<TokenKind, LexFault>
 /// The number or the time that begins with these bytes, and the bytes behind it.
 #[tactic(auto, unfolding(crate::specs::Reading::run_at))]
 pub(crate) fn run_at(at: usize, bytes: &[u8]) -> Result<(TokenKind, &[u8]), LexFault>
-    ensures { Gives (λ read. (read.0, read.1.now)) result (run_at at bytes.now) }
+    ensures { GivesTokens (λ read. (read.0, read.1.now)) result (run_at at bytes.now) }
 {
     let (run, rest) = split_front(Class::RunBytes, bytes);
     Ok((run_kind(at, run)?, rest))

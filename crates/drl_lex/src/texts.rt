@@ -1,6 +1,6 @@
 ghost use Rattle.std.specs.Prelude.{◌≡◌, ℕ, ◌+◌, ◌<◌, ◌^◌, length, true, option_map, IfOk};
 ghost use Rattle.std.specs.List.{list_all};
-ghost use Rattle.drl_lex.specs.Answers.{Gives};
+ghost use Rattle.drl_lex.specs.Answers.{GivesTokens};
 ghost use Rattle.drl_lex.specs.Bytes.{is_word_byte};
 ghost use Rattle.drl_lex.specs.Reading.{content_at, text_at, word_at, var_at};
 ghost use Rattle.drl_lex.specs.TextSteps.{step_read, TakesBytes};
@@ -82,7 +82,7 @@ fn content_at(
     bytes: &[u8],
 ) -> Result<(Vec<u8>, &[u8]), LexFault>
     requires { at + 1 + length bytes.now < 2 ^ 64 }
-    ensures { Gives (λ read. (read.0.items, read.1.now)) result (content_at at quote (at + 1) bytes.now) }
+    ensures { GivesTokens (λ read. (read.0.items, read.1.now)) result (content_at at quote (at + 1) bytes.now) }
 {
     let mut content = Vec::new(alloc);
     let mut place = at + 1;
@@ -123,7 +123,7 @@ pub(crate) fn text_at(
     bytes: &[u8],
 ) -> Result<(TokenKind, &[u8]), LexFault>
     requires { at + 1 + length bytes.now < 2 ^ 64 }
-    ensures { Gives (λ read. (read.0, read.1.now)) result (text_at at quote bytes.now) }
+    ensures { GivesTokens (λ read. (read.0, read.1.now)) result (text_at at quote bytes.now) }
 {
     let (content, rest) = content_at(alloc, at, quote, bytes)?;
     match as_text(&content) {
@@ -143,7 +143,7 @@ fn name_of(alloc: Global, bytes: &[u8]) -> Result<Text, NoMemory>
 /// The word that begins with these bytes, and the bytes behind it.
 #[tactic(auto, unfolding(crate::specs::Reading::word_at))]
 pub(crate) fn word_at(alloc: Global, bytes: &[u8]) -> Result<(TokenKind, &[u8]), LexFault>
-    ensures { Gives (λ read. (read.0, read.1.now)) result (word_at bytes.now) }
+    ensures { GivesTokens (λ read. (read.0, read.1.now)) result (word_at bytes.now) }
 {
     let (name, rest) = split_front(Class::WordBytes, bytes);
     Ok((TokenKind::Word(name_of(alloc, name)?), rest))
@@ -152,7 +152,7 @@ pub(crate) fn word_at(alloc: Global, bytes: &[u8]) -> Result<(TokenKind, &[u8]),
 /// The variable whose `$` stands at offset `at`, right before these bytes, and the bytes behind it.
 #[tactic(auto, unfolding(crate::specs::Reading::var_at))]
 pub(crate) fn var_at(alloc: Global, at: usize, bytes: &[u8]) -> Result<(TokenKind, &[u8]), LexFault>
-    ensures { Gives (λ read. (read.0, read.1.now)) result (var_at at bytes.now) }
+    ensures { GivesTokens (λ read. (read.0, read.1.now)) result (var_at at bytes.now) }
 {
     let (name, rest) = split_front(Class::WordBytes, bytes);
     if name.is_empty() {

@@ -1,5 +1,6 @@
 -- What is left of a room when a list of things takes of it, one after the other.
-use Rattle.drl_limits.proofs.Common.{◌≡◌, ◌+◌, ◌-◌, ◌∷◌, ℕ, Bool, true, false, List, Some, None, is_some, nat_le, cond, refl, sym, ap, ◌∙◌, arith, sum_by, left_of}
+use Rattle.drl_limits.proofs.Common.{◌≡◌, ◌+◌, ◌-◌, ◌∷◌, ℕ, Bool, true, false, List, Some, None, is_some, nat_le, cond, refl, sym, ap, ◌∙◌, arith, sum_by}
+use Rattle.drl_limits.proofs.Common.{left_of}
 use Rattle.std.proofs.lemmas.Bool.Decides.{nat_tests}
 use Rattle.std.proofs.lemmas.List.Sums.{sum_by-cons}
 

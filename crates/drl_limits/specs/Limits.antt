@@ -28,16 +28,16 @@ use Rattle.drl_grammar.specs.declared.file.Meta.{Meta}
 use Rattle.drl_grammar.specs.declared.file.Meta.TheVariants as meta
 use Rattle.drl_grammar.specs.declared.file.TypeTree.{TypeTree}
 use Rattle.drl_grammar.specs.declared.file.RuleTree.{RuleTree}
-use Rattle.drl_sight.specs.Names.{is_short}
+use Rattle.drl_sight.specs.Names.{is_name_short}
 use Rattle.drl_sight.specs.Declarations.{types_of, rules_of, field_names}
 use Rattle.drl_sight.specs.EntryPoints.{entries_named, with_names, entry_names}
 
 -- names of types, fields and variables have at most 64 bytes, texts at most 4,096
 abbrev pub is_name : List ℕ → Bool
-is_name name = is_short 64 name
+is_name name = is_name_short 64 name
 
 abbrev pub is_text : List ℕ → Bool
-is_text text = is_short TEXT_MAX text
+is_text text = is_name_short TEXT_MAX text
 
 abbrev pub literal_within : LitTree → Bool
 literal_within (literal.Text text) = is_text text
@@ -54,8 +54,8 @@ operand_within (operand.Own f) = is_name f
 unfoldable pub span_limit : ℕ
 span_limit = unsigned_abs MOST_MILLIS
 
-abbrev pub is_span : ℤ → Bool
-is_span n = nat_le (unsigned_abs n) span_limit
+abbrev pub is_span_within_limit : ℤ → Bool
+is_span_within_limit n = nat_le (unsigned_abs n) span_limit
 
 -- names of entry points have 1 to 64 bytes
 abbrev pub is_entry_name : List ℕ → Bool
@@ -68,7 +68,7 @@ cmp_within (cmp.OneOf f os) = is_name f && nat_le (length os) 32 && list_all ope
 
 abbrev pub part_within : Part → Bool
 part_within (part.Bind v f) = is_name v && is_name f
-part_within (part.Temporal op params other) = list_all is_span params && is_name other
+part_within (part.Temporal op params other) = list_all is_span_within_limit params && is_name other
 part_within (part.AnyOf groups) = list_all (λ (group : List Cmp). list_all cmp_within group) groups
 
 -- how many bindings, temporal tests and comparisons a part is
@@ -88,7 +88,7 @@ entry_within (Some name) = is_entry_name name
 -- a window of length has at most 1,000,000 events
 abbrev pub window_within : Option WindowTree → Bool
 window_within None = true
-window_within (Some (window.Time span)) = is_span span
+window_within (Some (window.Time span)) = is_span_within_limit span
 window_within (Some (window.Length count)) = nat_le (unsigned_abs count) 1000000
 
 -- a pattern has at most 32 bindings, temporal tests and comparisons together
@@ -136,14 +136,14 @@ actions_within actions = nat_le (length actions) 16 && list_all action_within ac
 
 -- a rule's name has 1 to 256 bytes; a rule has 1 to 8 conditions
 abbrev pub rule_within : RuleTree → Bool
-rule_within r = nat_lt 0 (length r.name) && is_short 256 r.name && list_all attr_within r.attrs && nat_lt 0 (length r.conditions) && nat_le (length r.conditions) 8 && list_all condition_within r.conditions && actions_within r.actions
+rule_within r = nat_lt 0 (length r.name) && is_name_short 256 r.name && list_all attr_within r.attrs && nat_lt 0 (length r.conditions) && nat_le (length r.conditions) 8 && list_all condition_within r.conditions && actions_within r.actions
 
 -- the field that an annotation names
 abbrev pub meta_within : Meta → Bool
 meta_within (meta.Timestamp field) = is_name field
 meta_within (meta.Duration field) = is_name field
 meta_within (meta.Role event) = true
-meta_within (meta.Expires offset) = is_span offset
+meta_within (meta.Expires offset) = is_span_within_limit offset
 meta_within meta.Reference = true
 
 -- a type has at most 32 fields
@@ -152,7 +152,7 @@ type_within t = is_name t.name && nat_le (length t.fields) 32 && list_all is_nam
 
 abbrev pub lateness_within : Option ℤ → Bool
 lateness_within None = true
-lateness_within (Some lateness) = is_span lateness
+lateness_within (Some lateness) = is_span_within_limit lateness
 
 -- there are at most 64 entry points with those that an item names, where these are known before it
 abbrev pub has_few_entries : List (List ℕ) → Body → Bool

@@ -3,7 +3,7 @@ ghost use Rattle.std.specs.List.{list_all};
 ghost use Rattle.drl_grammar.specs.declared.condition.Cmp.{Cmp};
 ghost use Rattle.drl_sight.specs.Declarations.{field_names};
 ghost use Rattle.drl_sight.specs.EntryPoints.{entries_named, with_names};
-ghost use Rattle.drl_limits.specs.Limits.{is_name, is_text, is_span, is_entry_name, literal_within, operand_within, cmp_within, part_within, variable_within, entry_within, window_within, source_within, test_within, tests_within, condition_within, attr_within, rule_within, meta_within, type_within, lateness_within, exceeds_limit_behind};
+ghost use Rattle.drl_limits.specs.Limits.{is_name, is_text, is_span_within_limit, is_entry_name, literal_within, operand_within, cmp_within, part_within, variable_within, entry_within, window_within, source_within, test_within, tests_within, condition_within, attr_within, rule_within, meta_within, type_within, lateness_within, exceeds_limit_behind};
 
 use crate::action_limits::are_actions_within;
 use crate::room::are_at_most;
@@ -55,13 +55,13 @@ fn is_entry_name_within(name: &Text) -> bool
 
 #[tactic(auto, unfolding(crate::specs::Limits::span_limit))]
 fn is_span_within(millis: i64) -> bool
-    ensures { result ≡ is_span millis }
+    ensures { result ≡ is_span_within_limit millis }
 {
     millis.unsigned_abs() <= MOST_MILLIS.unsigned_abs()
 }
 
 fn are_spans_within(spans: &[i64]) -> bool
-    ensures { result ≡ list_all is_span spans.now }
+    ensures { result ≡ list_all is_span_within_limit spans.now }
 {
     spans.iter().all(|span| is_span_within(*span))
 }

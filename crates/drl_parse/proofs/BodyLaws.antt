@@ -1,5 +1,8 @@
 -- Items are read exactly.
-use Rattle.drl_parse.proofs.Common.{◌≡◌, ℕ, ℤ, ◌<◌, ◌≤◌, Bool, true, false, cond, List, [], ◌∷◌, length, Option, Some, None, refl, arith, IfSome, codes, bytes_eq, TokenKind, Word, Text, Mark, Minus, Found, WrittenBody, WrittenType, IsPath, IsType, IsEntry, IsRule, IsItem, binds, Exact, ◌>>=◌, then, same_bytes, optional_sound, optional_again, optional_shorter, Semicolon, Read, Optional, absent, present, whole_found, item_text, path_at, star_at, type_at, entry_at, rule_at}
+use Rattle.drl_parse.proofs.Common.{◌≡◌, ℕ, ℤ, ◌<◌, ◌≤◌, Bool, true, false, cond, List, [], ◌∷◌, length, Option, Some, None, refl, arith, IfSome, codes}
+use Rattle.drl_parse.proofs.Common.{bytes_eq, TokenKind, Word, Text, Mark, Minus, Found, WrittenBody, WrittenType, IsPath, IsType, IsEntry, IsRule, IsItem}
+use Rattle.drl_parse.proofs.Common.{phrase_binds, ExactPhrase, ◌>>=◌, then, same_bytes, optional_sound, optional_again, optional_shorter, Semicolon, Read}
+use Rattle.drl_parse.proofs.Common.{Optional, absent, present, whole_found, item_text, path_at, path_star_at, type_at, entry_at, rule_at}
 use Rattle.drl_grammar.specs.declared.written.WrittenBody.TheVariants as body
 use Rattle.drl_grammar.specs.Items as g
 use Rattle.drl_grammar.specs.Shapes as m
@@ -67,18 +70,18 @@ declared ts (Some x) h = h
 behind_sound : (k : ItemWord) (ts : List TokenKind) → Found IsItem (Word (item_text k) ∷ ts) (behind_item k ts)
 unfolding behind_item
 behind_sound PackageWord ts = then IsPath ts (path_at ts) _ IsItem _ (path_exact.sound ts) (λ path hpath. g.package_item hpath (optional_sound p.Semicolon path.1))
-behind_sound ImportWord ts = then IsPath ts (path_at ts) _ IsItem _ (path_exact.sound ts) (λ path hpath. g.import_item hpath (star_sound path.1) (optional_sound p.Semicolon (star_at path.1).1))
+behind_sound ImportWord ts = then IsPath ts (path_at ts) _ IsItem _ (path_exact.sound ts) (λ path hpath. g.import_item hpath (star_sound path.1) (optional_sound p.Semicolon (path_star_at path.1).1))
 behind_sound DialectWord (Text s ∷ ts) = g.dialect_item (optional_sound p.Semicolon ts)
 behind_sound DeclareWord ts = declared ts (declare_at ts) (declare_sound ts)
 behind_sound RuleWord ts = then IsRule ts (rule_at ts) _ IsItem _ (rule_exact.sound ts) (λ r hr. g.rule_item hr)
 behind_sound word ts = tt
 
 -- before an optional semicolon stands no dot
-no_dot : (ts rest : List TokenKind) → Optional (Mark Semicolon) ts rest → 9 ≤ binds rest → 1 ≤ binds ts
+no_dot : (ts rest : List TokenKind) → Optional (Mark Semicolon) ts rest → 9 ≤ phrase_binds rest → 1 ≤ phrase_binds ts
 no_dot ts rest absent stop = omega arith
 no_dot ts rest present stop = omega arith
 
-pub item_exact : Exact IsItem item_at 9
+pub item_exact : ExactPhrase IsItem item_at 9
 unfolding item_at item_word behind_item
 item_exact = record { sound = sound; again = again; shorter = shorter }
   where
@@ -90,7 +93,7 @@ item_exact = record { sound = sound; again = again; shorter = shorter }
     sound (Word w ∷ rest) = word_then w rest (item_word w) (word_sound w)
     sound ts = tt
 
-    again : (x : WrittenBody) (ts rest : List TokenKind) → IsItem x ts rest → 9 ≤ binds rest → item_at ts ≡ Some (x, rest)
+    again : (x : WrittenBody) (ts rest : List TokenKind) → IsItem x ts rest → 9 ≤ phrase_binds rest → item_at ts ≡ Some (x, rest)
     again x ts rest (g.package_item {path} {ts = behind} {middle} hpath hend) stop =
         rw (path_again path behind middle hpath (no_step middle (no_dot middle rest hend stop)), optional_again p.Semicolon middle rest hend (omega arith)) refl
     again x ts rest (g.import_item {path} {all} {ts = behind} {behind_path} {middle} hpath hstar hend) stop =

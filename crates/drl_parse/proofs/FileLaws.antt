@@ -1,7 +1,10 @@
 -- What the bytes are is what is read of them.
-use Rattle.drl_parse.proofs.Common.{◌≡◌, ◌↔◌, ℕ, zero, suc, ◌+◌, ◌-◌, ◌<◌, ◌≤◌, nat_lt, Bool, true, false, cond, List, [], ◌∷◌, length, Option, Some, None, Result, Ok, Err, refl, sym, ap, arith, ltb-false, Token, TokenKind, kinds, AreTokens, tokens_again, WrittenBody, lines_at, IsFile, ItemsRead, items_at, Parsed, is_file, outside, too_long, lexical, items_parsed, ltb-true, lt-ltb, le-ltb, piece_at, behind_piece, lexed_step, tokens_sound, refused_sound, refused_again, IsOutside, file_limit, IsLexical, tokens_parsed}
+use Rattle.drl_parse.proofs.Common.{◌≡◌, ◌↔◌, ℕ, zero, suc, ◌+◌, ◌-◌, ◌<◌, ◌≤◌, nat_lt, Bool, true, false, cond, List, [], ◌∷◌, length, Option, Some, None}
+use Rattle.drl_parse.proofs.Common.{Result, Ok, Err, refl, sym, ap, arith, ltb-false, Token, TokenKind, kinds, AreTokens, tokens_again, WrittenBody, lines_at}
+use Rattle.drl_parse.proofs.Common.{IsFile, ItemsRead, items_at, Parsed, is_file, outside, too_long, lexical, items_parsed, ltb-true, lt-ltb, le-ltb, piece_at}
+use Rattle.drl_parse.proofs.Common.{behind_piece, lexed_step, tokens_sound, refused_sound, refused_again, IsOutside, file_limit, IsLexical, tokens_parsed}
 use Rattle.drl_lex.specs.declared.fault.LexCode.{LexCode}
-use Rattle.drl_lex.specs.Reading.{Read, lexed_from, lexed}
+use Rattle.drl_lex.specs.Reading.{ReadToken, lexed_from, lexed}
 use Rattle.drl_parse.specs.Parsed.{parsed_by}
 use Rattle.drl_parse.proofs.ItemLaws as items
 use Rattle.drl_parse.proofs.ItemLaws.{Exactly, Stands, items_sound}
@@ -17,7 +20,7 @@ behind_few n at len (Some kind) (Ok others) tokens few e =
     rw (← same) (omega arith)
 behind_few n at len (Some kind) (Err fault) tokens few e = absurd cc
 
-step_few : (n at len : ℕ) (read : Read (Option TokenKind)) (tokens : List Token) → ((at : ℕ) (rest : List ℕ) (others : List Token) → lexed_from n at rest ≡ Ok others → length others ≤ n)
+step_few : (n at len : ℕ) (read : ReadToken (Option TokenKind)) (tokens : List Token) → ((at : ℕ) (rest : List ℕ) (others : List Token) → lexed_from n at rest ≡ Ok others → length others ≤ n)
     → lexed_step at len read (lexed_from n) ≡ Ok tokens → length tokens ≤ suc n
 step_few n at len (Ok read) tokens few e =
     behind_few n at (len - length read.1) read.0 (lexed_from n (at + (len - length read.1)) read.1) tokens (few (at + (len - length read.1)) read.1) e

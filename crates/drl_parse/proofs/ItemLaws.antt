@@ -1,5 +1,7 @@
 -- What is read of the items of a file stands there, and what stands there is read.
-use Rattle.drl_parse.proofs.Common.{◌≡◌, ℕ, zero, suc, ◌≤◌, List, [], ◌∷◌, length, take, drop, length-drop, Option, Some, None, Ok, Err, refl, ap, arith, IfSome, TokenKind, WrittenItem, WrittenBody, IsItem, ItemsRead, extent, AreItems, no_items, next_item, IsRefused, here, later, item_step}
+use Rattle.drl_parse.proofs.Common.{◌≡◌, ℕ, zero, suc, ◌≤◌, List, [], ◌∷◌, length, take, drop, length-drop, Option, Some, None, Ok, Err, refl, ap, arith}
+use Rattle.drl_parse.proofs.Common.{IfSome, TokenKind, WrittenItem, WrittenBody, IsItem, ItemsRead, extent, AreItems, no_items, next_item, IsItemRefused, here}
+use Rattle.drl_parse.proofs.Common.{later, item_step}
 use Rattle.drl_parse.specs.Items.{items_at}
 
 -- what is read of all the tokens of an item is the tree that stands for them
@@ -9,7 +11,7 @@ pub record Exactly (body_of : List TokenKind → Option WrittenBody) : Type 0 wh
 
 abbrev pub Stands : ItemsRead → List TokenKind → List ℕ → Type 0
 Stands (Ok items) ts lines = AreItems items ts lines
-Stands (Err refused) ts lines = IsRefused refused.0 refused.1 ts lines
+Stands (Err refused) ts lines = IsItemRefused refused.0 refused.1 ts lines
 
 item_sound : (body_of : List TokenKind → Option WrittenBody) (t : TokenKind) (ts : List TokenKind) (line : ℕ) (lines : List ℕ) (o : Option WrittenBody) (read : ItemsRead) → Exactly body_of
     → body_of (t ∷ take (extent t ts) ts) ≡ o → Stands read (drop (extent t ts) ts) (drop (extent t ts) lines) → Stands (item_step line o read) (t ∷ ts) (line ∷ lines)
@@ -42,7 +44,7 @@ items_again body_of (suc n) items ts lines exact (next_item {body} {items = othe
       items_again body_of n others (drop (extent t behind) behind) (drop (extent t behind) later_lines) exact more (omega (arith, length-drop (extent t behind) behind)),
     ) refl
 
-pub refused_again : (body_of : List TokenKind → Option WrittenBody) (n number line : ℕ) (ts : List TokenKind) (lines : List ℕ) → Exactly body_of → IsRefused number line ts lines → length ts ≤ n
+pub refused_again : (body_of : List TokenKind → Option WrittenBody) (n number line : ℕ) (ts : List TokenKind) (lines : List ℕ) → Exactly body_of → IsItemRefused number line ts lines → length ts ≤ n
     → items_at body_of n ts lines ≡ Err (number, line)
 unfolding items_at
 refused_again body_of zero number line ts lines exact (here h) le = absurd (omega arith)

@@ -1,5 +1,8 @@
 -- Reading items one after the other, as a loop does.
-use Rattle.drl_parse.proofs.Common.{◌≡◌, ℕ, ◌+◌, ◌<◌, ◌≤◌, Bool, true, false, not, cond, min, List, [], ◌∷◌, ◌++◌, length, get_or, take, drop, length-drop, Option, Some, None, Ok, Err, refl, sym, ap, ◌∙◌, append_assoc, add-one, arith, length-append, TokenKind, WrittenItem, WrittenBody, ItemsRead, length-take, append-nil, prefix_len-le-length, opens_block, begins_item, ends_block, count_before, with_item}
+use Rattle.drl_parse.proofs.Common.{◌≡◌, ℕ, ◌+◌, ◌≤◌, Bool, true, false, not, cond, min, List, [], ◌∷◌, ◌++◌, length, get_or, take, drop, length-drop, Option}
+use Rattle.drl_parse.proofs.Common.{Some, None, Ok, Err, refl, sym, ap, ◌∙◌, append_assoc, add-one, arith, length-append, TokenKind, WrittenItem, WrittenBody}
+use Rattle.drl_parse.proofs.Common.{ItemsRead, length-take, append-nil, prefix_len-le-length, opens_block, begins_item, ends_block, count_before, with_item}
+use Rattle.std.proofs.lemmas.Option.{same_Some}
 use Rattle.std.proofs.lemmas.List.Folds.{length-prefix_len}
 use Rattle.drl_grammar.specs.Files.{extent}
 use Rattle.drl_parse.specs.Items.{first_item, items_at}
@@ -56,13 +59,10 @@ lines_behind t ts line later =
     let len : length (take (extent t ts) ts) ≡ extent t ts = omega (arith, length-take (extent t ts) ts) in
     ap (λ (n : ℕ). drop n later) len
 
-some_is : {A : Type 0} (x y : A) → Some x ≡ Some y → x ≡ y
-some_is x y e = cc
-
 parts_are : (own next : List TokenKind) (t : TokenKind) (ts : List TokenKind) → Some (own, next) ≡ first_item (t ∷ ts) → (own ≡ t ∷ take (extent t ts) ts) × (next ≡ drop (extent t ts) ts)
 unfolding first_item
 parts_are own next t ts cut =
-    let e = some_is (own, next) (t ∷ take (extent t ts) ts, drop (extent t ts) ts) cut in
+    let e = same_Some (own, next) (t ∷ take (extent t ts) ts, drop (extent t ts) ts) cut in
     (ap (λ (p : List TokenKind × List TokenKind). p.0) e, ap (λ (p : List TokenKind × List TokenKind). p.1) e)
 
 -- one more item

@@ -1,5 +1,7 @@
 -- Lines counted by one walk over the bytes.
-use Rattle.drl_parse.proofs.Common.{◌≡◌, ℕ, ◌+◌, ◌-◌, ◌<◌, ◌≤◌, ◌==◌, List, [], ◌∷◌, ◌++◌, length, get_or, map, min, ◌^◌, take, drop, refl, arith, length-append, Token, AreTokens, take_more, drop_more, map_push, length-filter, count_by-le-length, starts, Reads, line_at}
+use Rattle.drl_parse.proofs.Common.{◌≡◌, ℕ, ◌+◌, ◌-◌, ◌<◌, ◌≤◌, ◌==◌, List, [], ◌∷◌, ◌++◌, length, get_or, map, min, ◌^◌, take, drop, refl, arith}
+use Rattle.drl_parse.proofs.Common.{length-append, Token, AreTokens, take_more, drop_more, map_push, length-filter, count_by-le-length, starts, ReadsTokens}
+use Rattle.drl_parse.proofs.Common.{line_at}
 use Rattle.std.proofs.lemmas.List.{length-take}
 use Rattle.std.proofs.lemmas.List.Elements.{filter-append}
 use Rattle.std.proofs.Math.Seq.{take-add}
@@ -8,7 +10,7 @@ use Rattle.drl_parse.specs.Lines.{newlines, Rises}
 
 -- ---- the offsets of tokens rise
 
-pub rise : (low at : ℕ) (tokens : List Token) (all : List ℕ) (end : ℕ) (rest : List ℕ) → low ≤ at → Reads at tokens all end rest → Rises low (starts tokens) end
+pub rise : (low at : ℕ) (tokens : List Token) (all : List ℕ) (end : ℕ) (rest : List ℕ) → low ≤ at → ReadsTokens at tokens all end rest → Rises low (starts tokens) end
 rise low at [] all end rest le p.done = le
 rise low at tokens all end rest le (p.skip {text} {bytes} e is h) = rise low (at + length text) tokens bytes end rest (omega arith) h
 rise low at tokens all end rest le (p.next {tokens = others} {text} {bytes} e is h) = (le, rise at (at + length text) others bytes end rest (omega arith) h)

@@ -1,5 +1,8 @@
 -- Rules are read exactly.
-use Rattle.drl_parse.proofs.Common.{◌≡◌, ℕ, ℤ, ◌<◌, ◌≤◌, true, cond, List, ◌∷◌, length, Some, None, refl, subst, arith, codes, bytes_eq, TokenKind, Word, Text, Mark, Minus, Found, IsName, IsRule, Many, binds, Exact, ◌>>=◌, many_at, name_at, name_exact, then, guarded, same_bytes, ended_then, ended_is, Begins, many_sound, many_again, many_shorter, optional_sound, optional_again, optional_shorter, Number, Comma, IsAsked, IsSalience, IsAttr, after_word, optional_at, if_some_then, word_sound, word_again}
+use Rattle.drl_parse.proofs.Common.{◌≡◌, ℕ, ℤ, ◌<◌, ◌≤◌, true, cond, List, ◌∷◌, length, Some, None, refl, subst, arith, codes, bytes_eq, TokenKind, Word, Text}
+use Rattle.drl_parse.proofs.Common.{Mark, Minus, Found, IsName, IsRule, Many, phrase_binds, ExactPhrase, ◌>>=◌, many_at, name_at, name_exact, then, guarded}
+use Rattle.drl_parse.proofs.Common.{same_bytes, ended_then, ended_is, Begins, many_sound, many_again, many_shorter, optional_sound, optional_again}
+use Rattle.drl_parse.proofs.Common.{optional_shorter, Number, Comma, IsAsked, IsSalience, IsAttr, after_word, optional_at, if_some_then, word_sound, word_again}
 use Rattle.drl_grammar.specs.declared.file.Attr.{Attr}
 use Rattle.drl_grammar.specs.declared.file.Attr.TheVariants as attr
 use Rattle.drl_grammar.specs.declared.written.WrittenRule.{WrittenRule}
@@ -7,7 +10,7 @@ use Rattle.drl_grammar.specs.Actions as a
 use Rattle.drl_grammar.specs.Actions.{IsAction}
 use Rattle.drl_grammar.specs.Items as g
 use Rattle.drl_phrase.specs.declared.phrase.Punctuation.TheVariants as p
-use Rattle.drl_condition.specs.Choices.{ends_all, asked_at}
+use Rattle.drl_condition.specs.Choices.{ends_all, pieces_at}
 use Rattle.drl_condition.proofs.ChoiceLaws.{asked_sound, asked_again, asked_shorter}
 use Rattle.drl_action.specs.Reading.{action_word, action_at}
 use Rattle.drl_action.proofs.ActionLaws.{action_exact}
@@ -15,7 +18,7 @@ use Rattle.drl_parse.specs.Reading.{salience_at, attr_at, actions_at, conditions
 
 -- ---- attributes
 
-salience_exact : Exact IsSalience salience_at 0
+salience_exact : ExactPhrase IsSalience salience_at 0
 unfolding salience_at
 salience_exact = record { sound = sound; again = again; shorter = shorter }
   where
@@ -24,7 +27,7 @@ salience_exact = record { sound = sound; again = again; shorter = shorter }
     sound (Mark Minus ∷ Number n ∷ rest) = g.low
     sound ts = tt
 
-    again : (x : ℤ) (ts rest : List TokenKind) → IsSalience x ts rest → 0 ≤ binds rest → salience_at ts ≡ Some (x, rest)
+    again : (x : ℤ) (ts rest : List TokenKind) → IsSalience x ts rest → 0 ≤ phrase_binds rest → salience_at ts ≡ Some (x, rest)
     again x ts rest g.high stop = refl
     again x ts rest g.low stop = refl
 
@@ -37,7 +40,7 @@ salience_found : (w : List ℕ) (ts : List TokenKind)
 salience_found w ts = guarded IsAttr _ (bytes_eq w (codes "salience")) _ (λ e. rw (same_bytes w (codes "salience") e) (
     then IsSalience ts (salience_at ts) _ IsAttr _ (salience_exact.sound ts) (λ n hn. g.salience hn (optional_sound p.Comma n.1))))
 
-attr_exact : Exact IsAttr attr_at 6
+attr_exact : ExactPhrase IsAttr attr_at 6
 unfolding attr_at salience_at
 attr_exact = record { sound = sound; again = again; shorter = shorter }
   where
@@ -46,7 +49,7 @@ attr_exact = record { sound = sound; again = again; shorter = shorter }
     sound (Word w ∷ ts) = salience_found w ts
     sound ts = tt
 
-    again : (x : Attr) (ts rest : List TokenKind) → IsAttr x ts rest → 6 ≤ binds rest → attr_at ts ≡ Some (x, rest)
+    again : (x : Attr) (ts rest : List TokenKind) → IsAttr x ts rest → 6 ≤ phrase_binds rest → attr_at ts ≡ Some (x, rest)
     again x ts rest (g.salience {middle} g.high behind) stop = rw (optional_again p.Comma middle rest behind (omega arith)) refl
     again x ts rest (g.salience {middle} g.low behind) stop = rw (optional_again p.Comma middle rest behind (omega arith)) refl
     again x ts rest (g.dialect {middle} behind) stop = rw (optional_again p.Comma middle rest behind (omega arith)) refl
@@ -85,7 +88,7 @@ then_ends rest = refl
 
 -- ---- rules
 
-pub rule_exact : Exact IsRule rule_at 0
+pub rule_exact : ExactPhrase IsRule rule_at 0
 unfolding rule_at conditions_at actions_at
 rule_exact = record { sound = sound; again = again; shorter = shorter }
   where
@@ -93,13 +96,13 @@ rule_exact = record { sound = sound; again = again; shorter = shorter }
     sound ts = then IsName ts (name_at ts) _ IsRule ts (name_exact.sound ts) (λ s hs.
         then (Many IsAttr) s.1 (many_at attr_at s.1) _ IsRule ts (many_sound attr_exact s.1) (λ attrs hattrs.
         if_some_then (after_word (codes "when") attrs.1) (λ rest. attrs.1 ≡ Word (codes "when") ∷ rest) _ IsRule ts (word_sound (codes "when") attrs.1) (λ asked is_when.
-        then IsAsked asked (asked_at asked) _ IsRule ts (asked_sound asked) (λ ps hps.
+        then IsAsked asked (pieces_at asked) _ IsRule ts (asked_sound asked) (λ ps hps.
         if_some_then (after_word (codes "then") ps.1) (λ rest. ps.1 ≡ Word (codes "then") ∷ rest) _ IsRule ts (word_sound (codes "then") ps.1) (λ actions is_then.
         then (Many IsAction) actions (many_at action_at actions) _ IsRule ts (many_sound action_exact actions) (λ acts hacts.
         ended_then (codes "end") (Many IsAction) acts.0 actions (record { name = s.0; attrs = attrs.0; pieces = ps.0; actions = acts.0 }) acts.1 IsRule ts hacts (λ rest hr.
         g.rule hs (subst (Many IsAttr attrs.0 s.1) is_when hattrs) (subst (IsAsked ps.0 asked) is_then hps) hr)))))))
 
-    again : (x : WrittenRule) (ts rest : List TokenKind) → IsRule x ts rest → 0 ≤ binds rest → rule_at ts ≡ Some (x, rest)
+    again : (x : WrittenRule) (ts rest : List TokenKind) → IsRule x ts rest → 0 ≤ phrase_binds rest → rule_at ts ≡ Some (x, rest)
     again x ts rest (g.rule {s} {attrs} {ps} {acts} {behind_name} {asked} {actions} hs hattrs hps hacts) stop =
         rw (
           name_exact.again s ts behind_name hs (omega arith),

@@ -1,5 +1,9 @@
 -- Types and entry points are read exactly.
-use Rattle.drl_parse.proofs.Common.{◌≡◌, ℕ, ℤ, ◌<◌, ◌≤◌, Bool, true, false, cond, List, ◌∷◌, length, Option, Some, None, refl, arith, IfSome, codes, bytes_eq, TokenKind, Word, Mark, Minus, Found, WrittenType, IsName, IsType, IsEntry, Many, binds, Exact, ◌>>=◌, many_at, name_at, name_exact, then, guarded, ident_then, ident_is, same_bytes, ended_then, ended_is, Begins, many_sound, many_again, many_shorter, OpenParenthesis, CloseParenthesis, Colon, At, IsSpan, IsMeta, IsField, IsParent, IsLateness, Maybe, maybe_at, span_at, span_exact, closed_then, maybe_sound, maybe_again, maybe_shorter, meta_text}
+use Rattle.drl_parse.proofs.Common.{◌≡◌, ℕ, ℤ, ◌<◌, ◌≤◌, Bool, true, false, cond, List, ◌∷◌, length, Option, Some, None, refl, arith, IfSome, codes, bytes_eq}
+use Rattle.drl_parse.proofs.Common.{TokenKind, Word, Mark, Minus, Found, WrittenType, IsName, IsType, IsEntry, Many, phrase_binds, ExactPhrase, ◌>>=◌, many_at}
+use Rattle.drl_parse.proofs.Common.{name_at, name_exact, then, guarded, ident_then, ident_is, same_bytes, ended_then, ended_is, Begins, many_sound, many_again}
+use Rattle.drl_parse.proofs.Common.{many_shorter, OpenParenthesis, CloseParenthesis, Colon, At, IsSpan, IsMeta, IsField, IsParentName, IsLateness, Maybe}
+use Rattle.drl_parse.proofs.Common.{maybe_at, span_at, span_exact, closed_then, maybe_sound, maybe_again, maybe_shorter, meta_text}
 use Rattle.drl_expr.specs.Words.{is_ident}
 use Rattle.drl_grammar.specs.declared.file.Meta.{Meta}
 use Rattle.drl_grammar.specs.declared.file.Meta.TheVariants as meta
@@ -9,12 +13,12 @@ use Rattle.drl_phrase.specs.declared.phrase.Punctuation.TheVariants as p
 use Rattle.drl_phrase.specs.Reading.{after, closed, ident}
 use Rattle.drl_parse.specs.declared.words.MetaWord.{MetaWord}
 use Rattle.drl_parse.specs.declared.words.MetaWord.TheVariants.{RoleWord, TimestampWord, DurationWord, ExpiresWord, ReferenceWord}
-use Rattle.drl_parse.specs.Reading.{meta_word, role_word, behind_meta, meta_at, field_at, parent_at, type_at, lateness_at, behind_point, entry_at}
+use Rattle.drl_parse.specs.Reading.{meta_word_of, role_word, behind_meta, meta_at, field_at, parent_at, type_at, lateness_at, behind_point, entry_at}
 
 -- ---- annotations
 
-word_sound : (w : List ℕ) → IfSome (meta_word w) (λ k. w ≡ meta_text k)
-unfolding meta_word
+word_sound : (w : List ℕ) → IfSome (meta_word_of w) (λ k. w ≡ meta_text k)
+unfolding meta_word_of
 word_sound w = pick (bytes_eq w (codes "role")) RoleWord _ (same_bytes w _) (λ o. pick (bytes_eq w (codes "timestamp")) TimestampWord _ (same_bytes w _) (λ o.
     pick (bytes_eq w (codes "duration")) DurationWord _ (same_bytes w _) (λ o. pick (bytes_eq w (codes "expires")) ExpiresWord _ (same_bytes w _) (λ o.
     pick (bytes_eq w (codes "reference")) ReferenceWord _ (same_bytes w _) (λ o. tt)))))
@@ -39,8 +43,8 @@ behind_sound ExpiresWord (Mark OpenParenthesis ∷ ts) =
 behind_sound ReferenceWord rest = g.reference
 behind_sound word ts = tt
 
-meta_exact : Exact IsMeta meta_at 0
-unfolding meta_at meta_word behind_meta role_word closed after
+meta_exact : ExactPhrase IsMeta meta_at 0
+unfolding meta_at meta_word_of behind_meta role_word closed after
 meta_exact = record { sound = sound; again = again; shorter = shorter }
   where
     word_then : (w : List ℕ) (rest : List TokenKind) (o : Option MetaWord) → IfSome o (λ k. w ≡ meta_text k) → Found IsMeta (Mark At ∷ Word w ∷ rest) (o >>= λ word. behind_meta word rest)
@@ -48,10 +52,10 @@ meta_exact = record { sound = sound; again = again; shorter = shorter }
     word_then w rest (Some k) h = rw h (behind_sound k rest)
 
     sound : (ts : List TokenKind) → Found IsMeta ts (meta_at ts)
-    sound (Mark At ∷ Word w ∷ rest) = word_then w rest (meta_word w) (word_sound w)
+    sound (Mark At ∷ Word w ∷ rest) = word_then w rest (meta_word_of w) (word_sound w)
     sound ts = tt
 
-    again : (x : Meta) (ts rest : List TokenKind) → IsMeta x ts rest → 0 ≤ binds rest → meta_at ts ≡ Some (x, rest)
+    again : (x : Meta) (ts rest : List TokenKind) → IsMeta x ts rest → 0 ≤ phrase_binds rest → meta_at ts ≡ Some (x, rest)
     again x ts rest (g.timestamp {f} h) stop = ident_is f _ h
     again x ts rest (g.duration {f} h) stop = ident_is f _ h
     again x ts rest (g.expires {ms} {ts = inside} h) stop = rw (span_exact.again ms inside (Mark CloseParenthesis ∷ rest) h (omega arith)) refl
@@ -67,7 +71,7 @@ meta_begins x ts rest h = omega arith
 
 -- ---- types
 
-field_exact : Exact IsField field_at 0
+field_exact : ExactPhrase IsField field_at 0
 unfolding field_at
 field_exact = record { sound = sound; again = again; shorter = shorter }
   where
@@ -75,7 +79,7 @@ field_exact = record { sound = sound; again = again; shorter = shorter }
     sound (Word f ∷ Mark Colon ∷ Word k ∷ rest) = ident_then IsField _ f _ (λ hf. ident_then IsField _ k _ (λ hk. g.field hf hk))
     sound ts = tt
 
-    again : (x : List ℕ × List ℕ) (ts rest : List TokenKind) → IsField x ts rest → 0 ≤ binds rest → field_at ts ≡ Some (x, rest)
+    again : (x : List ℕ × List ℕ) (ts rest : List TokenKind) → IsField x ts rest → 0 ≤ phrase_binds rest → field_at ts ≡ Some (x, rest)
     again x ts rest (g.field {f} {k} hf hk) stop = rw (ident_is f _ hf, ident_is k _ hk) refl
 
     shorter : (x : List ℕ × List ℕ) (ts rest : List TokenKind) → IsField x ts rest → length rest < length ts
@@ -96,18 +100,18 @@ unfolding field_at ident is_ident
 no_field (Mark Colon ∷ Word k ∷ rest) = refl
 no_field rest = refl
 
-parent_exact : Exact IsParent parent_at 0
+parent_exact : ExactPhrase IsParentName parent_at 0
 unfolding parent_at
 parent_exact = record { sound = sound; again = again; shorter = shorter }
   where
-    sound : (ts : List TokenKind) → Found IsParent ts (parent_at ts)
-    sound (Word w ∷ Word ty ∷ rest) = guarded IsParent _ (bytes_eq w (codes "extends")) _ (λ e. rw (same_bytes w (codes "extends") e) (ident_then IsParent _ ty _ (λ h. g.parent h)))
+    sound : (ts : List TokenKind) → Found IsParentName ts (parent_at ts)
+    sound (Word w ∷ Word ty ∷ rest) = guarded IsParentName _ (bytes_eq w (codes "extends")) _ (λ e. rw (same_bytes w (codes "extends") e) (ident_then IsParentName _ ty _ (λ h. g.parent h)))
     sound ts = tt
 
-    again : (x : List ℕ) (ts rest : List TokenKind) → IsParent x ts rest → 0 ≤ binds rest → parent_at ts ≡ Some (x, rest)
+    again : (x : List ℕ) (ts rest : List TokenKind) → IsParentName x ts rest → 0 ≤ phrase_binds rest → parent_at ts ≡ Some (x, rest)
     again x ts rest (g.parent {ty} h) stop = ident_is ty _ h
 
-    shorter : (x : List ℕ) (ts rest : List TokenKind) → IsParent x ts rest → length rest < length ts
+    shorter : (x : List ℕ) (ts rest : List TokenKind) → IsParentName x ts rest → length rest < length ts
     shorter x ts rest (g.parent h) = omega arith
 
 -- annotations and fields name no type that is extended
@@ -126,19 +130,19 @@ no_parent ms fs ts middle rest (m.further h hs) fields = begins h
     begins (g.expires h) = refl
     begins g.reference = refl
 
-pub type_exact : Exact IsType type_at 0
+pub type_exact : ExactPhrase IsType type_at 0
 unfolding type_at
 type_exact = record { sound = sound; again = again; shorter = shorter }
   where
     sound : (ts : List TokenKind) → Found IsType ts (type_at ts)
     sound (Word ty ∷ ts) = ident_then IsType _ ty _ (λ h.
-        then (Maybe IsParent) ts (maybe_at parent_at ts) _ IsType _ (maybe_sound parent_exact ts) (λ above habove.
+        then (Maybe IsParentName) ts (maybe_at parent_at ts) _ IsType _ (maybe_sound parent_exact ts) (λ above habove.
         then (Many IsMeta) above.1 (many_at meta_at above.1) _ IsType _ (many_sound meta_exact above.1) (λ ms hms.
         then (Many IsField) ms.1 (many_at field_at ms.1) _ IsType _ (many_sound field_exact ms.1) (λ fs hfs.
         ended_then (codes "end") (Many IsField) fs.0 ms.1 (record { name = ty; parent = above.0; metas = ms.0; fields = fs.0 }) fs.1 IsType _ hfs (λ rest hr. g.type_of h habove hms hr)))))
     sound ts = tt
 
-    again : (x : WrittenType) (ts rest : List TokenKind) → IsType x ts rest → 0 ≤ binds rest → type_at ts ≡ Some (x, rest)
+    again : (x : WrittenType) (ts rest : List TokenKind) → IsType x ts rest → 0 ≤ phrase_binds rest → type_at ts ≡ Some (x, rest)
     again x ts rest (g.type_of {ty} {above} {ms} {fs} {ts = behind} {behind_parent} {middle} h habove hms hfs) stop =
         rw (
           ident_is ty _ h,
@@ -153,7 +157,7 @@ type_exact = record { sound = sound; again = again; shorter = shorter }
 
 -- ---- entry points
 
-lateness_exact : Exact IsLateness lateness_at 0
+lateness_exact : ExactPhrase IsLateness lateness_at 0
 unfolding lateness_at closed after
 lateness_exact = record { sound = sound; again = again; shorter = shorter }
   where
@@ -162,7 +166,7 @@ lateness_exact = record { sound = sound; again = again; shorter = shorter }
         then IsSpan ts (span_at ts) _ IsLateness _ (span_exact.sound ts) (λ ms hms. closed_then p.CloseParenthesis IsSpan ms.0 ts ms.0 ms.1 IsLateness _ hms (λ rest hr. g.lateness hr))))
     sound ts = tt
 
-    again : (x : ℤ) (ts rest : List TokenKind) → IsLateness x ts rest → 0 ≤ binds rest → lateness_at ts ≡ Some (x, rest)
+    again : (x : ℤ) (ts rest : List TokenKind) → IsLateness x ts rest → 0 ≤ phrase_binds rest → lateness_at ts ≡ Some (x, rest)
     again x ts rest (g.lateness {ts = inside} h) stop = rw (span_exact.again x inside (Mark CloseParenthesis ∷ rest) h (omega arith)) refl
 
     shorter : (x : ℤ) (ts rest : List TokenKind) → IsLateness x ts rest → length rest < length ts
@@ -186,7 +190,7 @@ unfolding behind_point
 point_again s late ts middle rest hs hlate =
     rw (name_exact.again s ts middle hs (omega arith), maybe_again lateness_exact late middle (Word (codes "end") ∷ rest) hlate (no_lateness rest) (omega arith)) (ended_is (codes "end") (s, late) rest)
 
-pub entry_exact : Exact IsEntry entry_at 0
+pub entry_exact : ExactPhrase IsEntry entry_at 0
 unfolding entry_at
 entry_exact = record { sound = sound; again = again; shorter = shorter }
   where
@@ -199,7 +203,7 @@ entry_exact = record { sound = sound; again = again; shorter = shorter }
         rw (same_bytes w (codes "entry") e, same_bytes v (codes "point") o) (point_found ts (behind_point ts) (point_sound ts))))
     sound ts = tt
 
-    again : (x : List ℕ × Option ℤ) (ts rest : List TokenKind) → IsEntry x ts rest → 0 ≤ binds rest → entry_at ts ≡ Some (x, rest)
+    again : (x : List ℕ × Option ℤ) (ts rest : List TokenKind) → IsEntry x ts rest → 0 ≤ phrase_binds rest → entry_at ts ≡ Some (x, rest)
     again x ts rest (g.entry {s} {late} {ts = behind} {middle} hs hlate) stop = point_again s late behind middle rest hs hlate
 
     shorter : (x : List ℕ × Option ℤ) (ts rest : List TokenKind) → IsEntry x ts rest → length rest < length ts

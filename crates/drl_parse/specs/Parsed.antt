@@ -30,11 +30,11 @@ pub record IsLexical (code : LexCode) (line : ℕ) (bytes : List ℕ) : Type 0 w
   pub line_is : line ≡ line_at bytes at
 
 -- Why the bytes are no written file. Memory may be refused at any file.
-abbrev pub IsFault : ParseFault → List ℕ → Type 0
-IsFault (Syntax item line) bytes = IsOutside item line bytes × (length bytes ≤ file_limit)
-IsFault TooLong bytes = file_limit < length bytes
-IsFault (Lexical code line) bytes = IsLexical code line bytes × (length bytes ≤ file_limit)
-IsFault NoMemory bytes = Unit {0}
+abbrev pub IsParseFault : ParseFault → List ℕ → Type 0
+IsParseFault (Syntax item line) bytes = IsOutside item line bytes × (length bytes ≤ file_limit)
+IsParseFault TooLong bytes = file_limit < length bytes
+IsParseFault (Lexical code line) bytes = IsLexical code line bytes × (length bytes ≤ file_limit)
+IsParseFault NoMemory bytes = Unit {0}
 
 -- ---- as one function of the bytes
 
@@ -65,9 +65,9 @@ FaultOf bytes (lex_fault.Refused code at) fault = fault ≡ Lexical code (line_a
 FaultOf bytes lex_fault.NoMemory fault = fault ≡ NoMemory
 
 -- what `parse` answers: what the bytes are, unless memory was refused
-abbrev pub Gives : Result Written ParseFault → Parsed → Type 0
-Gives (Ok file) read = read ≡ is_file file
-Gives (Err (Syntax item line)) read = read ≡ outside item line
-Gives (Err TooLong) read = read ≡ too_long
-Gives (Err (Lexical code line)) read = read ≡ lexical code line
-Gives (Err NoMemory) read = Unit {0}
+abbrev pub GivesParsed : Result Written ParseFault → Parsed → Type 0
+GivesParsed (Ok file) read = read ≡ is_file file
+GivesParsed (Err (Syntax item line)) read = read ≡ outside item line
+GivesParsed (Err TooLong) read = read ≡ too_long
+GivesParsed (Err (Lexical code line)) read = read ≡ lexical code line
+GivesParsed (Err NoMemory) read = Unit {0}

@@ -16,7 +16,7 @@ use Rattle.drl_grammar.specs.declared.written.WrittenBody.{WrittenBody}
 use Rattle.drl_grammar.specs.declared.written.WrittenBody.TheVariants as body
 use Rattle.drl_phrase.specs.declared.phrase.Punctuation.TheVariants as p
 use Rattle.drl_phrase.specs.Reading.{◌>>=◌, after_word, closed, ended, ident, many_at, maybe_at, optional_at, span_at, name_at}
-use Rattle.drl_condition.specs.Choices.{asked_at}
+use Rattle.drl_condition.specs.Choices.{pieces_at}
 use Rattle.drl_action.specs.Reading.{action_at}
 use Rattle.drl_parse.specs.declared.words.MetaWord.{MetaWord}
 use Rattle.drl_parse.specs.declared.words.MetaWord.TheVariants.{RoleWord, TimestampWord, DurationWord, ExpiresWord, ReferenceWord}
@@ -32,8 +32,8 @@ meta_text DurationWord = codes "duration"
 meta_text ExpiresWord = codes "expires"
 meta_text ReferenceWord = codes "reference"
 
-unfoldable pub meta_word : List ℕ → Option MetaWord
-meta_word w = if bytes_eq w (codes "role") then Some RoleWord else if bytes_eq w (codes "timestamp") then Some TimestampWord
+unfoldable pub meta_word_of : List ℕ → Option MetaWord
+meta_word_of w = if bytes_eq w (codes "role") then Some RoleWord else if bytes_eq w (codes "timestamp") then Some TimestampWord
     else if bytes_eq w (codes "duration") then Some DurationWord else if bytes_eq w (codes "expires") then Some ExpiresWord
     else if bytes_eq w (codes "reference") then Some ReferenceWord else None
 
@@ -64,9 +64,9 @@ path_at (Word f ∷ ts) = ident f (many_at step_at ts >>= λ fs. Some (f ∷ fs.
 path_at ts = None
 
 -- whether a dot and a star stand there, and what follows them
-unfoldable pub star_at : List TokenKind → Bool × List TokenKind
-star_at (Mark Dot ∷ Mark Star ∷ rest) = (true, rest)
-star_at ts = (false, ts)
+unfoldable pub path_star_at : List TokenKind → Bool × List TokenKind
+path_star_at (Mark Dot ∷ Mark Star ∷ rest) = (true, rest)
+path_star_at ts = (false, ts)
 
 -- ---- types and entry points
 
@@ -80,7 +80,7 @@ behind_meta ReferenceWord rest = Some (meta.Reference, rest)
 behind_meta word ts = None
 
 unfoldable pub meta_at : List TokenKind → Read Meta
-meta_at (Mark At ∷ Word w ∷ ts) = meta_word w >>= λ word. behind_meta word ts
+meta_at (Mark At ∷ Word w ∷ ts) = meta_word_of w >>= λ word. behind_meta word ts
 meta_at ts = None
 
 unfoldable pub field_at : List TokenKind → Read (List ℕ × List ℕ)
@@ -126,7 +126,7 @@ actions_at s attrs ps ts = many_at action_at ts >>= λ acts. ended (codes "end")
 
 -- what stands behind the word `when`
 unfoldable pub conditions_at : List ℕ → List Attr → List TokenKind → Read WrittenRule
-conditions_at s attrs ts = asked_at ts >>= λ ps. after_word (codes "then") ps.1 >>= λ rest. actions_at s attrs ps.0 rest
+conditions_at s attrs ts = pieces_at ts >>= λ ps. after_word (codes "then") ps.1 >>= λ rest. actions_at s attrs ps.0 rest
 
 -- a rule behind its first word
 unfoldable pub rule_at : List TokenKind → Read WrittenRule
@@ -142,7 +142,7 @@ declare_at ts = type_at ts >>= λ t. Some (body.Declare t.0, t.1)
 -- what stands behind the first word of an item
 unfoldable pub behind_item : ItemWord → List TokenKind → Read WrittenBody
 behind_item PackageWord ts = path_at ts >>= λ path. Some (body.Package path.0, optional_at p.Semicolon path.1)
-behind_item ImportWord ts = path_at ts >>= λ path. Some (body.Import path.0 (star_at path.1).0, optional_at p.Semicolon (star_at path.1).1)
+behind_item ImportWord ts = path_at ts >>= λ path. Some (body.Import path.0 (path_star_at path.1).0, optional_at p.Semicolon (path_star_at path.1).1)
 behind_item DialectWord (Text s ∷ ts) = Some (body.Dialect s, optional_at p.Semicolon ts)
 behind_item DeclareWord ts = declare_at ts
 behind_item RuleWord ts = rule_at ts >>= λ r. Some (body.Rule r.0, r.1)

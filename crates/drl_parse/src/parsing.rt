@@ -3,7 +3,7 @@ ghost use Rattle.drl_lex.specs.Reading.{lexed};
 ghost use Rattle.drl_lex.specs.declared.fault.LexCode.{LexCode as LexCodeData};
 ghost use Rattle.drl_grammar.specs.declared.written.Written.{Written as WrittenData};
 ghost use Rattle.drl_grammar.specs.Files.{line_at, IsFile, IsOutside};
-ghost use Rattle.drl_parse.specs.Parsed.{file_limit, IsLexical, IsFault, Parsed, is_file, outside, too_long, lexical, parsed, FaultOf, Gives};
+ghost use Rattle.drl_parse.specs.Parsed.{file_limit, IsLexical, IsParseFault, Parsed, is_file, outside, too_long, lexical, parsed, FaultOf, GivesParsed};
 ghost use Rattle.drl_parse.specs.Reading.{item_at};
 ghost use Rattle.drl_phrase.specs.Reading.{whole_at};
 ghost use Rattle.drl_parse.specs.Items.{items_at, GivesItems};
@@ -79,7 +79,7 @@ fn lexer_fault(bytes: &[u8], fault: LexFault) -> ParseFault
 
 // What the bytes are.
 fn read_file(alloc: Global, bytes: &[u8]) -> Result<Written, ParseFault>
-    ensures { Gives result (parsed bytes.now) }
+    ensures { GivesParsed result (parsed bytes.now) }
 {
     if is_too_long(bytes) {
         return Err(ParseFault::TooLong);
@@ -98,10 +98,10 @@ fn read_file(alloc: Global, bytes: &[u8]) -> Result<Written, ParseFault>
 /// the lexer, then the first item that is outside the grammar. Memory may be refused at any file.
 pub fn parse(alloc: Global, bytes: &[u8]) -> Result<Written, ParseFault>
     ensures file { IfOk result (λ file. IsFile file bytes.now × (length bytes.now ≤ file_limit)) }
-    ensures refused { IfErr result (λ fault. IsFault fault bytes.now) }
+    ensures refused { IfErr result (λ fault. IsParseFault fault bytes.now) }
 
     // The same, as a function of the bytes.
-    ensures read { Gives result (parsed bytes.now) }
+    ensures read { GivesParsed result (parsed bytes.now) }
 {
     read_file(alloc, bytes)
 }

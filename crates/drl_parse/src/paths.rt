@@ -1,5 +1,5 @@
 ghost use Rattle.std.specs.Prelude.{◌≡◌, ◌∷◌, option_map, Option, IfOk};
-ghost use Rattle.drl_parse.specs.Reading.{path_at, star_at};
+ghost use Rattle.drl_parse.specs.Reading.{path_at, path_star_at};
 
 use drl_expr::is_ident_word;
 use drl_lex::{Mark, TokenKind};
@@ -65,9 +65,9 @@ impl Phrase for Path {
 }
 
 /// Whether a dot and a star stand there, and the tokens behind them.
-#[tactic(auto, unfolding(crate::specs::Reading::star_at))]
+#[tactic(auto, unfolding(crate::specs::Reading::path_star_at))]
 pub(crate) fn star(tokens: &[TokenKind]) -> (bool, &[TokenKind])
-    ensures { (result.0, result.1.now) ≡ star_at tokens.now }
+    ensures { (result.0, result.1.now) ≡ path_star_at tokens.now }
 {
     match tokens {
         [

@@ -1,5 +1,5 @@
 ghost use Rattle.std.specs.Prelude.{◌≡◌};
-ghost use Rattle.drl_parse.specs.Reading.{meta_word, role_word, item_word};
+ghost use Rattle.drl_parse.specs.Reading.{meta_word_of, role_word, item_word};
 
 /// The words of annotations.
 #[derive(Clone, Copy)]
@@ -21,9 +21,9 @@ pub(crate) enum ItemWord {
     RuleWord,
 }
 
-#[tactic(auto, unfolding(crate::specs::Reading::meta_word))]
+#[tactic(auto, unfolding(crate::specs::Reading::meta_word_of))]
 pub(crate) fn word_of_meta(word: &str) -> Option<MetaWord>
-    ensures { result ≡ meta_word word.now }
+    ensures { result ≡ meta_word_of word.now }
 {
     match word {
         "role" => Some(MetaWord::RoleWord),

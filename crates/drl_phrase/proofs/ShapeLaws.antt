@@ -1,9 +1,14 @@
 -- What is read stands in the grammar, and what stands in it is read: for the shapes.
-use Rattle.drl_phrase.proofs.Common.{◌≡◌, ℕ, zero, suc, ◌<◌, ◌≤◌, Bool, true, false, cond, List, [], ◌∷◌, length, Option, Some, None, refl, sym, subst, ◌∙◌, arith, IfSome, IfNone, bytes_eq, TokenKind, Word, Mark, CloseParenthesis, CloseBracket, CloseBrace, Comma, Semicolon, Or, And, is_ident, IsIdent, Read, Phrase, Found, Punctuation, binds, Exact, ◌>>=◌, mark_of, level, with_first, more_step, members_at, listed_step, many_step, maybe_step, optional_step, if_last}
+use Rattle.drl_phrase.proofs.Common.{◌≡◌, ℕ, zero, suc, ◌<◌, ◌≤◌, Bool, true, false, cond, List, [], ◌∷◌, length, Option, Some, None, refl, sym, subst, ◌∙◌}
+use Rattle.drl_phrase.proofs.Common.{arith, IfSome, IfNone, bytes_eq, TokenKind, Word, Mark, CloseParenthesis, CloseBracket, CloseBrace, Comma, Semicolon, Or}
+use Rattle.drl_phrase.proofs.Common.{And, is_ident, IsIdent, Read, Phrase, Found, Punctuation, phrase_binds, ExactPhrase, ◌>>=◌, mark_of, level, with_first}
+use Rattle.drl_phrase.proofs.Common.{more_step, members_at, listed_step, many_step, maybe_step, optional_step, if_last}
 use Rattle.std.proofs.lemmas.Slice.Eq.{bytes_eq-Decides}
-use Rattle.drl_grammar.specs.Shapes.{Maybe, left_out, written, Optional, absent, present, Many, nothing, further, Separated, single, more, Listed, empty, members}
+use Rattle.drl_grammar.specs.Shapes.{Maybe, left_out, written, Optional, absent, present, Many, nothing, further, Separated, single, more, Listed, empty}
+use Rattle.drl_grammar.specs.Shapes.{members}
 use Rattle.drl_phrase.specs.declared.phrase.Punctuation.TheVariants as p
-use Rattle.drl_phrase.specs.Reading.{after, after_word, closed, ended, ident, more_at, separated_at, listed_at, turns_at, many_at, maybe_at, optional_at, whole_at}
+use Rattle.drl_phrase.specs.Reading.{after, after_word, closed, ended, ident, more_at, separated_at, listed_at, turns_at, many_at, maybe_at, optional_at}
+use Rattle.drl_phrase.specs.Reading.{whole_at}
 
 -- ---- options
 
@@ -68,8 +73,8 @@ after_again p.CloseParenthesis rest = refl
 after_again p.CloseBracket rest = refl
 after_again p.CloseBrace rest = refl
 
--- what binds more loosely than the mark is not the mark
-pub after_none : (s : Punctuation) (ts : List TokenKind) → level s < binds ts → after s ts ≡ None
+-- what phrase_binds more loosely than the mark is not the mark
+pub after_none : (s : Punctuation) (ts : List TokenKind) → level s < phrase_binds ts → after s ts ≡ None
 unfolding after
 after_none p.Comma (Mark Comma ∷ rest) h = absurd (omega arith)
 after_none p.Semicolon (Mark Semicolon ∷ rest) h = absurd (omega arith)
@@ -80,7 +85,7 @@ after_none p.CloseBracket (Mark CloseBracket ∷ rest) h = absurd (omega arith)
 after_none p.CloseBrace (Mark CloseBrace ∷ rest) h = absurd (omega arith)
 after_none s ts h = refl
 
-pub level_binds : (s : Punctuation) (ts : List TokenKind) → binds (mark_of s ∷ ts) ≡ level s
+pub level_binds : (s : Punctuation) (ts : List TokenKind) → phrase_binds (mark_of s ∷ ts) ≡ level s
 level_binds p.Comma ts = refl
 level_binds p.Semicolon ts = refl
 level_binds p.Or ts = refl
@@ -151,13 +156,13 @@ more_sound Is read s zero sound ts = λ x whole hx. single hx
 more_sound Is read s (suc n) sound ts =
     more_step_sound Is s (after s ts) ts (members_at read s n) (after_sound s ts) (members_sound Is read s n sound (more_sound Is read s n sound))
 
-more_none : {A : Type 0} (read : List TokenKind → Read A) (s : Punctuation) (n : ℕ) (ts : List TokenKind) → level s < binds ts → more_at read s n ts ≡ Some ([], ts)
+more_none : {A : Type 0} (read : List TokenKind → Read A) (s : Punctuation) (n : ℕ) (ts : List TokenKind) → level s < phrase_binds ts → more_at read s n ts ≡ Some ([], ts)
 unfolding more_at
 more_none read s zero ts h = refl
 more_none read s (suc n) ts h = rw (after_none s ts h) refl
 
-members_again : {A : Type 0} (Is : Phrase A) (read : List TokenKind → Read A) (k : ℕ) (s : Punctuation) → Exact Is read k → k ≤ level s
-    → (n : ℕ) (xs : List A) (ts rest : List TokenKind) → Separated (mark_of s) Is xs ts rest → level s < binds rest → length ts ≤ n → members_at read s n ts ≡ Some (xs, rest)
+members_again : {A : Type 0} (Is : Phrase A) (read : List TokenKind → Read A) (k : ℕ) (s : Punctuation) → ExactPhrase Is read k → k ≤ level s
+    → (n : ℕ) (xs : List A) (ts rest : List TokenKind) → Separated (mark_of s) Is xs ts rest → level s < phrase_binds rest → length ts ≤ n → members_at read s n ts ≡ Some (xs, rest)
 unfolding more_at
 members_again Is read k s exact low n xs ts rest (single {x} hx) stop le =
     rw (exact.again x ts rest hx (omega arith), more_none read s n rest stop) refl
@@ -177,7 +182,7 @@ separated_shorter Is s shorter xs ts rest (more {x} {xs = ys} {middle} hx hxs) =
     omega arith
 
 -- a list of what is read exactly is read exactly
-pub separated_exact : {A : Type 0} {Is : Phrase A} {read : List TokenKind → Read A} {k : ℕ} (s : Punctuation) → k ≤ level s → Exact Is read k → Exact (Separated (mark_of s) Is) (separated_at read s) (suc (level s))
+pub separated_exact : {A : Type 0} {Is : Phrase A} {read : List TokenKind → Read A} {k : ℕ} (s : Punctuation) → k ≤ level s → ExactPhrase Is read k → ExactPhrase (Separated (mark_of s) Is) (separated_at read s) (suc (level s))
 unfolding separated_at
 separated_exact {Is} {read} {k} s low exact = record {
   sound = λ ts. members_sound Is read s (length ts) exact.sound (more_sound Is read s (length ts) exact.sound) ts;
@@ -199,17 +204,17 @@ listed_again read closes xs (Mark CloseParenthesis ∷ others) rest e = let none
 listed_again read closes xs ts rest e = rw e refl
 
 -- a list in parentheses, where no member begins with the closing one
-pub listed_exact : {A : Type 0} {Is : Phrase A} {read : List TokenKind → Read A} {k : ℕ} → k ≤ 5 → Exact Is read k → ((rest : List TokenKind) → read (Mark CloseParenthesis ∷ rest) ≡ None) → Exact (Listed Is) (listed_at read) 0
+pub listed_exact : {A : Type 0} {Is : Phrase A} {read : List TokenKind → Read A} {k : ℕ} → k ≤ 5 → ExactPhrase Is read k → ((rest : List TokenKind) → read (Mark CloseParenthesis ∷ rest) ≡ None) → ExactPhrase (Listed Is) (listed_at read) 0
 unfolding listed_at separated_at after
 listed_exact {A} {Is} {read} low exact closes = record { sound = sound; again = again; shorter = shorter }
   where
-    list : Exact (Separated (Mark Comma) Is) (separated_at read p.Comma) 6
+    list : ExactPhrase (Separated (Mark Comma) Is) (separated_at read p.Comma) 6
     list = separated_exact p.Comma low exact
 
     sound : (ts : List TokenKind) → Found (Listed Is) ts (listed_at read ts)
     sound ts = listed_sound Is ts (after p.CloseParenthesis ts) (separated_at read p.Comma ts) (after_sound p.CloseParenthesis ts) (list.sound ts)
 
-    again : (xs : List A) (ts rest : List TokenKind) → Listed Is xs ts rest → 0 ≤ binds rest → listed_at read ts ≡ Some (xs, rest)
+    again : (xs : List A) (ts rest : List TokenKind) → Listed Is xs ts rest → 0 ≤ phrase_binds rest → listed_at read ts ≡ Some (xs, rest)
     again xs ts rest empty stop = refl
     again xs ts rest (members h) stop = listed_again read (λ others. rw (closes others) refl) xs ts rest (list.again xs ts (Mark CloseParenthesis ∷ rest) h (omega arith))
 
@@ -227,20 +232,20 @@ whole_step : {A : Type 0} (Is : Phrase A) (ts : List TokenKind) (o : Read A) →
 whole_step Is ts None h = tt
 whole_step Is ts (Some x) h = last_sound Is ts x.0 x.1 h
 
-pub whole_found : {A : Type 0} {Is : Phrase A} {read : List TokenKind → Read A} {k : ℕ} → Exact Is read k → (ts : List TokenKind) (found : Option A) → found ≡ whole_at read ts → IfSome found (λ x. Is x ts [])
+pub whole_found : {A : Type 0} {Is : Phrase A} {read : List TokenKind → Read A} {k : ℕ} → ExactPhrase Is read k → (ts : List TokenKind) (found : Option A) → found ≡ whole_at read ts → IfSome found (λ x. Is x ts [])
 unfolding whole_at
 whole_found {A} {Is} {read} exact ts found e = subst (λ (o : Option A). IfSome o (λ x. Is x ts [])) (sym e) (whole_step Is ts (read ts) (exact.sound ts))
 
-pub whole_none : {A : Type 0} {Is : Phrase A} {read : List TokenKind → Read A} {k : ℕ} → k ≤ 9 → Exact Is read k → (ts : List TokenKind) (found : Option A) → found ≡ whole_at read ts → IfNone found ((x : A) → Is x ts [] → ⊥)
+pub whole_none : {A : Type 0} {Is : Phrase A} {read : List TokenKind → Read A} {k : ℕ} → k ≤ 9 → ExactPhrase Is read k → (ts : List TokenKind) (found : Option A) → found ≡ whole_at read ts → IfNone found ((x : A) → Is x ts [] → ⊥)
 unfolding whole_at
 whole_none {read} low exact ts None e = λ x h. let again = exact.again x ts [] h low in let two : None ≡ Some x = e ∙ rw again refl in absurd cc
 whole_none low exact ts (Some y) e = tt
 
 -- ---- as many as there are
 
--- Each phrase begins with a token that binds at least so loosely.
+-- Each phrase begins with a token that phrase_binds at least so loosely.
 abbrev pub Begins : {A : Type 0} → Phrase A → ℕ → Type 0
-Begins Is k = (x : _) (ts rest : List TokenKind) → Is x ts rest → k ≤ binds ts
+Begins Is k = (x : _) (ts rest : List TokenKind) → Is x ts rest → k ≤ phrase_binds ts
 
 many_step_sound : {A : Type 0} (Is : Phrase A) (o : Read A) (ts : List TokenKind) (go : List TokenKind → Read (List A))
     → Found Is ts o → Sound (Many Is) go → Found (Many Is) ts (many_step o ts (λ x rest. with_first x (go rest)))
@@ -252,16 +257,16 @@ unfolding turns_at
 turns_sound Is read sound zero ts = nothing
 turns_sound Is read sound (suc n) ts = many_step_sound Is (read ts) ts (turns_at read n) (sound ts) (turns_sound Is read sound n)
 
-pub many_sound : {A : Type 0} {Is : Phrase A} {read : List TokenKind → Read A} {k : ℕ} → Exact Is read k → (ts : List TokenKind) → Found (Many Is) ts (many_at read ts)
+pub many_sound : {A : Type 0} {Is : Phrase A} {read : List TokenKind → Read A} {k : ℕ} → ExactPhrase Is read k → (ts : List TokenKind) → Found (Many Is) ts (many_at read ts)
 unfolding many_at
 many_sound {Is} {read} exact ts = turns_sound Is read exact.sound (length ts) ts
 
-many_begins : {A : Type 0} {Is : Phrase A} {k : ℕ} → Begins Is k → (xs : List A) (ts rest : List TokenKind) → Many Is xs ts rest → k ≤ binds rest → k ≤ binds ts
+many_begins : {A : Type 0} {Is : Phrase A} {k : ℕ} → Begins Is k → (xs : List A) (ts rest : List TokenKind) → Many Is xs ts rest → k ≤ phrase_binds rest → k ≤ phrase_binds ts
 many_begins begins xs ts rest nothing low = low
 many_begins begins xs ts rest (further {x} {middle} h hs) low = begins x ts middle h
 
-turns_again : {A : Type 0} {Is : Phrase A} {read : List TokenKind → Read A} {k : ℕ} → Exact Is read k → Begins Is k
-    → (n : ℕ) (xs : List A) (ts rest : List TokenKind) → Many Is xs ts rest → read rest ≡ None → k ≤ binds rest → length ts ≤ n → turns_at read n ts ≡ Some (xs, rest)
+turns_again : {A : Type 0} {Is : Phrase A} {read : List TokenKind → Read A} {k : ℕ} → ExactPhrase Is read k → Begins Is k
+    → (n : ℕ) (xs : List A) (ts rest : List TokenKind) → Many Is xs ts rest → read rest ≡ None → k ≤ phrase_binds rest → length ts ≤ n → turns_at read n ts ≡ Some (xs, rest)
 unfolding turns_at
 turns_again exact begins zero xs ts rest nothing stop low le = refl
 turns_again exact begins (suc n) xs ts rest nothing stop low le = rw stop refl
@@ -271,12 +276,12 @@ turns_again exact begins (suc n) xs ts rest (further {x} {xs = others} {middle} 
     rw (exact.again x ts middle h (many_begins begins others middle rest hs low), turns_again exact begins n others middle rest hs stop low (omega arith)) refl
 
 -- where the tokens behind begin no further one
-pub many_again : {A : Type 0} {Is : Phrase A} {read : List TokenKind → Read A} {k : ℕ} → Exact Is read k → Begins Is k
-    → (xs : List A) (ts rest : List TokenKind) → Many Is xs ts rest → read rest ≡ None → k ≤ binds rest → many_at read ts ≡ Some (xs, rest)
+pub many_again : {A : Type 0} {Is : Phrase A} {read : List TokenKind → Read A} {k : ℕ} → ExactPhrase Is read k → Begins Is k
+    → (xs : List A) (ts rest : List TokenKind) → Many Is xs ts rest → read rest ≡ None → k ≤ phrase_binds rest → many_at read ts ≡ Some (xs, rest)
 unfolding many_at
 many_again exact begins xs ts rest h stop low = turns_again exact begins (length ts) xs ts rest h stop low (omega arith)
 
-pub many_shorter : {A : Type 0} {Is : Phrase A} {read : List TokenKind → Read A} {k : ℕ} → Exact Is read k → (xs : List A) (ts rest : List TokenKind) → Many Is xs ts rest → length rest ≤ length ts
+pub many_shorter : {A : Type 0} {Is : Phrase A} {read : List TokenKind → Read A} {k : ℕ} → ExactPhrase Is read k → (xs : List A) (ts rest : List TokenKind) → Many Is xs ts rest → length rest ≤ length ts
 many_shorter exact xs ts rest nothing = omega arith
 many_shorter exact xs ts rest (further {x} {xs = others} {middle} h hs) =
     let first = exact.shorter x ts middle h in let behind = many_shorter exact others middle rest hs in omega arith
@@ -287,18 +292,18 @@ maybe_step_sound : {A : Type 0} (Is : Phrase A) (o : Read A) (ts : List TokenKin
 maybe_step_sound Is None ts h = left_out
 maybe_step_sound Is (Some x) ts h = written h
 
-pub maybe_sound : {A : Type 0} {Is : Phrase A} {read : List TokenKind → Read A} {k : ℕ} → Exact Is read k → (ts : List TokenKind) → Found (Maybe Is) ts (maybe_at read ts)
+pub maybe_sound : {A : Type 0} {Is : Phrase A} {read : List TokenKind → Read A} {k : ℕ} → ExactPhrase Is read k → (ts : List TokenKind) → Found (Maybe Is) ts (maybe_at read ts)
 unfolding maybe_at
 maybe_sound {Is} {read} exact ts = maybe_step_sound Is (read ts) ts (exact.sound ts)
 
 -- where the tokens behind begin none
-pub maybe_again : {A : Type 0} {Is : Phrase A} {read : List TokenKind → Read A} {k : ℕ} → Exact Is read k
-    → (x : Option A) (ts rest : List TokenKind) → Maybe Is x ts rest → read rest ≡ None → k ≤ binds rest → maybe_at read ts ≡ Some (x, rest)
+pub maybe_again : {A : Type 0} {Is : Phrase A} {read : List TokenKind → Read A} {k : ℕ} → ExactPhrase Is read k
+    → (x : Option A) (ts rest : List TokenKind) → Maybe Is x ts rest → read rest ≡ None → k ≤ phrase_binds rest → maybe_at read ts ≡ Some (x, rest)
 unfolding maybe_at
 maybe_again exact x ts rest left_out stop low = rw stop refl
 maybe_again exact x ts rest (written {x = found} h) stop low = rw (exact.again found ts rest h low) refl
 
-pub maybe_shorter : {A : Type 0} {Is : Phrase A} {read : List TokenKind → Read A} {k : ℕ} → Exact Is read k → (x : Option A) (ts rest : List TokenKind) → Maybe Is x ts rest → length rest ≤ length ts
+pub maybe_shorter : {A : Type 0} {Is : Phrase A} {read : List TokenKind → Read A} {k : ℕ} → ExactPhrase Is read k → (x : Option A) (ts rest : List TokenKind) → Maybe Is x ts rest → length rest ≤ length ts
 maybe_shorter exact x ts rest left_out = omega arith
 maybe_shorter exact x ts rest (written {x = found} h) = let less = exact.shorter found ts rest h in omega arith
 
@@ -311,7 +316,7 @@ unfolding optional_at
 optional_sound s ts = optional_step_sound s ts (after s ts) (after_sound s ts)
 
 -- where the tokens behind do not begin with the mark
-pub optional_again : (s : Punctuation) (ts rest : List TokenKind) → Optional (mark_of s) ts rest → level s < binds rest → optional_at s ts ≡ rest
+pub optional_again : (s : Punctuation) (ts rest : List TokenKind) → Optional (mark_of s) ts rest → level s < phrase_binds rest → optional_at s ts ≡ rest
 unfolding optional_at
 optional_again s ts rest absent low = rw (after_none s rest low) refl
 optional_again s ts rest present low = rw (after_again s rest) refl

@@ -1,13 +1,8 @@
 -- The loops over the members of a list.
-use Rattle.drl_phrase.proofs.Common.{◌≡◌, ℕ, zero, suc, ◌-◌, ◌+◌, ◌<◌, ◌≤◌, List, [], ◌∷◌, ◌++◌, length, Option, Some, None, option_map, refl, sym, ap, ◌∙◌, append_assoc, arith, TokenKind, Read, Punctuation, after, with_first, with_front}
+use Rattle.drl_phrase.proofs.Common.{◌≡◌, ℕ, zero, suc, ◌-◌, ◌+◌, ◌<◌, ◌≤◌, List, [], ◌∷◌, ◌++◌, length, Some, None, refl, sym, ap, ◌∙◌, append_assoc, arith}
+use Rattle.drl_phrase.proofs.Common.{TokenKind, Read, Punctuation, after, with_first, with_front}
 use Rattle.std.proofs.lemmas.List.{append-nil}
 use Rattle.drl_phrase.specs.Reading.{more_at, separated_at, turns_at, many_at}
-
-pub seen : {B C : Type 0} (o : Option B) (view : B → C) (read : Option C) (found : B) → option_map view o ≡ read → o ≡ Some found → read ≡ Some (view found)
-seen o view read found e is = sym e ∙ ap (option_map view) is
-
-pub seen_none : {B C : Type 0} (o : Option B) (view : B → C) (read : Option C) → option_map view o ≡ read → o ≡ None → read ≡ None
-seen_none o view read e is = sym e ∙ ap (option_map view) is
 
 nothing_before : {A : Type 0} (o : Read (List A)) → with_front [] o ≡ o
 nothing_before None = refl

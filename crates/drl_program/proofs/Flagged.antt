@@ -1,8 +1,12 @@
 -- A type is flagged as observed exactly where a condition of the program observes its place.
-use Rattle.drl_program.proofs.Common.{◌≡◌, ◌≤◌, ◌<◌, ◌+◌, ◌&&◌, ◌||◌, ◌∷◌, ◌==◌, ℕ, zero, suc, min, Bool, true, false, not, List, [], map, length, slice_get, Option, Some, None, is_some, option_map, cond, refl, sym, ap, subst, ◌∙◌, arith, list_any, list_all, flat_map, option_and_then, TypeTree, types_of, rules_of, place_of, begin, behind, observed_by, observed_names, type_info, rule_of, length-map, list_any-append, type_names, type_named, is_among, Place, has_type, has_types, OneForEach, ObservedAreFlagged, has_length, type_place, window_of, condition_of}
+use Rattle.drl_program.proofs.Common.{◌≡◌, ◌≤◌, ◌<◌, ◌+◌, ◌&&◌, ◌||◌, ◌∷◌, ◌==◌, ℕ, zero, suc, min, Bool, true, false, not, List, [], map, length, slice_get}
+use Rattle.drl_program.proofs.Common.{Option, Some, None, is_some, option_map, cond, refl, sym, ap, subst, ◌∙◌, arith, list_any, list_all, flat_map}
+use Rattle.drl_program.proofs.Common.{option_and_then, TypeTree, types_of, rules_of, place_of_name, begin, behind, observed_by, observed_names, type_info}
+use Rattle.drl_program.proofs.Common.{rule_of, length-map, list_any-append, type_names, type_tree_named, is_among, Place, has_type, has_types, OneForEach}
+use Rattle.drl_program.proofs.Common.{ObservedAreFlagged, has_length, type_place, window_meant, condition_meant}
+use Rattle.std.proofs.lemmas.Bool.{eq-eqb, eqb-true, not-true}
 use Rattle.std.specs.Str.{bytes_eq}
 use Rattle.std.specs.Cmp.Lexicographic.{bytes_decides}
-use Rattle.std.proofs.lemmas.Bool.Decides.{nat_tests}
 use Rattle.std.proofs.lemmas.Option.{slice_get-map, slice_get_within}
 use Rattle.drl_grammar.specs.declared.condition.CondTree.{CondTree}
 use Rattle.drl_grammar.specs.declared.condition.CondTree.TheVariants as tree
@@ -15,12 +19,13 @@ use Rattle.drl_sight.specs.Names.{are_distinct, place_from}
 use Rattle.rule_model.specs.declared.program.TypeInfo.{TypeInfo}
 use Rattle.rule_model.specs.Simple.{is_length, observes_type, is_observed_in}
 use Rattle.rule_model.specs.Types.{is_event_type, is_event, is_observed_type, is_observed}
-use Rattle.drl_program.specs.Programs.{conditions_of}
+use Rattle.drl_program.specs.Programs.{conditions_meant}
+use Rattle.fx_base.proofs.Tests.{and_first, and_second, or_first_false, or_second_false}
 
 -- ---- one condition for each
 
 pub one_for_each : OneForEach
-unfolding conditions_of
+unfolding conditions_meant
 one_for_each types entries place [] = refl
 one_for_each types entries place (c ∷ cs) = ap suc (one_for_each types entries (behind types place c) cs)
 
@@ -32,38 +37,12 @@ same_name a b e = (bytes_decides a b).0 e
 abbrev equal_names : (a b : List ℕ) → a ≡ b → bytes_eq a b ≡ true
 equal_names a b e = (bytes_decides a b).1 e
 
-same_number : (a b : ℕ) → (a == b) ≡ true → a ≡ b
-same_number a b e = grind (arith, nat_tests)
-
-equal_numbers : (a b : ℕ) → a ≡ b → (a == b) ≡ true
-equal_numbers a b e = grind (arith, nat_tests)
-
-and_left : (a b : Bool) → (a && b) ≡ true → a ≡ true
-and_left true b e = refl
-and_left false b e = absurd cc
-
-and_right : (a b : Bool) → (a && b) ≡ true → b ≡ true
-and_right true b e = e
-and_right false b e = absurd cc
-
-not_true : (a : Bool) → not a ≡ true → a ≡ false
-not_true false e = refl
-not_true true e = absurd cc
-
-or_left : (a b : Bool) → (a || b) ≡ false → a ≡ false
-or_left false b e = refl
-or_left true b e = absurd cc
-
-or_right : (a b : Bool) → (a || b) ≡ false → b ≡ false
-or_right false b e = e
-or_right true b e = absurd cc
-
 -- a name at a place is among the names
 not_there : (names : List (List ℕ)) (name other : List ℕ) (j : ℕ) → is_among names name ≡ false → slice_get names j ≡ Some other → bytes_eq name other ≡ false
 not_there [] name other j e h = absurd cc
 not_there (first ∷ names) name other zero e h =
-    let same : first ≡ other = cc in subst (λ (x : List ℕ). bytes_eq name x ≡ false) same (or_left (bytes_eq name first) (is_among names name) e)
-not_there (first ∷ names) name other (suc j) e h = not_there names name other j (or_right (bytes_eq name first) (is_among names name) e) h
+    let same : first ≡ other = cc in subst (λ (x : List ℕ). bytes_eq name x ≡ false) same (or_first_false (bytes_eq name first) (is_among names name) e)
+not_there (first ∷ names) name other (suc j) e h = not_there names name other j (or_second_false (bytes_eq name first) (is_among names name) e) h
 
 -- the place of a name that stands once is where it stands
 placed_where : (i : ℕ) (names : List (List ℕ)) (name : List ℕ) (j : ℕ) → are_distinct names ≡ true → slice_get names j ≡ Some name → place_from i names name ≡ Some (i + j)
@@ -74,9 +53,9 @@ placed_where i (first ∷ names) name zero d h =
     let here : i ≡ i + 0 = omega arith in
     rw (equal_names first name same) (ap Some here)
 placed_where i (first ∷ names) name (suc j) d h =
-    let apart = not_there names first name j (not_true (is_among names first) (and_left (not (is_among names first)) (are_distinct names) d)) h in
+    let apart = not_there names first name j (not-true (is_among names first) (and_first (not (is_among names first)) (are_distinct names) d)) h in
     let there : i + 1 + j ≡ i + suc j = omega arith in
-    rw apart (placed_where (i + 1) names name j (and_right (not (is_among names first)) (are_distinct names) d) h ∙ ap Some there)
+    rw apart (placed_where (i + 1) names name j (and_second (not (is_among names first)) (are_distinct names) d) h ∙ ap Some there)
 
 -- what has a place stands there
 stands_there : (i : ℕ) (names : List (List ℕ)) (name : List ℕ) (k : ℕ) → place_from i names name ≡ Some k → (j : ℕ) × (k ≡ i + j) × (slice_get names j ≡ Some name)
@@ -96,7 +75,7 @@ stands_there i (first ∷ names) name k e = by (bytes_eq first name) refl e (sta
 
 module _ (types : List TypeTree) (few : length types ≤ 65536) (once : are_distinct (type_names types) ≡ true) (entries : List (List ℕ)) where
   -- a name that is declared has the place of the type of this name
-  same_type_by : (t : TypeTree) (ty : ℕ) (name : List ℕ) (o : Option ℕ) → slice_get types ty ≡ Some t → place_of (type_names types) name ≡ o
+  same_type_by : (t : TypeTree) (ty : ℕ) (name : List ℕ) (o : Option ℕ) → slice_get types ty ≡ Some t → place_of_name (type_names types) name ≡ o
       → is_some (option_and_then (λ k. slice_get types k) o) ≡ true → bytes_eq t.name name ≡ (type_place o == ty)
   same_type_by t ty name None stood e d = absurd cc
   same_type_by t ty name (Some k) stood e d = by (bytes_eq t.name name) (min k 65535 == ty) refl refl
@@ -133,19 +112,19 @@ module _ (types : List TypeTree) (few : length types ≤ 65536) (once : are_dist
       by true true h g = refl
       by false false h g = refl
       by true false h g =
-          let equal : (min k 65535 == ty) ≡ true = equal_numbers (min k 65535) ty (whole ∙ at_own (same_name t.name name h)) in
+          let equal : (min k 65535 == ty) ≡ true = eq-eqb (min k 65535) ty (whole ∙ at_own (same_name t.name name h)) in
           absurd cc
       by false true h g =
-          let equal : bytes_eq t.name name ≡ true = equal_names t.name name (own_at (sym whole ∙ same_number (min k 65535) ty g)) in
+          let equal : bytes_eq t.name name ≡ true = equal_names t.name name (own_at (sym whole ∙ eqb-true (min k 65535) ty g)) in
           absurd cc
 
-  same_type : (t : TypeTree) (ty : ℕ) (name : List ℕ) → slice_get types ty ≡ Some t → is_some (type_named types name) ≡ true
-      → bytes_eq t.name name ≡ (type_place (place_of (type_names types) name) == ty)
-  same_type t ty name stood d = same_type_by t ty name (place_of (type_names types) name) stood refl d
+  same_type : (t : TypeTree) (ty : ℕ) (name : List ℕ) → slice_get types ty ≡ Some t → is_some (type_tree_named types name) ≡ true
+      → bytes_eq t.name name ≡ (type_place (place_of_name (type_names types) name) == ty)
+  same_type t ty name stood d = same_type_by t ty name (place_of_name (type_names types) name) stood refl d
 
   -- ---- conditions
 
-  same_length : (w : Option WindowTree) → is_length (window_of w) ≡ has_length w
+  same_length : (w : Option WindowTree) → is_length (window_meant w) ≡ has_length w
   same_length None = refl
   same_length (Some (window.Time span)) = refl
   same_length (Some (window.Length count)) = refl
@@ -158,11 +137,11 @@ module _ (types : List TypeTree) (few : length types ≤ 65536) (once : are_dist
     if_observing true false q name e h = absurd cc
     if_observing false true q name e h = absurd cc
 
-    condition_observes : (place : Place) (c : CondTree) → has_type types c ≡ true → list_any (bytes_eq t.name) (observed_by c) ≡ observes_type ty (condition_of types entries place c)
-    condition_observes place (tree.Plain s) d = if_observing (has_length s.window) (is_length (window_of s.window)) (type_place (place_of (type_names types) s.ty) == ty) s.ty (same_type t ty s.ty stood d) (same_length s.window)
-    condition_observes place (tree.Negated s) d = if_observing true true (type_place (place_of (type_names types) s.ty) == ty) s.ty (same_type t ty s.ty stood d) refl
-    condition_observes place (tree.Existing s) d = if_observing true true (type_place (place_of (type_names types) s.ty) == ty) s.ty (same_type t ty s.ty stood d) refl
-    condition_observes place (tree.Folded result s kind arg tests) d = if_observing true true (type_place (place_of (type_names types) s.ty) == ty) s.ty (same_type t ty s.ty stood d) refl
+    condition_observes : (place : Place) (c : CondTree) → has_type types c ≡ true → list_any (bytes_eq t.name) (observed_by c) ≡ observes_type ty (condition_meant types entries place c)
+    condition_observes place (tree.Plain s) d = if_observing (has_length s.window) (is_length (window_meant s.window)) (type_place (place_of_name (type_names types) s.ty) == ty) s.ty (same_type t ty s.ty stood d) (same_length s.window)
+    condition_observes place (tree.Negated s) d = if_observing true true (type_place (place_of_name (type_names types) s.ty) == ty) s.ty (same_type t ty s.ty stood d) refl
+    condition_observes place (tree.Existing s) d = if_observing true true (type_place (place_of_name (type_names types) s.ty) == ty) s.ty (same_type t ty s.ty stood d) refl
+    condition_observes place (tree.Folded result s kind arg tests) d = if_observing true true (type_place (place_of_name (type_names types) s.ty) == ty) s.ty (same_type t ty s.ty stood d) refl
 
     either : (a b c d : Bool) → a ≡ c → b ≡ d → (a || b) ≡ (c || d)
     either true b true d e h = refl
@@ -170,15 +149,15 @@ module _ (types : List TypeTree) (few : length types ≤ 65536) (once : are_dist
     either true b false d e h = absurd cc
     either false b true d e h = absurd cc
 
-    conditions_observe : (place : Place) (cs : List CondTree) → list_all (has_type types) cs ≡ true → list_any (bytes_eq t.name) (flat_map observed_by cs) ≡ list_any (observes_type ty) (conditions_of types entries place cs)
-    unfolding conditions_of
+    conditions_observe : (place : Place) (cs : List CondTree) → list_all (has_type types) cs ≡ true → list_any (bytes_eq t.name) (flat_map observed_by cs) ≡ list_any (observes_type ty) (conditions_meant types entries place cs)
+    unfolding conditions_meant
     conditions_observe place [] d = refl
     conditions_observe place (c ∷ cs) d =
         let here = has_type types c in
         let rest = list_all (has_type types) cs in
         list_any-append (bytes_eq t.name) (observed_by c) (flat_map observed_by cs)
-        ∙ either (list_any (bytes_eq t.name) (observed_by c)) (list_any (bytes_eq t.name) (flat_map observed_by cs)) (observes_type ty (condition_of types entries place c)) (list_any (observes_type ty) (conditions_of types entries (behind types place c) cs))
-        (condition_observes place c (and_left here rest d)) (conditions_observe (behind types place c) cs (and_right here rest d))
+        ∙ either (list_any (bytes_eq t.name) (observed_by c)) (list_any (bytes_eq t.name) (flat_map observed_by cs)) (observes_type ty (condition_meant types entries place c)) (list_any (observes_type ty) (conditions_meant types entries (behind types place c) cs))
+        (condition_observes place c (and_first here rest d)) (conditions_observe (behind types place c) cs (and_second here rest d))
 
     pub rules_observe : (rules : List RuleTree) → list_all (has_types types) rules ≡ true → is_among (observed_names rules) t.name ≡ is_observed_in (map (rule_of types entries) rules) ty
     rules_observe [] d = refl
@@ -187,14 +166,14 @@ module _ (types : List TypeTree) (few : length types ≤ 65536) (once : are_dist
         let rest = list_all (has_types types) rules in
         list_any-append (bytes_eq t.name) (flat_map observed_by r.conditions) (observed_names rules)
         ∙ either (list_any (bytes_eq t.name) (flat_map observed_by r.conditions)) (is_among (observed_names rules) t.name) (list_any (observes_type ty) (rule_of types entries r).conditions) (is_observed_in (map (rule_of types entries) rules) ty)
-        (conditions_observe begin r.conditions (and_left here rest d)) (rules_observe rules (and_right here rest d))
+        (conditions_observe begin r.conditions (and_first here rest d)) (rules_observe rules (and_second here rest d))
 
 -- ---- the law
 
 flagged_by : (observed : List (List ℕ)) (o : Option TypeTree) (b : Bool) → ((t : TypeTree) → o ≡ Some t → is_among observed t.name ≡ b)
     → is_observed_type (option_map (type_info observed) o) ≡ (is_event_type (option_map (type_info observed) o) && b)
 flagged_by observed None b h = refl
-flagged_by observed (Some t) b h = ap (λ x. annotations.is_event t && x) (h t refl)
+flagged_by observed (Some t) b h = ap (λ x. annotations.is_tree_of_events t && x) (h t refl)
 
 pub observed_are_flagged : ObservedAreFlagged
 unfolding is_observed is_event

@@ -1,5 +1,6 @@
 -- A list that a loop makes item by item: what is made so far, and what is to be made of the rest, are all of it.
-use Rattle.drl_program.proofs.Common.{◌≡◌, ◌+◌, ◌<◌, ◌≤◌, ◌++◌, ◌∷◌, ℕ, Bool, true, false, List, [], length, map, get_or, drop, refl, sym, ap, ◌∙◌, append_assoc, filter, flat_map, at_drop_more, at_drop_all, append-nil}
+use Rattle.drl_program.proofs.Common.{◌≡◌, ◌+◌, ◌<◌, ◌≤◌, ◌++◌, ◌∷◌, ℕ, Bool, true, false, List, [], length, map, get_or, drop, refl, sym, ap, ◌∙◌}
+use Rattle.drl_program.proofs.Common.{append_assoc, filter, flat_map, at_drop_more, at_drop_all, append-nil}
 
 -- one turn adds what the next item makes
 pub one_more : {A B : Type 0} (of : List A → List B) (xs : List A) (k : ℕ) (x : A) (made more now all : List B)

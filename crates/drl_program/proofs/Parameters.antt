@@ -1,5 +1,6 @@
 -- What a word with its parameters gives, by the answers of the table's own function.
-use Rattle.drl_program.proofs.Common.{◌≡◌, ◌&&◌, ◌||◌, ◌<ℤ◌, ℤ, pos, neg_ℤ, ◌^◌, Bool, true, false, not, List, Option, Some, None, cond, refl, sym, subst, arith, IfSome, list_all, list_any, OpEdge, IsOp, operator_of, All, Any-from_list_any, list_any-from_Any, IsWithin, is_negative}
+use Rattle.drl_program.proofs.Common.{◌≡◌, ◌&&◌, ◌||◌, ◌<ℤ◌, ℤ, pos, neg_ℤ, ◌^◌, Bool, true, false, not, List, Option, Some, None, cond, refl, sym, subst}
+use Rattle.drl_program.proofs.Common.{arith, IfSome, list_all, list_any, OpEdge, IsOp, operator_of, All, Any-from_list_any, IsWithin, is_negative}
 use Rattle.std.specs.Prelude.{Any, int_le, int_lt}
 use Rattle.std.proofs.lemmas.Int.{ints}
 use Rattle.std.proofs.lemmas.List.Elements.{All-weaker}
@@ -7,7 +8,7 @@ use Rattle.std.proofs.lemmas.List.Sums.{AllPass-from_list_all}
 use Rattle.temporal_ops.specs.declared.word.OpWord.{OpWord}
 use Rattle.temporal_ops.specs.Laws.{Means}
 use Rattle.temporal_ops.specs.Operators.{edges_of}
-use Rattle.temporal_ops.specs.Table.{Row, says, no_row, row_of, takes_negative, HasRow}
+use Rattle.temporal_ops.specs.Table.{Row, says, no_row, table_row_of, takes_negative, HasRow}
 use Rattle.temporal_ops.proofs.Ops.{edges_are_ops}
 use Rattle.temporal_ops.proofs.Rows.{edges_mean_rows}
 use Rattle.drl_program.specs.Operators.{is_span}
@@ -50,14 +51,14 @@ no_edges (Some edges) row h k = absurd (k (has_row edges row h))
 -- ---- the three answers
 
 abbrev Refused : OpWord → List ℤ → Type 0
-Refused word params = HasRow (row_of word params) × (takes_negative word ≡ false) × Any (λ p. p <ℤ pos 0) params
+Refused word params = HasRow (table_row_of word params) × (takes_negative word ≡ false) × Any (λ p. p <ℤ pos 0) params
 
 pub operator_found : (word : OpWord) (params : List ℤ) (op : List OpEdge) → list_all is_span params ≡ true → edges_of word params ≡ Some op
     → (Refused word params → ⊥) → Some op ≡ operator_of word params
 operator_found word params op e h k = by (takes_negative word) (list_any is_negative params) refl refl
   where
-    row : HasRow (row_of word params)
-    row = has_row op (row_of word params) (subst (λ (o : Option (List OpEdge)). Means o (row_of word params)) h (edges_mean_rows word params))
+    row : HasRow (table_row_of word params)
+    row = has_row op (table_row_of word params) (subst (λ (o : Option (List OpEdge)). Means o (table_row_of word params)) h (edges_mean_rows word params))
 
     by : (a b : Bool) → takes_negative word ≡ a → list_any is_negative params ≡ b → Some op ≡ operator_of word params
     by true b t n = rw e (rw t (sym h))
@@ -65,9 +66,9 @@ operator_found word params op e h k = by (takes_negative word) (list_any is_nega
     by false true t n = absurd (k (row, t, some_below params n))
 
 -- one of the two conditions fails, or the table has no edges
-pub operator_counted : (word : OpWord) (params : List ℤ) → (HasRow (row_of word params) → ⊥) → None ≡ operator_of word params
+pub operator_counted : (word : OpWord) (params : List ℤ) → (HasRow (table_row_of word params) → ⊥) → None ≡ operator_of word params
 operator_counted word params k =
-    by (list_all is_span params && (takes_negative word || not (list_any is_negative params))) (no_edges (edges_of word params) (row_of word params) (edges_mean_rows word params) k)
+    by (list_all is_span params && (takes_negative word || not (list_any is_negative params))) (no_edges (edges_of word params) (table_row_of word params) (edges_mean_rows word params) k)
   where
     by : (b : Bool) → edges_of word params ≡ None → None ≡ cond b (edges_of word params) None
     by true e = sym e

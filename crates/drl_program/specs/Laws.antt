@@ -5,18 +5,18 @@ use Rattle.drl_grammar.specs.declared.condition.CondTree.{CondTree}
 use Rattle.drl_grammar.specs.declared.file.File.{File}
 use Rattle.drl_grammar.specs.declared.file.RuleTree.{RuleTree}
 use Rattle.drl_grammar.specs.declared.file.TypeTree.{TypeTree}
-use Rattle.drl_sight.specs.Declarations.{types_of, rules_of, type_names, type_named}
+use Rattle.drl_sight.specs.Declarations.{types_of, rules_of, type_names, type_tree_named}
 use Rattle.drl_sight.specs.EntryPoints.{source_of}
 use Rattle.drl_sight.specs.Names.{are_distinct}
 use Rattle.drl_sight.specs.Sight.{Place}
 use Rattle.rule_model.specs.Rows.{HaveOperators}
 use Rattle.rule_model.specs.Simple.{is_observed_in}
 use Rattle.rule_model.specs.Types.{is_event, is_observed}
-use Rattle.drl_program.specs.Programs.{conditions_of, program_of}
+use Rattle.drl_program.specs.Programs.{conditions_meant, program_of}
 
 -- the type of the pattern is declared
 abbrev pub has_type : List TypeTree → CondTree → Bool
-has_type types c = is_some (type_named types (source_of c).ty)
+has_type types c = is_some (type_tree_named types (source_of c).ty)
 
 abbrev pub has_types : List TypeTree → RuleTree → Bool
 has_types types r = list_all (has_type types) r.conditions
@@ -24,12 +24,12 @@ has_types types r = list_all (has_type types) r.conditions
 -- each condition of a rule is one of the program
 abbrev pub OneForEach : Type 0
 OneForEach = (types : List TypeTree) (entries : List (List ℕ)) (place : Place) (cs : List CondTree)
-    → length (conditions_of types entries place cs) ≡ length cs
+    → length (conditions_meant types entries place cs) ≡ length cs
 
 -- each temporal test of the program has the edges of an operator
 abbrev pub EachHasOperator : Type 0
 EachHasOperator = (types : List TypeTree) (entries : List (List ℕ)) (place : Place) (cs : List CondTree)
-    → HaveOperators (conditions_of types entries place cs)
+    → HaveOperators (conditions_meant types entries place cs)
 
 -- Where each type is declared once, and each pattern names a declared type, as in every accepted file, a type is flagged as observed
 -- exactly where it is one of events and some condition of the program observes its facts.

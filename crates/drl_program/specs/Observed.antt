@@ -7,9 +7,9 @@ use Rattle.drl_grammar.specs.declared.condition.WindowTree.{WindowTree}
 use Rattle.drl_grammar.specs.declared.condition.WindowTree.TheVariants as window
 use Rattle.drl_grammar.specs.declared.file.RuleTree.{RuleTree}
 use Rattle.drl_grammar.specs.declared.file.TypeTree.{TypeTree}
-use Rattle.drl_sight.specs.Annotations.{is_event}
+use Rattle.drl_sight.specs.Annotations.{is_tree_of_events}
 use Rattle.drl_sight.specs.EntryPoints.{source_of}
-use Rattle.drl_sight.specs.Names.{is_among}
+use Rattle.drl_expr.specs.Words.{is_among}
 
 abbrev pub has_length : Option WindowTree → Bool
 has_length None = false
@@ -32,4 +32,4 @@ observed_names rules = flat_map (λ (r : RuleTree). flat_map observed_by r.condi
 
 -- an event type that is observed, given these names
 abbrev pub is_observed_event : List (List ℕ) → TypeTree → Bool
-is_observed_event names t = is_event t && is_among names t.name
+is_observed_event names t = is_tree_of_events t && is_among names t.name

@@ -59,9 +59,9 @@ use Rattle.rule_model.specs.declared.test.Side.{Side}
 use Rattle.rule_model.specs.declared.test.Side.TheVariants.{Lit, Own, Of, Result}
 use Rattle.rule_model.specs.declared.test.TimeTest.{TimeTest}
 use Rattle.rule_model.specs.declared.test.ResultTest.{ResultTest}
-use Rattle.drl_sight.specs.Names.{place_of}
-use Rattle.drl_sight.specs.Declarations.{types_of, rules_of, type_names, field_names, type_named, kind_of}
-use Rattle.drl_sight.specs.Annotations.{is_event, timestamp_of, duration_of, expiry_of, reference_of}
+use Rattle.drl_sight.specs.Names.{place_of_name}
+use Rattle.drl_sight.specs.Declarations.{types_of, rules_of, type_names, field_names, type_tree_named, kind_by_word}
+use Rattle.drl_sight.specs.Annotations.{is_tree_of_events, timestamp_of, duration_field_of, declared_expiry, reference_of}
 use Rattle.drl_sight.specs.EntryPoints.{entry_names, lateness_named}
 use Rattle.drl_sight.specs.Sight.{Sight, Meaning, of_fact, of_field, of_result, meaning_of, Place, begin, behind, sight_of_actions}
 use Rattle.drl_sight.specs.Operands.{any_of_part}
@@ -78,7 +78,7 @@ type_place None = 0
 type_place (Some k) = min k 65535
 
 abbrev pub field_place : TypeTree → List ℕ → ℕ
-field_place t f = small_place (place_of (field_names t) f)
+field_place t f = small_place (place_of_name (field_names t) f)
 
 -- ---- types
 
@@ -88,18 +88,18 @@ kind_or_int None = kind.Int
 kind_or_int (Some k) = k
 
 abbrev pub field_info : List ℕ × List ℕ → List ℕ × Kind
-field_info field = (field.0, kind_or_int (kind_of field.1))
+field_info field = (field.0, kind_or_int (kind_by_word field.1))
 
 -- given the names of the types that the rules of the file observe
 abbrev pub type_info : List (List ℕ) → TypeTree → TypeInfo
 type_info observed t = record {
   name = t.name;
-  event = is_event t;
+  event = is_tree_of_events t;
   reference = reference_of t.metas;
   fields = map field_info t.fields;
   timestamp = option_map (field_place t) (timestamp_of t.metas);
-  duration = option_map (field_place t) (duration_of t.metas);
-  expires = expiry_of t.metas;
+  duration = option_map (field_place t) (duration_field_of t.metas);
+  expires = declared_expiry t.metas;
   observed = is_observed_event observed t;
 }
 
@@ -111,7 +111,7 @@ entry_info items name = record { name = name; lateness = lateness_named items na
 -- the place of the entry point that a pattern names; without a name it is the default one
 abbrev pub entry_place : List (List ℕ) → Option (List ℕ) → ℕ
 entry_place entries None = 0
-entry_place entries (Some name) = type_place (place_of entries name)
+entry_place entries (Some name) = type_place (place_of_name entries name)
 
 -- ---- tests
 
@@ -196,21 +196,21 @@ time_test fact None = []
 time_test fact (Some op) = record { op = op; fact = fact } ∷ []
 
 -- the temporal test that a part is, where it is one
-abbrev pub times_in : Sight → Part → List TimeTest
-times_in sight (part.Bind v f) = []
-times_in sight (part.Temporal word params other) = time_test (fact_meant (meaning_of sight other)) (operator_of word params)
-times_in sight (part.AnyOf groups) = []
+abbrev pub time_tests_in : Sight → Part → List TimeTest
+time_tests_in sight (part.Bind v f) = []
+time_tests_in sight (part.Temporal word params other) = time_test (fact_meant (meaning_of sight other)) (operator_of word params)
+time_tests_in sight (part.AnyOf groups) = []
 
 -- ---- windows; a count below 0, which no accepted file has, counts as 0
 
-abbrev pub count_of : ℤ → ℕ
-count_of (pos n) = n
-count_of (negsuc n) = 0
+abbrev pub count_meant : ℤ → ℕ
+count_meant (pos n) = n
+count_meant (negsuc n) = 0
 
-abbrev pub window_of : Option WindowTree → WindowTag
-window_of None = Whole
-window_of (Some (window.Time span)) = Time span
-window_of (Some (window.Length count)) = Length (count_of count)
+abbrev pub window_meant : Option WindowTree → WindowTag
+window_meant None = Whole
+window_meant (Some (window.Time span)) = Time span
+window_meant (Some (window.Length count)) = Length (count_meant count)
 
 -- ---- accumulates
 
@@ -234,8 +234,8 @@ field_bound v (p ∷ parts) = field_bound_with v p (field_bound v parts)
 -- The place of the field whose values a function takes: that to which its own pattern binds the variable, for a count too. The variable
 -- of the fact itself has none, and neither has what no accepted file has: a variable that is not bound there, or a field that is not
 -- declared.
-abbrev pub argument_of : TypeTree → SourceTree → List ℕ → Option ℕ
-argument_of t s v = option_map (λ k. min k 255) (option_and_then (place_of (field_names t)) (field_bound v s.parts))
+abbrev pub argument_place : TypeTree → SourceTree → List ℕ → Option ℕ
+argument_place t s v = option_map (λ k. min k 255) (option_and_then (place_of_name (field_names t)) (field_bound v s.parts))
 
 -- what a result is compared with; it has no fields, so that one, which no accepted file has, counts as 0
 abbrev pub result_side : Sight → Operand → Side
@@ -253,37 +253,37 @@ abbrev pub pattern_in : TypeTree → ℕ → ℕ → Sight → SourceTree → Pa
 pattern_in t ty entry sight s = record {
   ty = record { 0 = ty };
   entry = record { 0 = entry };
-  window = window_of s.window;
+  window = window_meant s.window;
   alone = flat_map (tests_in t sight) (filter is_constant s.parts);
   joined = flat_map (tests_in t sight) (filter is_joined s.parts);
-  times = flat_map (times_in sight) s.parts;
+  times = flat_map (time_tests_in sight) s.parts;
 }
 
 abbrev pub type_or_none : Option TypeTree → TypeTree
 type_or_none None = no_type
 type_or_none (Some t) = t
 
-abbrev pub pattern_of : List TypeTree → List (List ℕ) → Sight → SourceTree → Pattern
-pattern_of types entries sight s =
-    pattern_in (type_or_none (type_named types s.ty)) (type_place (place_of (type_names types) s.ty)) (entry_place entries s.entry) sight s
+abbrev pub pattern_meant : List TypeTree → List (List ℕ) → Sight → SourceTree → Pattern
+pattern_meant types entries sight s =
+    pattern_in (type_or_none (type_tree_named types s.ty)) (type_place (place_of_name (type_names types) s.ty)) (entry_place entries s.entry) sight s
 
 abbrev pub accumulate_of : List TypeTree → List (List ℕ) → Sight → SourceTree → FoldWord → List ℕ → List (Rel × Operand) → Accumulate
 accumulate_of types entries sight s kind arg tests = record {
-  pattern = pattern_of types entries sight s;
+  pattern = pattern_meant types entries sight s;
   kind = fold_kind kind;
-  arg = argument_of (type_or_none (type_named types s.ty)) s arg;
+  arg = argument_place (type_or_none (type_tree_named types s.ty)) s arg;
   tests = map (result_test sight) tests;
 }
 
-abbrev pub condition_of : List TypeTree → List (List ℕ) → Place → CondTree → Condition
-condition_of types entries place (tree.Plain s) = Plain (pattern_of types entries place.sight s)
-condition_of types entries place (tree.Negated s) = Negated (pattern_of types entries place.sight s)
-condition_of types entries place (tree.Existing s) = Existing (pattern_of types entries place.sight s)
-condition_of types entries place (tree.Folded result s kind arg tests) = Folded (accumulate_of types entries place.sight s kind arg tests)
+abbrev pub condition_meant : List TypeTree → List (List ℕ) → Place → CondTree → Condition
+condition_meant types entries place (tree.Plain s) = Plain (pattern_meant types entries place.sight s)
+condition_meant types entries place (tree.Negated s) = Negated (pattern_meant types entries place.sight s)
+condition_meant types entries place (tree.Existing s) = Existing (pattern_meant types entries place.sight s)
+condition_meant types entries place (tree.Folded result s kind arg tests) = Folded (accumulate_of types entries place.sight s kind arg tests)
 
-unfoldable pub conditions_of : List TypeTree → List (List ℕ) → Place → List CondTree → List Condition
-conditions_of types entries place [] = []
-conditions_of types entries place (c ∷ cs) = condition_of types entries place c ∷ conditions_of types entries (behind types place c) cs
+unfoldable pub conditions_meant : List TypeTree → List (List ℕ) → Place → List CondTree → List Condition
+conditions_meant types entries place [] = []
+conditions_meant types entries place (c ∷ cs) = condition_meant types entries place c ∷ conditions_meant types entries (behind types place c) cs
 
 -- ---- actions, given what is in sight behind all conditions
 
@@ -314,7 +314,7 @@ abbrev pub set_in : TypeTree → Sight → List ℕ × Tree → ℕ × Expressio
 set_in t sight set = (field_place t set.0, expression_in sight set.1)
 
 abbrev pub action_of : List TypeTree → Sight → ActTree → Action
-action_of types sight (act.Insert ty args) = Insert (record { 0 = type_place (place_of (type_names types) ty) }) (map (expression_in sight) args)
+action_of types sight (act.Insert ty args) = Insert (record { 0 = type_place (place_of_name (type_names types) ty) }) (map (expression_in sight) args)
 action_of types sight (act.Modify v sets) = Modify (fact_meant (meaning_of sight v)) (map (set_in (type_meant (meaning_of sight v)) sight) sets)
 action_of types sight (act.Retract v) = Retract (fact_meant (meaning_of sight v))
 
@@ -323,15 +323,15 @@ abbrev pub salience_with : Attr → ℤ → ℤ
 salience_with (attr.Salience n) others = n
 salience_with (attr.Dialect s) others = others
 
-abbrev pub salience_of : List Attr → ℤ
-salience_of [] = pos 0
-salience_of (a ∷ attrs) = salience_with a (salience_of attrs)
+abbrev pub salience_meant : List Attr → ℤ
+salience_meant [] = pos 0
+salience_meant (a ∷ attrs) = salience_with a (salience_meant attrs)
 
 abbrev pub rule_of : List TypeTree → List (List ℕ) → RuleTree → Rule
 rule_of types entries r = record {
   name = r.name;
-  salience = salience_of r.attrs;
-  conditions = conditions_of types entries begin r.conditions;
+  salience = salience_meant r.attrs;
+  conditions = conditions_meant types entries begin r.conditions;
   actions = map (action_of types (sight_of_actions types r.conditions)) r.actions;
 }
 

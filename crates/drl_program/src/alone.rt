@@ -1,7 +1,7 @@
 ghost use Rattle.std.specs.Prelude.{◌≡◌, [], IfOk};
 ghost use Rattle.drl_sight.specs.Declarations.{types_of};
 ghost use Rattle.drl_sight.specs.Sight.{begin};
-ghost use Rattle.drl_program.specs.Programs.{conditions_of, types_alone};
+ghost use Rattle.drl_program.specs.Programs.{conditions_meant, types_alone};
 
 use crate::conditions_of::conditions;
 use crate::infos_of::infos_of_types;
@@ -28,7 +28,7 @@ pub fn conditions_alone(
     types: &Declared,
     trees: &[CondTree],
 ) -> Result<Seq<Condition>, NoMemory>
-    ensures { IfOk result (λ made. made ≡ conditions_of types.now [] begin trees.now) }
+    ensures { IfOk result (λ made. made ≡ conditions_meant types.now [] begin trees.now) }
 {
     let entries = Places::new(alloc);
     let (made, _) = conditions(alloc, types, &entries, trees)?;

@@ -1,8 +1,8 @@
 ghost use Rattle.std.specs.Prelude.{◌≡◌, min, option_map, IfOk};
-ghost use Rattle.drl_sight.specs.Declarations.{field_names, type_named};
-ghost use Rattle.drl_sight.specs.Names.{place_of};
+ghost use Rattle.drl_sight.specs.Declarations.{field_names, type_tree_named};
+ghost use Rattle.drl_sight.specs.Names.{place_of_name};
 ghost use Rattle.drl_sight.specs.Sight.{begin, behind_all};
-ghost use Rattle.drl_program.specs.Programs.{fold_kind, count_of, window_of, field_bound, argument_of, pattern_in, pattern_of, type_or_none, condition_of, conditions_of};
+ghost use Rattle.drl_program.specs.Programs.{fold_kind, count_meant, window_meant, field_bound, argument_place, pattern_in, pattern_meant, type_or_none, condition_meant, conditions_meant};
 
 use crate::numbers::{entry_number, small, type_number};
 use crate::tests_of::{constant_tests, joined_tests, result_tests, time_tests};
@@ -17,13 +17,13 @@ use std::alloc::Global;
 // ---- patterns
 
 fn count(events: i64) -> u64
-    ensures { result ≡ count_of events }
+    ensures { result ≡ count_meant events }
 {
     events.max(0) as u64
 }
 
 fn window(tree: &Option<WindowTree>) -> WindowTag
-    ensures { result ≡ window_of tree.now }
+    ensures { result ≡ window_meant tree.now }
 {
     match tree {
         Some(WindowTree::Time(span)) => WindowTag::Time(*span),
@@ -59,7 +59,7 @@ fn pattern(
     place: &Place,
     source: &SourceTree,
 ) -> Result<Pattern, NoMemory>
-    ensures { IfOk result (λ pattern. pattern ≡ pattern_of types.now entries.now place.now.sight source.now) }
+    ensures { IfOk result (λ pattern. pattern ≡ pattern_meant types.now entries.now place.now.sight source.now) }
 {
     let number = type_number(types.place(&source.ty));
     let entry = entry_number(entries, &source.entry);
@@ -106,7 +106,7 @@ fn bound_field<'a>(parts: &'a [Part], var: &Text) -> Option<&'a Text>
 
 // The number of a field of a type, where the type has one of this name.
 fn declared_field(ty: &DeclaredType, field: &Text) -> Option<u8>
-    ensures { result ≡ option_map (λ k. min k 255) (place_of (field_names ty.now) field.now) }
+    ensures { result ≡ option_map (λ k. min k 255) (place_of_name (field_names ty.now) field.now) }
 {
     match ty.find(field) {
         Some(place) => Some(small(Some(place))),
@@ -115,7 +115,7 @@ fn declared_field(ty: &DeclaredType, field: &Text) -> Option<u8>
 }
 
 fn argument_in(ty: &DeclaredType, source: &SourceTree, var: &Text) -> Option<u8>
-    ensures { result ≡ argument_of ty.now source.now var.now }
+    ensures { result ≡ argument_place ty.now source.now var.now }
 {
     match bound_field(source.parts.as_slice(), var) {
         Some(field) => declared_field(ty, field),
@@ -125,7 +125,7 @@ fn argument_in(ty: &DeclaredType, source: &SourceTree, var: &Text) -> Option<u8>
 
 // The number of the field whose values a function takes.
 fn argument(types: &Declared, source: &SourceTree, var: &Text) -> Option<u8>
-    ensures { result ≡ argument_of (type_or_none (type_named types.now source.now.ty)) source.now var.now }
+    ensures { result ≡ argument_place (type_or_none (type_tree_named types.now source.now.ty)) source.now var.now }
 {
     match types.find(&source.ty) {
         Some(ty) => argument_in(ty, source, var),
@@ -143,7 +143,7 @@ fn condition(
     place: &Place,
     tree: &CondTree,
 ) -> Result<Condition, NoMemory>
-    ensures { IfOk result (λ condition. condition ≡ condition_of types.now entries.now place.now tree.now) }
+    ensures { IfOk result (λ condition. condition ≡ condition_meant types.now entries.now place.now tree.now) }
 {
     let pattern = pattern(alloc, types, entries, place, source_of(tree))?;
     match tree {
@@ -166,14 +166,14 @@ fn condition(
 }
 
 /// The conditions, and what is in sight behind all of them.
-#[tactic(auto, unfolding(crate::specs::Programs::conditions_of, drl_sight::specs::Sight::behind_all))]
+#[tactic(auto, unfolding(crate::specs::Programs::conditions_meant, drl_sight::specs::Sight::behind_all))]
 pub(crate) fn conditions<'a, 'b>(
     alloc: Global,
     types: &'a Declared<'b>,
     entries: &Places,
     trees: &[CondTree],
 ) -> Result<(Seq<Condition>, Place<'a, 'b>), NoMemory>
-    ensures conditions { IfOk result (λ made. made.0 ≡ conditions_of types.now entries.now begin trees.now) }
+    ensures conditions { IfOk result (λ made. made.0 ≡ conditions_meant types.now entries.now begin trees.now) }
     ensures place { IfOk result (λ made. made.1 ≡ behind_all types.now begin trees.now) }
 {
     let mut conditions = Vec::with_capacity(alloc, trees.len())?;

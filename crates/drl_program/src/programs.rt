@@ -1,7 +1,7 @@
 ghost use Rattle.std.specs.Prelude.{◌≡◌, map, IfOk};
 ghost use Rattle.drl_sight.specs.Declarations.{rules_of, types_of};
 ghost use Rattle.drl_program.specs.Observed.{observed_names};
-ghost use Rattle.drl_program.specs.Programs.{action_of, salience_of, rule_of, type_info, program_with};
+ghost use Rattle.drl_program.specs.Programs.{action_of, salience_meant, rule_of, type_info, program_with};
 
 use crate::actions_of::action;
 use crate::conditions_of::conditions;
@@ -31,7 +31,7 @@ fn actions(
 }
 
 fn salience(attrs: &[Attr]) -> i64
-    ensures { result ≡ salience_of attrs.now }
+    ensures { result ≡ salience_meant attrs.now }
 {
     for attr in attrs {
         match attr {

@@ -1,7 +1,7 @@
 ghost use Rattle.std.specs.Prelude.{◌≡◌, ◌++◌, map, IfOk, OnOk};
 ghost use Rattle.std.specs.List.{filter, flat_map};
 ghost use Rattle.drl_sight.specs.Sight.{meaning_of};
-ghost use Rattle.drl_program.specs.Programs.{rel_tag, literal_value, variable_side, variable_field_side, times_in, result_side, result_test, side_of, compare_of, test_of, tests_in, is_joined, is_constant};
+ghost use Rattle.drl_program.specs.Programs.{rel_tag, literal_value, variable_side, variable_field_side, time_tests_in, result_side, result_test, side_of, compare_of, test_of, tests_in, is_joined, is_constant};
 
 use crate::numbers::{fact_of_variable, field_number, variable_against, variable_field_against};
 use crate::operators::operator;
@@ -224,7 +224,7 @@ pub(crate) fn joined_tests(
 
 // Adds the temporal test that a part is, where it is one.
 fn add_time(tests: &mut Vec<TimeTest>, place: &Place, part: &Part) -> Result<(), NoMemory>
-    ensures { OnOk result (tests.new.items ≡ tests.old.items ++ times_in place.now.sight part.now) }
+    ensures { OnOk result (tests.new.items ≡ tests.old.items ++ time_tests_in place.now.sight part.now) }
 {
     match part {
         Part::Temporal { op, params, other } => match operator(*op, params.as_slice()) {
@@ -247,7 +247,7 @@ pub(crate) fn time_tests(
     place: &Place,
     parts: &[Part],
 ) -> Result<Seq<TimeTest>, NoMemory>
-    ensures { IfOk result (λ tests. tests ≡ flat_map (times_in place.now.sight) parts.now) }
+    ensures { IfOk result (λ tests. tests ≡ flat_map (time_tests_in place.now.sight) parts.now) }
 {
     let mut tests = Vec::new(alloc);
     for part in parts {

@@ -1,5 +1,7 @@
 -- The text of tokens that stand one behind the other.
-use Rattle.drl_show.proofs.Common.{◌≡◌, ℕ, ℤ, suc, ◌+◌, ◌<◌, List, [], ◌∷◌, ◌++◌, length, drop, get_or, refl, sym, ap, ◌∙◌, append_assoc, add-one, drop-cons, arith, append-nil, TokenKind, Word, Mark, OpenParenthesis, OpenBracket, CloseBracket, Comma, codes, SourceTree, FoldWord, each, parted, number_tokens, param_tokens, source_tokens, spaced, added, function_tokens, joined}
+use Rattle.drl_show.proofs.Common.{◌≡◌, ℕ, ℤ, suc, ◌+◌, ◌<◌, List, [], ◌∷◌, ◌++◌, length, drop, get_or, refl, sym, ap, ◌∙◌, append_assoc, add-one, drop-cons}
+use Rattle.drl_show.proofs.Common.{arith, append-nil, TokenKind, Word, Mark, OpenParenthesis, OpenBracket, CloseBracket, Comma, codes, SourceTree, FoldWord}
+use Rattle.drl_show.proofs.Common.{each, parted, number_tokens, param_tokens, source_tokens, spaced, added, function_tokens, joined}
 use Rattle.drl_lex.specs.declared.token.Mark.{Mark as MarkData}
 use Rattle.drl_show.specs.Canonical.{accumulate_tokens}
 use Rattle.drl_show.specs.Texts.{token_text}

@@ -1,5 +1,7 @@
 -- The tokens of an action stand for it again, whatever follows.
-use Rattle.drl_show.proofs.Common.{◌≡◌, ℕ, ◌+◌, ◌&&◌, Bool, true, false, cond, List, [], ◌∷◌, ◌++◌, refl, arith, codes, list_all, nat_tests, Word, Var, Mark, OpenParenthesis, CloseParenthesis, Comma, Semicolon, Assign, IsIdent, parted, listed, expr_tokens, action_tokens, nat_le, OpenBrace, CloseBrace, assign_tokens}
+use Rattle.drl_show.proofs.Common.{◌≡◌, ℕ, ◌+◌, ◌&&◌, Bool, true, false, cond, List, [], ◌∷◌, ◌++◌, refl, arith, codes, list_all, nat_tests, Word, Var, Mark}
+use Rattle.drl_show.proofs.Common.{OpenParenthesis, CloseParenthesis, Comma, Semicolon, Assign, IsIdent, parted, listed, expr_tokens, action_tokens, nat_le}
+use Rattle.drl_show.proofs.Common.{OpenBrace, CloseBrace, assign_tokens}
 use Rattle.drl_lex.specs.Bytes.{begins_word, is_word_byte}
 use Rattle.drl_grammar.specs.Shapes as shapes
 use Rattle.drl_grammar.specs.Actions as g

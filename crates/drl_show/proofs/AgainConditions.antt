@@ -1,7 +1,14 @@
 -- The tokens of a condition, and of its parts, stand for it again, whatever follows.
-use Rattle.drl_show.proofs.Common.{◌≡◌, ℕ, ℤ, zero, suc, pos, ◌<◌, ◌^◌, true, List, [], ◌∷◌, ◌++◌, Option, Some, refl, sym, ap, subst, ◌∙◌, append_assoc, arith, neg_ℤ, codes, list_all, TokenKind, Word, Var, Text, Mark, OpenParenthesis, CloseParenthesis, OpenBracket, CloseBracket, Comma, Semicolon, Colon, Dot, Comparison, SourceTree, FoldWord, Separated, Listed, Maybe, parted, maybe, listed, number_tokens, literal_tokens, param_tokens, Or, And, op_text, fold_text, IsLiteral, IsOperand, IsSpan, IsName, IsCmp, IsConj, IsDisj, AreParams, IsPart, IsWindow, IsPlace, IsBinding, IsSource, IsGroup, IsValueTest, IsResultTest, AreResultTests, IsFolded, IsCondition, operand_tokens, cmp_tokens, conj_tokens, disj_tokens, part_tokens, window_tokens, place_tokens, binding_tokens, test_tokens, group_tokens, condition_tokens}
+use Rattle.drl_show.proofs.Common.{◌≡◌, ℕ, ℤ, zero, suc, pos, ◌<◌, ◌^◌, true, List, [], ◌∷◌, ◌++◌, Option, Some, refl, sym, ap, subst, ◌∙◌, append_assoc, arith}
+use Rattle.drl_show.proofs.Common.{neg_ℤ, codes, list_all, TokenKind, Word, Var, Text, Mark, OpenParenthesis, CloseParenthesis, OpenBracket, CloseBracket}
+use Rattle.drl_show.proofs.Common.{Comma, Semicolon, Colon, Dot, Comparison, SourceTree, FoldWord, Separated, Listed, parted, maybe, listed, number_tokens}
+use Rattle.drl_show.proofs.Common.{literal_tokens, param_tokens, Or, And, op_text, fold_text, IsLiteral, IsOperand, IsSpan, IsName, IsCmp, IsConj, IsDisj}
+use Rattle.drl_show.proofs.Common.{AreParams, IsPart, IsWindow, IsPlace, IsBinding, IsSource, IsGroup, IsValueTest, IsResultTest, AreResultTests, IsFolded}
+use Rattle.drl_show.proofs.Common.{IsCondition, operand_tokens, cmp_tokens, conj_tokens, disj_tokens, part_tokens, window_tokens, place_tokens, binding_tokens}
+use Rattle.drl_show.proofs.Common.{test_tokens, group_tokens, condition_tokens}
 use Rattle.temporal_ops.specs.declared.word.OpWord.{OpWord}
-use Rattle.temporal_ops.specs.declared.word.OpWord.TheVariants.{After, Before, Coincides, During, Includes, Finishes, FinishedBy, Starts, StartedBy, Meets, MetBy, Overlaps, OverlappedBy}
+use Rattle.temporal_ops.specs.declared.word.OpWord.TheVariants.{After, Before, Coincides, During, Includes, Finishes, FinishedBy, Starts, StartedBy, Meets}
+use Rattle.temporal_ops.specs.declared.word.OpWord.TheVariants.{MetBy, Overlaps, OverlappedBy}
 use Rattle.drl_lex.specs.Bytes.{begins_word, is_word_byte}
 use Rattle.drl_lex.specs.declared.token.Rel.{Rel}
 use Rattle.drl_grammar.specs.declared.condition.Operand.{Operand}

@@ -1,5 +1,7 @@
 -- The tokens of an expression stand for it again: parentheses are never deeper than the tree is high.
-use Rattle.drl_show.proofs.Common.{◌≡◌, ℕ, zero, suc, pos, negsuc, ◌≤◌, Bool, true, false, List, [], ◌∷◌, ◌++◌, refl, sym, subst, append_assoc, arith, list_all, TokenKind, Word, Var, Number, Text, Mark, OpenParenthesis, CloseParenthesis, Dot, Minus, height, IsIdent, literal_tokens, expr_tokens, Plus, Star, Tree, lit, var, var_field, neg, add, sub, mul, joins, enclosed, enclosed_tokens}
+use Rattle.drl_show.proofs.Common.{◌≡◌, ℕ, zero, suc, pos, negsuc, ◌≤◌, Bool, true, false, List, [], ◌∷◌, ◌++◌, refl, sym, subst, append_assoc, arith, list_all}
+use Rattle.drl_show.proofs.Common.{TokenKind, Word, Var, Number, Text, Mark, OpenParenthesis, CloseParenthesis, Dot, Minus, height, IsIdent, literal_tokens}
+use Rattle.drl_show.proofs.Common.{expr_tokens, Plus, Star, Tree, lit, var, var_field, neg, add, sub, mul, joins, enclosed, enclosed_tokens}
 use Rattle.drl_lex.specs.Bytes.{begins_word, is_word_byte}
 use Rattle.drl_expr.specs.declared.literal.LitTree.{LitTree}
 use Rattle.drl_expr.specs.declared.literal.LitTree.TheVariants as l

@@ -1,5 +1,9 @@
 -- The tokens of the parts of items stand for them again.
-use Rattle.drl_show.proofs.Common.{◌≡◌, ℕ, ℤ, zero, suc, pos, true, List, [], ◌∷◌, ◌++◌, Option, refl, sym, ap, ◌∙◌, append_assoc, neg_ℤ, codes, list_all, TokenKind, Word, Text, Mark, OpenParenthesis, CloseParenthesis, Comma, Colon, Dot, Minus, Phrase, IsStep, IsPath, IsStar, IsType, IsEntry, IsRule, each, maybe, number_tokens, name_tokens, path_tokens, star_tokens, piece_tokens, action_tokens, At, IsMeta, IsField, IsParent, IsLateness, IsSalience, IsAttr, meta_tokens, field_tokens, parent_tokens, lateness_tokens, attr_tokens}
+use Rattle.drl_show.proofs.Common.{◌≡◌, ℕ, ℤ, zero, suc, pos, true, List, [], ◌∷◌, ◌++◌, Option, refl, sym, ap, ◌∙◌, append_assoc, neg_ℤ, codes, list_all}
+use Rattle.drl_show.proofs.Common.{TokenKind, Word, Text, Mark, OpenParenthesis, CloseParenthesis, Comma, Colon, Dot, Minus, Phrase, IsPathStep, IsPath, IsStar}
+use Rattle.drl_show.proofs.Common.{IsType, IsEntry, IsRule, each, maybe, number_tokens, name_tokens, path_tokens, star_tokens, piece_tokens, action_tokens, At}
+use Rattle.drl_show.proofs.Common.{IsMeta, IsField, IsParentName, IsLateness, IsSalience, IsAttr, meta_tokens, field_tokens, parent_tokens, lateness_tokens}
+use Rattle.drl_show.proofs.Common.{attr_tokens}
 use Rattle.drl_lex.specs.Bytes.{begins_word, is_word_byte}
 use Rattle.drl_grammar.specs.Shapes as shapes
 use Rattle.drl_grammar.specs.Items as g
@@ -14,7 +18,7 @@ use Rattle.drl_show.proofs.AgainActions.{action_again}
 
 -- ---- names with dots
 
-step_again : Agains IsStep IsStep (λ f. Mark Dot ∷ name_tokens f)
+step_again : Agains IsPathStep IsPathStep (λ f. Mark Dot ∷ name_tokens f)
 step_again x ts rest (g.step {f} h) good = record { stands = λ k. g.step h; is_fine = fine_word f [] h good.1.0 refl; behind = good.1.1 }
 
 pub path_again : Agains IsPath IsPath path_tokens
@@ -54,7 +58,7 @@ pub record Block {A : Type 0} (Is : Phrase A) (x : A) (tokens : List TokenKind) 
   pub same : tokens ≡ inner ++ (Word (codes "end") ∷ [])
   pub is_fine : list_all fine inner ≡ true
 
-parent_again : Agains IsParent IsParent parent_tokens
+parent_again : Agains IsParentName IsParentName parent_tokens
 unfolding begins_word is_word_byte
 parent_again x ts rest (g.parent {ty} h) good = record { stands = λ k. g.parent h; is_fine = fine_word ty [] h good.1.0 refl; behind = good.1.1 }
 

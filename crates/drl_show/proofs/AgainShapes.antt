@@ -1,5 +1,7 @@
 -- The tokens of a tree stand for it again, whatever follows: for the shapes of the grammar.
-use Rattle.drl_show.proofs.Common.{◌≡◌, true, List, [], ◌∷◌, ◌++◌, refl, sym, subst, append_assoc, append-nil, list_all, TokenKind, Mark, Comma, CloseParenthesis, Phrase, Maybe, Many, Separated, Listed, each, parted, maybe, listed, left_out, written, Optional, absent, present, nothing, further, single, more, empty, members}
+use Rattle.drl_show.proofs.Common.{◌≡◌, true, List, [], ◌∷◌, ◌++◌, refl, sym, subst, append_assoc, append-nil, list_all, TokenKind, Mark, Comma}
+use Rattle.drl_show.proofs.Common.{CloseParenthesis, Phrase, Maybe, Many, Separated, Listed, each, parted, maybe, listed, left_out, written, Optional, absent}
+use Rattle.drl_show.proofs.Common.{present, nothing, further, single, more, empty, members}
 use Rattle.drl_lex.specs.declared.token.Mark.{Mark as MarkData}
 use Rattle.drl_show.proofs.Fine.{AllGood, fine, fine_append}
 

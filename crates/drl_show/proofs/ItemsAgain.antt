@@ -1,5 +1,7 @@
 -- The tokens of an item stand for it again, are spelled by their texts, and are what its first token takes from a file.
-use Rattle.drl_show.proofs.Common.{◌≡◌, ℕ, true, false, Bool, List, [], ◌∷◌, ◌++◌, length, refl, sym, subst, append-nil, codes, Spells, TokenKind, Word, Text, Mark, Dot, Many, IsStep, IsPath, IsStar, IsType, IsEntry, IsRule, IsItem, extent, WrittenBody, each, name_tokens, path_tokens, star_tokens, item_word, behind_word, tokens_of_item, type_tokens, entry_tokens, rule_tokens}
+use Rattle.drl_show.proofs.Common.{◌≡◌, ℕ, true, false, Bool, List, [], ◌∷◌, ◌++◌, length, refl, sym, subst, append-nil, codes, Spells, TokenKind, Word, Text}
+use Rattle.drl_show.proofs.Common.{Mark, Dot, Many, IsPathStep, IsPath, IsStar, IsItem, extent, WrittenBody, each, name_tokens, path_tokens, star_tokens}
+use Rattle.drl_show.proofs.Common.{item_word_shown, behind_word, tokens_of_item, type_tokens, entry_tokens, rule_tokens}
 use Rattle.drl_lex.specs.Bytes.{begins_word, is_word_byte}
 use Rattle.drl_grammar.specs.Shapes as shapes
 use Rattle.drl_grammar.specs.Items as g
@@ -14,11 +16,11 @@ use Rattle.drl_show.proofs.Extents.{Calm, StartsWith, ident_calm, calm_append, o
 pub record ItemAgain (b : WrittenBody) : Type 0 where
   pub stands : IsItem b (tokens_of_item b) []
   pub spelled : AllSpelled (tokens_of_item b)
-  pub extent_is : (more : List TokenKind) → StartsWith begins_item more → extent (Word (item_word b)) (behind_word b ++ more) ≡ length (behind_word b)
+  pub extent_is : (more : List TokenKind) → StartsWith begins_item more → extent (Word (item_word_shown b)) (behind_word b ++ more) ≡ length (behind_word b)
 
 -- ---- words that items begin and end with
 
-first_spelled : (b : WrittenBody) → Spells (Word (item_word b)) (token_text (Word (item_word b)))
+first_spelled : (b : WrittenBody) → Spells (Word (item_word_shown b)) (token_text (Word (item_word_shown b)))
 unfolding token_text begins_word is_word_byte
 first_spelled (body.Package path) = (refl, refl, refl)
 first_spelled (body.Import path all) = (refl, refl, refl)
@@ -31,7 +33,7 @@ end_spelled : Spells (Word (codes "end")) (token_text (Word (codes "end")))
 unfolding token_text begins_word is_word_byte
 end_spelled = (refl, refl, refl)
 
-pub first_begins : (b : WrittenBody) → begins_item (Word (item_word b)) ≡ true
+pub first_begins : (b : WrittenBody) → begins_item (Word (item_word_shown b)) ≡ true
 unfolding begins_item
 first_begins (body.Package path) = refl
 first_begins (body.Import path all) = refl
@@ -62,7 +64,7 @@ rule_opens = refl
 
 -- ---- items without an end of their own
 
-steps_calm : (fs : List (List ℕ)) (ts rest : List TokenKind) → Many IsStep fs ts rest → Calm begins_item (each (λ y. Mark Dot ∷ name_tokens y) fs)
+steps_calm : (fs : List (List ℕ)) (ts rest : List TokenKind) → Many IsPathStep fs ts rest → Calm begins_item (each (λ y. Mark Dot ∷ name_tokens y) fs)
 unfolding begins_item
 steps_calm fs ts rest shapes.nothing = tt
 steps_calm fs ts rest (shapes.further {middle} (g.step {f} h) hs) = let all = steps_calm _ middle rest hs in (refl, (ident_calm f h, all))

@@ -1,5 +1,8 @@
 -- The text of a file is a file with the same items.
-use Rattle.drl_show.proofs.Common.{◌≡◌, ℕ, suc, ◌+◌, true, false, List, [], ◌∷◌, ◌++◌, None, length, take, drop, map, refl, sym, ap, subst, ◌∙◌, append_assoc, length-append, length-drop, arith, All, begins, Spells, longer, TokenKind, Word, extent, IsItem, WrittenBody, each, item_word, behind_word, tokens_of_item, shown_items, spaced, length-map, IsPiece, Reads, begins_item, line_at, lines_at, AreItems, StandsInGrammar, InGrammar, IsReadAgain, token_text}
+use Rattle.drl_show.proofs.Common.{◌≡◌, ℕ, suc, ◌+◌, true, false, List, [], ◌∷◌, ◌++◌, None, length, take, drop, map, refl, sym, ap, subst, ◌∙◌, append_assoc}
+use Rattle.drl_show.proofs.Common.{length-append, length-drop, arith, All, begins, Spells, longer, TokenKind, Word, extent, IsItem, WrittenBody, each}
+use Rattle.drl_show.proofs.Common.{item_word_shown, behind_word, tokens_of_item, shown_items, spaced, length-map, IsPiece, ReadsTokens, begins_item, line_at}
+use Rattle.drl_show.proofs.Common.{lines_at, AreItems, StandsInGrammar, InGrammar, IsReadAgain, token_text}
 use Rattle.std.proofs.Math.Seq.{take-append_seam, drop-append_seam}
 use Rattle.drl_lex.specs.Bytes.{is_blank}
 use Rattle.drl_lex.specs.Kinds.{kinds, starts}
@@ -22,7 +25,7 @@ record Says (at : ℕ) (said : List TokenKind) (bytes : List ℕ) : Type 0 where
   tokens : List Token
   end : ℕ
   same : kinds tokens ≡ said
-  reads : Reads at tokens bytes end []
+  reads : ReadsTokens at tokens bytes end []
 
 stops : (t : TokenKind) (ts : List TokenKind) (rest : List ℕ) → begins (longer t) (spaced ts ++ (10 ∷ rest)) ≡ false
 stops t [] rest = ended_by_newline t
@@ -73,8 +76,8 @@ items_say : (items : List WrittenItem) → AllAgain items → (at : ℕ) → Say
 items_say [] all at = record { tokens = []; end = at; same = refl; reads = p.done }
 items_say (item ∷ items) all at =
     let is = all.0.spelled in
-    one_token at (Word (item_word item.body)) (behind_word item.body) (behind_word item.body ++ all_tokens items) (shown_items items) is.0
-    (spaced_says (behind_word item.body) (all_tokens items) (shown_items items) is.1 (items_say items all.1) (at + length (token_text (Word (item_word item.body)))))
+    one_token at (Word (item_word_shown item.body)) (behind_word item.body) (behind_word item.body ++ all_tokens items) (shown_items items) is.0
+    (spaced_says (behind_word item.body) (all_tokens items) (shown_items items) is.1 (items_say items all.1) (at + length (token_text (Word (item_word_shown item.body)))))
 
 -- items with these bodies stand for the tokens
 record Stand (items : List WrittenItem) (lines : List ℕ) : Type 0 where
@@ -106,7 +109,7 @@ items_stand (item ∷ items) all (line ∷ lines) e =
     record {
       found = record { line = line; body = item.body } ∷ more.found;
       same = ap (λ (bs : List WrittenBody). item.body ∷ bs) more.same;
-      stand = one_item item.body more.found (Word (item_word item.body)) (behind_word item.body) (all_tokens items) line lines (all.0.extent_is (all_tokens items) (items_start items)) all.0.stands more.stand;
+      stand = one_item item.body more.found (Word (item_word_shown item.body)) (behind_word item.body) (all_tokens items) line lines (all.0.extent_is (all_tokens items) (items_start items)) all.0.stands more.stand;
     }
 
 pub read_again : (file : Written) → InGrammar file → IsReadAgain file (shown file)

@@ -1,5 +1,7 @@
 -- Each token of an item is spelled by its text, and no blank would make it longer.
-use Rattle.drl_show.proofs.Common.{◌≡◌, ℕ, ◌<◌, ◌≤◌, ◌^◌, ◌==◌, ◌&&◌, Bool, true, false, not, cond, List, [], ◌∷◌, ◌++◌, length, refl, arith, nat_lt, codes, list_all, bytes_eq, nat_tests, begins, begins_word, Spells, longer, Assign, Comparison, TokenKind, Word, Var, Number, Time, Text, Mark, escaped, ltb-true}
+use Rattle.drl_show.proofs.Common.{◌≡◌, ℕ, ◌<◌, ◌≤◌, ◌^◌, ◌==◌, ◌&&◌, Bool, true, false, not, cond, List, [], ◌∷◌, ◌++◌, length, refl, arith, nat_lt, codes}
+use Rattle.drl_show.proofs.Common.{list_all, bytes_eq, nat_tests, begins, begins_word, Spells, longer, Assign, Comparison, TokenKind, Word, Var, Number, Time}
+use Rattle.drl_show.proofs.Common.{Text, Mark, escaped, ltb-true}
 use Rattle.std.specs.Char.{is_ascii_digit}
 use Rattle.std.specs.Fmt.{decimal}
 use Rattle.std.specs.Str.Parse.{AllDigits}

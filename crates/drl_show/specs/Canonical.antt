@@ -4,7 +4,8 @@ use Rattle.drl_lex.specs.declared.token.Rel.{Rel}
 use Rattle.drl_lex.specs.declared.token.TokenKind.{TokenKind}
 use Rattle.drl_lex.specs.declared.token.TokenKind.TheVariants.{Word, Var, Number, Text, Mark}
 use Rattle.drl_lex.specs.declared.token.Mark.{Mark as MarkData}
-use Rattle.drl_lex.specs.declared.token.Mark.TheVariants.{OpenParenthesis, CloseParenthesis, OpenBrace, CloseBrace, OpenBracket, CloseBracket, Comma, Colon, Dot, At, Plus, Minus, Star, Assign, Comparison, Or, And}
+use Rattle.drl_lex.specs.declared.token.Mark.TheVariants.{OpenParenthesis, CloseParenthesis, OpenBrace, CloseBrace, OpenBracket, CloseBracket, Comma, Colon}
+use Rattle.drl_lex.specs.declared.token.Mark.TheVariants.{Dot, At, Plus, Minus, Star, Assign, Comparison, Or, And}
 use Rattle.drl_expr.specs.declared.literal.LitTree.{LitTree}
 use Rattle.drl_expr.specs.declared.literal.LitTree.TheVariants as lit
 use Rattle.drl_expr.specs.Tree.{Tree, lit as leaf, var, var_field, neg, add, sub, mul}
@@ -193,9 +194,9 @@ abbrev pub star_tokens : Bool → List TokenKind
 star_tokens true = Mark Dot ∷ Mark Star ∷ []
 star_tokens false = []
 
-abbrev pub role_word : Bool → List ℕ
-role_word true = codes "event"
-role_word false = codes "fact"
+abbrev pub role_word_shown : Bool → List ℕ
+role_word_shown true = codes "event"
+role_word_shown false = codes "fact"
 
 -- an annotation without parentheses
 abbrev pub bare_annotation_tokens : List ℕ → List TokenKind
@@ -210,7 +211,7 @@ abbrev pub span_annotation_tokens : List ℕ → ℤ → List TokenKind
 span_annotation_tokens name ms = Mark At ∷ Word name ∷ Mark OpenParenthesis ∷ (number_tokens ms ++ (Mark CloseParenthesis ∷ []))
 
 abbrev pub meta_tokens : Meta → List TokenKind
-meta_tokens (meta.Role event) = annotation_tokens (codes "role") (role_word event)
+meta_tokens (meta.Role event) = annotation_tokens (codes "role") (role_word_shown event)
 meta_tokens (meta.Timestamp f) = annotation_tokens (codes "timestamp") f
 meta_tokens (meta.Duration f) = annotation_tokens (codes "duration") f
 meta_tokens (meta.Expires ms) = span_annotation_tokens (codes "expires") ms
@@ -244,13 +245,13 @@ rule_tokens r = Text r.name ∷ (each attr_tokens r.attrs ++ (Word (codes "when"
 -- ---- items
 
 -- the word that an item begins with
-abbrev pub item_word : WrittenBody → List ℕ
-item_word (body.Package path) = codes "package"
-item_word (body.Import path all) = codes "import"
-item_word (body.Dialect s) = codes "dialect"
-item_word (body.Declare t) = codes "declare"
-item_word (body.Entry name late) = codes "declare"
-item_word (body.Rule r) = codes "rule"
+abbrev pub item_word_shown : WrittenBody → List ℕ
+item_word_shown (body.Package path) = codes "package"
+item_word_shown (body.Import path all) = codes "import"
+item_word_shown (body.Dialect s) = codes "dialect"
+item_word_shown (body.Declare t) = codes "declare"
+item_word_shown (body.Entry name late) = codes "declare"
+item_word_shown (body.Rule r) = codes "rule"
 
 -- what stands behind it
 abbrev pub behind_word : WrittenBody → List TokenKind
@@ -262,4 +263,4 @@ behind_word (body.Entry name late) = entry_tokens name late
 behind_word (body.Rule r) = rule_tokens r
 
 abbrev pub tokens_of_item : WrittenBody → List TokenKind
-tokens_of_item b = Word (item_word b) ∷ behind_word b
+tokens_of_item b = Word (item_word_shown b) ∷ behind_word b

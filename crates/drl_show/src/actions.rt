@@ -4,7 +4,6 @@ use drl_expr::ExprTree;
 use drl_grammar::ActTree;
 use drl_lex::Mark;
 use fx_base::{NoMemory, Text};
-use std::alloc::Global;
 
 /// A field and its new value.
 impl Printed for (Text, ExprTree) {
@@ -12,10 +11,10 @@ impl Printed for (Text, ExprTree) {
 
     ghost tokens = { assign_tokens };
 
-    fn write(&self, alloc: Global, out: &mut Vec<u8>) -> Result<(), NoMemory> {
+    fn write(&self, out: &mut Vec<u8>) -> Result<(), NoMemory> {
         word(out, self.0.as_str())?;
         mark(out, Mark::Assign)?;
-        self.1.write(alloc, out)
+        self.1.write(out)
     }
 }
 
@@ -25,7 +24,7 @@ impl Printed for ActTree {
     ghost tokens = { action_tokens };
 
     #[tactic(auto, using(crate::proofs::Added::added_append))]
-    fn write(&self, alloc: Global, out: &mut Vec<u8>) -> Result<(), NoMemory> {
+    fn write(&self, out: &mut Vec<u8>) -> Result<(), NoMemory> {
         match self {
             ActTree::Insert { ty, args } => {
                 word(out, "insert")?;
@@ -33,7 +32,7 @@ impl Printed for ActTree {
                 word(out, "new")?;
                 word(out, ty.as_str())?;
                 mark(out, Mark::OpenParenthesis)?;
-                write_listed(alloc, out, args.as_slice())?;
+                write_listed(out, args.as_slice())?;
                 mark(out, Mark::CloseParenthesis)
             }
             ActTree::Modify { var, sets } => {
@@ -42,7 +41,7 @@ impl Printed for ActTree {
                 variable(out, var.as_str())?;
                 mark(out, Mark::CloseParenthesis)?;
                 mark(out, Mark::OpenBrace)?;
-                write_parted(alloc, out, Mark::Comma, sets.as_slice())?;
+                write_parted(out, Mark::Comma, sets.as_slice())?;
                 mark(out, Mark::CloseBrace)
             }
             ActTree::Retract(var) => {

@@ -9,7 +9,6 @@ use crate::tokens::{mark, variable, word};
 use drl_grammar::{CondTree, FoldWord, Operand, Piece, SourceTree};
 use drl_lex::{Mark, Rel};
 use fx_base::NoMemory;
-use std::alloc::Global;
 
 /// A test of the result of an accumulate.
 impl Printed for (Rel, Operand) {
@@ -17,10 +16,10 @@ impl Printed for (Rel, Operand) {
 
     ghost tokens = { test_tokens };
 
-    fn write(&self, alloc: Global, out: &mut Vec<u8>) -> Result<(), NoMemory> {
+    fn write(&self, out: &mut Vec<u8>) -> Result<(), NoMemory> {
         word(out, "longValue")?;
         mark(out, Mark::Comparison(self.0))?;
-        self.1.write(alloc, out)
+        self.1.write(out)
     }
 }
 
@@ -38,11 +37,11 @@ fn fold_word(function: FoldWord) -> &'static str
 
 // A pattern in parentheses.
 #[tactic(auto, using(crate::proofs::Added::added_append))]
-fn group(alloc: Global, out: &mut Vec<u8>, source: &SourceTree) -> Result<(), NoMemory>
+fn group(out: &mut Vec<u8>, source: &SourceTree) -> Result<(), NoMemory>
     ensures { OnOk result (out.new.items ≡ added out.old.items (group_tokens source.now)) }
 {
     mark(out, Mark::OpenParenthesis)?;
-    source.write(alloc, out)?;
+    source.write(out)?;
     mark(out, Mark::CloseParenthesis)
 }
 
@@ -62,7 +61,6 @@ fn function(out: &mut Vec<u8>, kind: FoldWord, arg: &str) -> Result<(), NoMemory
 // An accumulate behind the tests of its result.
 #[tactic(auto, using(crate::proofs::Added::added_append), unfolding(crate::specs::Canonical::accumulate_tokens))]
 fn accumulate(
-    alloc: Global,
     out: &mut Vec<u8>,
     source: &SourceTree,
     kind: FoldWord,
@@ -73,7 +71,7 @@ fn accumulate(
     word(out, "from")?;
     word(out, "accumulate")?;
     mark(out, Mark::OpenParenthesis)?;
-    source.write(alloc, out)?;
+    source.write(out)?;
     function(out, kind, arg)
 }
 
@@ -83,16 +81,16 @@ impl Printed for CondTree {
     ghost tokens = { condition_tokens };
 
     #[tactic(auto, using(crate::proofs::Added::added_append))]
-    fn write(&self, alloc: Global, out: &mut Vec<u8>) -> Result<(), NoMemory> {
+    fn write(&self, out: &mut Vec<u8>) -> Result<(), NoMemory> {
         match self {
-            CondTree::Plain(source) => source.write(alloc, out),
+            CondTree::Plain(source) => source.write(out),
             CondTree::Negated(source) => {
                 word(out, "not")?;
-                group(alloc, out, source)
+                group(out, source)
             }
             CondTree::Existing(source) => {
                 word(out, "exists")?;
-                group(alloc, out, source)
+                group(out, source)
             }
             CondTree::Folded {
                 result,
@@ -104,8 +102,8 @@ impl Printed for CondTree {
                 binding(out, result)?;
                 word(out, "Number")?;
                 mark(out, Mark::OpenParenthesis)?;
-                write_listed(alloc, out, tests.as_slice())?;
-                accumulate(alloc, out, source, *kind, arg.as_str())
+                write_listed(out, tests.as_slice())?;
+                accumulate(out, source, *kind, arg.as_str())
             }
         }
     }
@@ -116,9 +114,9 @@ impl Printed for Piece {
 
     ghost tokens = { piece_tokens };
 
-    fn write(&self, alloc: Global, out: &mut Vec<u8>) -> Result<(), NoMemory> {
+    fn write(&self, out: &mut Vec<u8>) -> Result<(), NoMemory> {
         match self {
-            Piece::One(condition) => condition.write(alloc, out),
+            Piece::One(condition) => condition.write(out),
             Piece::Open => mark(out, Mark::OpenParenthesis),
             Piece::Or => word(out, "or"),
             Piece::Close => mark(out, Mark::CloseParenthesis),

@@ -8,7 +8,6 @@ use crate::tokens::{mark, variable, word};
 use drl_expr::{ExprTree, Node};
 use drl_lex::Mark;
 use fx_base::NoMemory;
-use std::alloc::Global;
 
 /// Whether two operands are joined at the top.
 fn is_joined(tree: &ExprTree) -> bool
@@ -22,11 +21,11 @@ fn is_joined(tree: &ExprTree) -> bool
 
 // The recursion is as deep as the tree is high, which is 32 at most for a tree that was read.
 #[cycle(writing)]
-fn expr(alloc: Global, out: &mut Vec<u8>, tree: &ExprTree) -> Result<(), NoMemory>
+fn expr(out: &mut Vec<u8>, tree: &ExprTree) -> Result<(), NoMemory>
     ensures { OnOk result (out.new.items ≡ added out.old.items (expr_tokens tree.now)) }
 {
     match tree.node() {
-        Node::Lit(literal) => literal.write(alloc, out),
+        Node::Lit(literal) => literal.write(out),
         Node::Var(name) => variable(out, name.as_str()),
         Node::VarField(name, field) => {
             variable(out, name.as_str())?;
@@ -35,43 +34,37 @@ fn expr(alloc: Global, out: &mut Vec<u8>, tree: &ExprTree) -> Result<(), NoMemor
         }
         Node::Neg(a) => {
             mark(out, Mark::Minus)?;
-            operand(alloc, out, a)
+            operand(out, a)
         }
-        Node::Add(a, b) => pair(alloc, out, a, Mark::Plus, b),
-        Node::Sub(a, b) => pair(alloc, out, a, Mark::Minus, b),
-        Node::Mul(a, b) => pair(alloc, out, a, Mark::Star, b),
+        Node::Add(a, b) => pair(out, a, Mark::Plus, b),
+        Node::Sub(a, b) => pair(out, a, Mark::Minus, b),
+        Node::Mul(a, b) => pair(out, a, Mark::Star, b),
     }
 }
 
 // An operand, in parentheses where two operands are joined in it.
 #[cycle(writing)]
 #[tactic(auto, using(crate::proofs::Added::added_append))]
-fn operand(alloc: Global, out: &mut Vec<u8>, tree: &ExprTree) -> Result<(), NoMemory>
+fn operand(out: &mut Vec<u8>, tree: &ExprTree) -> Result<(), NoMemory>
     ensures { OnOk result (out.new.items ≡ added out.old.items (enclosed_tokens tree.now)) }
 {
     if !is_joined(tree) {
-        return expr(alloc, out, tree);
+        return expr(out, tree);
     }
     mark(out, Mark::OpenParenthesis)?;
-    expr(alloc, out, tree)?;
+    expr(out, tree)?;
     mark(out, Mark::CloseParenthesis)
 }
 
 // Two operands, and the mark that joins them.
 #[cycle(writing)]
 #[tactic(auto, using(crate::proofs::Added::added_append))]
-fn pair(
-    alloc: Global,
-    out: &mut Vec<u8>,
-    left: &ExprTree,
-    joint: Mark,
-    right: &ExprTree,
-) -> Result<(), NoMemory>
+fn pair(out: &mut Vec<u8>, left: &ExprTree, joint: Mark, right: &ExprTree) -> Result<(), NoMemory>
     ensures { OnOk result (out.new.items ≡ added out.old.items (enclosed_tokens left.now ++ (MarkToken joint ∷ enclosed_tokens right.now))) }
 {
-    operand(alloc, out, left)?;
+    operand(out, left)?;
     mark(out, joint)?;
-    operand(alloc, out, right)
+    operand(out, right)
 }
 
 impl Printed for ExprTree {
@@ -79,7 +72,7 @@ impl Printed for ExprTree {
 
     ghost tokens = { expr_tokens };
 
-    fn write(&self, alloc: Global, out: &mut Vec<u8>) -> Result<(), NoMemory> {
-        expr(alloc, out, self)
+    fn write(&self, out: &mut Vec<u8>) -> Result<(), NoMemory> {
+        expr(out, self)
     }
 }

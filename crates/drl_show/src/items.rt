@@ -1,5 +1,5 @@
 ghost use Rattle.std.specs.Prelude.{◌≡◌, OnOk};
-ghost use Rattle.drl_show.specs.Canonical.{annotation_tokens, bare_annotation_tokens, entry_tokens, lateness_tokens, maybe, parent_tokens, role_word, span_annotation_tokens, star_tokens};
+ghost use Rattle.drl_show.specs.Canonical.{annotation_tokens, bare_annotation_tokens, entry_tokens, lateness_tokens, maybe, parent_tokens, role_word_shown, span_annotation_tokens, star_tokens};
 ghost use Rattle.drl_show.specs.Texts.{added};
 
 use crate::shapes::{Printed, write_each};
@@ -7,7 +7,6 @@ use crate::tokens::{mark, number, text, word};
 use drl_grammar::{Attr, Meta, WrittenRule, WrittenType};
 use drl_lex::Mark;
 use fx_base::{NoMemory, Text};
-use std::alloc::Global;
 
 /// A name, as a word.
 impl Printed for Text {
@@ -15,13 +14,13 @@ impl Printed for Text {
 
     ghost tokens = { name_tokens };
 
-    fn write(&self, _alloc: Global, out: &mut Vec<u8>) -> Result<(), NoMemory> {
+    fn write(&self, out: &mut Vec<u8>) -> Result<(), NoMemory> {
         word(out, self.as_str())
     }
 }
 
 fn role(event: bool) -> &'static str
-    ensures { result.now ≡ role_word event }
+    ensures { result.now ≡ role_word_shown event }
 {
     if event { "event" } else { "fact" }
 }
@@ -47,13 +46,13 @@ fn annotation(out: &mut Vec<u8>, name: &str, content: &str) -> Result<(), NoMemo
 
 // An annotation with a span in its parentheses, in milliseconds.
 #[tactic(auto, using(crate::proofs::Added::added_append))]
-fn span_annotation(alloc: Global, out: &mut Vec<u8>, name: &str, span: i64) -> Result<(), NoMemory>
+fn span_annotation(out: &mut Vec<u8>, name: &str, span: i64) -> Result<(), NoMemory>
     ensures { OnOk result (out.new.items ≡ added out.old.items (span_annotation_tokens name.now span)) }
 {
     mark(out, Mark::At)?;
     word(out, name)?;
     mark(out, Mark::OpenParenthesis)?;
-    number(alloc, out, span)?;
+    number(out, span)?;
     mark(out, Mark::CloseParenthesis)
 }
 
@@ -62,12 +61,12 @@ impl Printed for Meta {
 
     ghost tokens = { meta_tokens };
 
-    fn write(&self, alloc: Global, out: &mut Vec<u8>) -> Result<(), NoMemory> {
+    fn write(&self, out: &mut Vec<u8>) -> Result<(), NoMemory> {
         match self {
             Meta::Role(event) => annotation(out, "role", role(*event)),
             Meta::Timestamp(field) => annotation(out, "timestamp", field.as_str()),
             Meta::Duration(field) => annotation(out, "duration", field.as_str()),
-            Meta::Expires(ms) => span_annotation(alloc, out, "expires", *ms),
+            Meta::Expires(ms) => span_annotation(out, "expires", *ms),
             Meta::Reference => bare_annotation(out, "reference"),
         }
     }
@@ -79,7 +78,7 @@ impl Printed for (Text, Text) {
 
     ghost tokens = { field_tokens };
 
-    fn write(&self, _alloc: Global, out: &mut Vec<u8>) -> Result<(), NoMemory> {
+    fn write(&self, out: &mut Vec<u8>) -> Result<(), NoMemory> {
         word(out, self.0.as_str())?;
         mark(out, Mark::Colon)?;
         word(out, self.1.as_str())
@@ -105,39 +104,34 @@ impl Printed for WrittenType {
     ghost tokens = { type_tokens };
 
     #[tactic(auto, using(crate::proofs::Added::added_append), unfolding(crate::specs::Canonical::type_tokens))]
-    fn write(&self, alloc: Global, out: &mut Vec<u8>) -> Result<(), NoMemory> {
+    fn write(&self, out: &mut Vec<u8>) -> Result<(), NoMemory> {
         word(out, self.name.as_str())?;
         parent(out, &self.parent)?;
-        write_each(alloc, out, self.metas.as_slice())?;
-        write_each(alloc, out, self.fields.as_slice())?;
+        write_each(out, self.metas.as_slice())?;
+        write_each(out, self.fields.as_slice())?;
         word(out, "end")
     }
 }
 
-fn lateness(alloc: Global, out: &mut Vec<u8>, late: &Option<i64>) -> Result<(), NoMemory>
+fn lateness(out: &mut Vec<u8>, late: &Option<i64>) -> Result<(), NoMemory>
     ensures { OnOk result (out.new.items ≡ added out.old.items (maybe lateness_tokens late.now)) }
 {
     match late {
         None => Ok(()),
-        Some(ms) => span_annotation(alloc, out, "lateness", *ms),
+        Some(ms) => span_annotation(out, "lateness", *ms),
     }
 }
 
 /// Appends an entry point behind the word `declare`.
 #[tactic(auto, using(crate::proofs::Added::added_append), unfolding(crate::specs::Canonical::entry_tokens))]
-pub(crate) fn entry(
-    alloc: Global,
-    out: &mut Vec<u8>,
-    name: &Text,
-    late: &Option<i64>,
-) -> Result<(), NoMemory>
+pub(crate) fn entry(out: &mut Vec<u8>, name: &Text, late: &Option<i64>) -> Result<(), NoMemory>
     ensures { OnOk result (out.new.items ≡ added out.old.items (entry_tokens name.now late.now)) }
 {
     word(out, "entry")?;
     mark(out, Mark::Minus)?;
     word(out, "point")?;
     text(out, name.as_str())?;
-    lateness(alloc, out, late)?;
+    lateness(out, late)?;
     word(out, "end")
 }
 
@@ -157,11 +151,11 @@ impl Printed for Attr {
 
     ghost tokens = { attr_tokens };
 
-    fn write(&self, alloc: Global, out: &mut Vec<u8>) -> Result<(), NoMemory> {
+    fn write(&self, out: &mut Vec<u8>) -> Result<(), NoMemory> {
         match self {
             Attr::Salience(salience) => {
                 word(out, "salience")?;
-                number(alloc, out, *salience)
+                number(out, *salience)
             }
             Attr::Dialect(dialect) => {
                 word(out, "dialect")?;
@@ -177,13 +171,13 @@ impl Printed for WrittenRule {
     ghost tokens = { rule_tokens };
 
     #[tactic(auto, using(crate::proofs::Added::added_append), unfolding(crate::specs::Canonical::rule_tokens))]
-    fn write(&self, alloc: Global, out: &mut Vec<u8>) -> Result<(), NoMemory> {
+    fn write(&self, out: &mut Vec<u8>) -> Result<(), NoMemory> {
         text(out, self.name.as_str())?;
-        write_each(alloc, out, self.attrs.as_slice())?;
+        write_each(out, self.attrs.as_slice())?;
         word(out, "when")?;
-        write_each(alloc, out, self.pieces.as_slice())?;
+        write_each(out, self.pieces.as_slice())?;
         word(out, "then")?;
-        write_each(alloc, out, self.actions.as_slice())?;
+        write_each(out, self.actions.as_slice())?;
         word(out, "end")
     }
 }

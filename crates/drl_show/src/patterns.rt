@@ -8,7 +8,6 @@ use crate::tokens::{mark, number, text, variable, word};
 use drl_grammar::{Cmp, Part, SourceTree, WindowTree};
 use drl_lex::Mark;
 use fx_base::{NoMemory, Seq, Text};
-use std::alloc::Global;
 use temporal_ops::OpWord;
 
 impl Printed for Cmp {
@@ -16,7 +15,7 @@ impl Printed for Cmp {
 
     ghost tokens = { cmp_tokens };
 
-    fn write(&self, alloc: Global, out: &mut Vec<u8>) -> Result<(), NoMemory> {
+    fn write(&self, out: &mut Vec<u8>) -> Result<(), NoMemory> {
         match self {
             Cmp::Rel {
                 field,
@@ -25,13 +24,13 @@ impl Printed for Cmp {
             } => {
                 word(out, field.as_str())?;
                 mark(out, Mark::Comparison(*rel))?;
-                operand.write(alloc, out)
+                operand.write(out)
             }
             Cmp::OneOf { field, operands } => {
                 word(out, field.as_str())?;
                 word(out, "in")?;
                 mark(out, Mark::OpenParenthesis)?;
-                write_listed(alloc, out, operands.as_slice())
+                write_listed(out, operands.as_slice())
             }
         }
     }
@@ -42,8 +41,8 @@ impl Printed for Seq<Cmp> {
 
     ghost tokens = { conj_tokens };
 
-    fn write(&self, alloc: Global, out: &mut Vec<u8>) -> Result<(), NoMemory> {
-        write_parted(alloc, out, Mark::And, self.as_slice())
+    fn write(&self, out: &mut Vec<u8>) -> Result<(), NoMemory> {
+        write_parted(out, Mark::And, self.as_slice())
     }
 }
 
@@ -69,14 +68,14 @@ fn op_word(op: OpWord) -> &'static str
 
 // Parameters in brackets, where there are any.
 #[tactic(auto, using(crate::proofs::Added::params_end))]
-fn params(alloc: Global, out: &mut Vec<u8>, params: &[i64]) -> Result<(), NoMemory>
+fn params(out: &mut Vec<u8>, params: &[i64]) -> Result<(), NoMemory>
     ensures { OnOk result (out.new.items ≡ added out.old.items (param_tokens params.now)) }
 {
     if params.is_empty() {
         return Ok(());
     }
     mark(out, Mark::OpenBracket)?;
-    write_parted(alloc, out, Mark::Comma, params)?;
+    write_parted(out, Mark::Comma, params)?;
     mark(out, Mark::CloseBracket)
 }
 
@@ -86,7 +85,7 @@ impl Printed for Part {
     ghost tokens = { part_tokens };
 
     #[tactic(auto, using(crate::proofs::Added::added_append))]
-    fn write(&self, alloc: Global, out: &mut Vec<u8>) -> Result<(), NoMemory> {
+    fn write(&self, out: &mut Vec<u8>) -> Result<(), NoMemory> {
         match self {
             Part::Bind { var, field } => {
                 variable(out, var.as_str())?;
@@ -100,17 +99,17 @@ impl Printed for Part {
             } => {
                 word(out, "this")?;
                 word(out, op_word(*op))?;
-                params(alloc, out, values.as_slice())?;
+                params(out, values.as_slice())?;
                 variable(out, other.as_str())
             }
-            Part::AnyOf(groups) => write_parted(alloc, out, Mark::Or, groups.as_slice()),
+            Part::AnyOf(groups) => write_parted(out, Mark::Or, groups.as_slice()),
         }
     }
 }
 
 // A window, with the word for what it counts.
 #[tactic(auto, using(crate::proofs::Added::added_append))]
-fn window(alloc: Global, out: &mut Vec<u8>, counted: &str, measure: &i64) -> Result<(), NoMemory>
+fn window(out: &mut Vec<u8>, counted: &str, measure: &i64) -> Result<(), NoMemory>
     ensures { OnOk result (out.new.items ≡ added out.old.items (counted_window counted.now measure.now)) }
 {
     word(out, "over")?;
@@ -118,7 +117,7 @@ fn window(alloc: Global, out: &mut Vec<u8>, counted: &str, measure: &i64) -> Res
     mark(out, Mark::Colon)?;
     word(out, counted)?;
     mark(out, Mark::OpenParenthesis)?;
-    number(alloc, out, *measure)?;
+    number(out, *measure)?;
     mark(out, Mark::CloseParenthesis)
 }
 
@@ -127,10 +126,10 @@ impl Printed for WindowTree {
 
     ghost tokens = { window_tokens };
 
-    fn write(&self, alloc: Global, out: &mut Vec<u8>) -> Result<(), NoMemory> {
+    fn write(&self, out: &mut Vec<u8>) -> Result<(), NoMemory> {
         match self {
-            WindowTree::Time(ms) => window(alloc, out, "time", ms),
-            WindowTree::Length(count) => window(alloc, out, "length", count),
+            WindowTree::Time(ms) => window(out, "time", ms),
+            WindowTree::Length(count) => window(out, "length", count),
         }
     }
 }
@@ -169,12 +168,12 @@ impl Printed for SourceTree {
     ghost tokens = { source_tokens };
 
     #[tactic(auto, using(crate::proofs::Added::added_append), unfolding(crate::specs::Canonical::source_tokens))]
-    fn write(&self, alloc: Global, out: &mut Vec<u8>) -> Result<(), NoMemory> {
+    fn write(&self, out: &mut Vec<u8>) -> Result<(), NoMemory> {
         binding(out, &self.var)?;
         word(out, self.ty.as_str())?;
         mark(out, Mark::OpenParenthesis)?;
-        write_listed(alloc, out, self.parts.as_slice())?;
-        write_maybe(alloc, out, &self.window)?;
+        write_listed(out, self.parts.as_slice())?;
+        write_maybe(out, &self.window)?;
         place(out, &self.entry)
     }
 }

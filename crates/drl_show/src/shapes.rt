@@ -7,45 +7,35 @@ ghost use Rattle.drl_show.specs.Texts.{added};
 use crate::tokens::mark;
 use drl_lex::Mark;
 use fx_base::NoMemory;
-use std::alloc::Global;
 
 /// What is printed as tokens.
 pub(crate) trait Printed {
     ghost tokens: { Self → List TokenKind_data };
 
     /// Appends the tokens, each with a space before it.
-    fn write(&self, alloc: Global, out: &mut Vec<u8>) -> Result<(), NoMemory>
+    fn write(&self, out: &mut Vec<u8>) -> Result<(), NoMemory>
         ensures { OnOk result (out.new.items ≡ added out.old.items (tokens self.now)) };
 }
 
 /// Appends each, one behind the other.
 #[tactic(auto, using(crate::proofs::Added::added_append))]
-pub(crate) fn write_each<T: Printed>(
-    alloc: Global,
-    out: &mut Vec<u8>,
-    items: &[T],
-) -> Result<(), NoMemory>
+pub(crate) fn write_each<T: Printed>(out: &mut Vec<u8>, items: &[T]) -> Result<(), NoMemory>
     ensures { OnOk result (out.new.items ≡ added out.old.items (each T.tokens items.now)) }
 {
     for item in items {
-        item.write(alloc, out)?;
+        item.write(out)?;
     }
     Ok(())
 }
 
 // Appends each with the mark before it.
 #[tactic(auto, using(crate::proofs::Added::added_append))]
-fn write_behind<T: Printed>(
-    alloc: Global,
-    out: &mut Vec<u8>,
-    separator: Mark,
-    items: &[T],
-) -> Result<(), NoMemory>
+fn write_behind<T: Printed>(out: &mut Vec<u8>, separator: Mark, items: &[T]) -> Result<(), NoMemory>
     ensures { OnOk result (out.new.items ≡ added out.old.items (each (λ y. MarkToken separator ∷ T.tokens y) items.now)) }
 {
     for item in items {
         mark(out, separator)?;
-        item.write(alloc, out)?;
+        item.write(out)?;
     }
     Ok(())
 }
@@ -53,7 +43,6 @@ fn write_behind<T: Printed>(
 /// Appends each, with the mark between two.
 #[tactic(auto, using(crate::proofs::Added::added_append))]
 pub(crate) fn write_parted<T: Printed>(
-    alloc: Global,
     out: &mut Vec<u8>,
     separator: Mark,
     items: &[T],
@@ -63,35 +52,27 @@ pub(crate) fn write_parted<T: Printed>(
     match items {
         [] => Ok(()),
         [first, rest @ ..] => {
-            first.write(alloc, out)?;
-            write_behind(alloc, out, separator, rest)
+            first.write(out)?;
+            write_behind(out, separator, rest)
         }
     }
 }
 
 /// Appends each, with commas between them, and a closing parenthesis.
 #[tactic(auto, using(crate::proofs::Added::added_append))]
-pub(crate) fn write_listed<T: Printed>(
-    alloc: Global,
-    out: &mut Vec<u8>,
-    items: &[T],
-) -> Result<(), NoMemory>
+pub(crate) fn write_listed<T: Printed>(out: &mut Vec<u8>, items: &[T]) -> Result<(), NoMemory>
     ensures { OnOk result (out.new.items ≡ added out.old.items (listed T.tokens items.now)) }
 {
-    write_parted(alloc, out, Mark::Comma, items)?;
+    write_parted(out, Mark::Comma, items)?;
     mark(out, Mark::CloseParenthesis)
 }
 
 /// Appends it, where it is there.
-pub(crate) fn write_maybe<T: Printed>(
-    alloc: Global,
-    out: &mut Vec<u8>,
-    item: &Option<T>,
-) -> Result<(), NoMemory>
+pub(crate) fn write_maybe<T: Printed>(out: &mut Vec<u8>, item: &Option<T>) -> Result<(), NoMemory>
     ensures { OnOk result (out.new.items ≡ added out.old.items (maybe T.tokens item.now)) }
 {
     match item {
         None => Ok(()),
-        Some(item) => item.write(alloc, out),
+        Some(item) => item.write(out),
     }
 }

@@ -1,5 +1,5 @@
 ghost use Rattle.std.specs.Prelude.{◌≡◌, ◌++◌, IfOk, OnOk, codes};
-ghost use Rattle.drl_show.specs.Canonical.{behind_word, item_word, tokens_of_item};
+ghost use Rattle.drl_show.specs.Canonical.{behind_word, item_word_shown, tokens_of_item};
 ghost use Rattle.drl_show.specs.Shown.{shown};
 ghost use Rattle.drl_show.specs.Texts.{added, joined};
 
@@ -13,7 +13,7 @@ use std::alloc::Global;
 
 // The word that an item begins with.
 fn first_word(body: &WrittenBody) -> &'static [u8]
-    ensures { result.now ≡ item_word body.now }
+    ensures { result.now ≡ item_word_shown body.now }
 {
     match body {
         WrittenBody::Package(_) => b"package",
@@ -26,29 +26,29 @@ fn first_word(body: &WrittenBody) -> &'static [u8]
 
 // What stands behind the word.
 #[tactic(auto, using(crate::proofs::Added::added_append))]
-fn behind_first(alloc: Global, out: &mut Vec<u8>, body: &WrittenBody) -> Result<(), NoMemory>
+fn behind_first(out: &mut Vec<u8>, body: &WrittenBody) -> Result<(), NoMemory>
     ensures { OnOk result (out.new.items ≡ added out.old.items (behind_word body.now)) }
 {
     match body {
-        WrittenBody::Package(path) => write_parted(alloc, out, Mark::Dot, path.as_slice()),
+        WrittenBody::Package(path) => write_parted(out, Mark::Dot, path.as_slice()),
         WrittenBody::Import { path, star: all } => {
-            write_parted(alloc, out, Mark::Dot, path.as_slice())?;
+            write_parted(out, Mark::Dot, path.as_slice())?;
             star(out, *all)
         }
         WrittenBody::Dialect(dialect) => text(out, dialect.as_str()),
-        WrittenBody::Declare(declared) => declared.write(alloc, out),
-        WrittenBody::Entry { name, lateness } => entry(alloc, out, name, lateness),
-        WrittenBody::Rule(rule) => rule.write(alloc, out),
+        WrittenBody::Declare(declared) => declared.write(out),
+        WrittenBody::Entry { name, lateness } => entry(out, name, lateness),
+        WrittenBody::Rule(rule) => rule.write(out),
     }
 }
 
 // An item in a line of its own.
 #[tactic(auto, using(crate::proofs::Added::line_is))]
-fn line(alloc: Global, out: &mut Vec<u8>, body: &WrittenBody) -> Result<(), NoMemory>
+fn line(out: &mut Vec<u8>, body: &WrittenBody) -> Result<(), NoMemory>
     ensures { OnOk result (out.new.items ≡ out.old.items ++ (joined (tokens_of_item body.now) ++ codes "\n")) }
 {
     out.extend_from_slice(first_word(body))?;
-    behind_first(alloc, out, body)?;
+    behind_first(out, body)?;
     out.push(b'\n')?;
     Ok(())
 }
@@ -61,7 +61,7 @@ pub fn show(alloc: Global, file: &Written) -> Result<Vec<u8>, NoMemory>
 {
     let mut out = Vec::new(alloc);
     for item in file.items.as_slice() {
-        line(alloc, &mut out, &item.body)?;
+        line(&mut out, &item.body)?;
     }
     Ok(out)
 }

@@ -6,7 +6,7 @@ ghost use Rattle.drl_lex.specs.Marks.{mark_text, rel_text};
 
 use drl_lex::{Mark, Rel};
 use fx_base::NoMemory;
-use std::alloc::Global;
+use itoa::Buffer;
 
 fn rel_bytes(rel: Rel) -> &'static [u8]
     ensures { result.now ≡ rel_text rel }
@@ -77,23 +77,23 @@ pub(crate) fn variable(out: &mut Vec<u8>, name: &str) -> Result<(), NoMemory>
 }
 
 #[tactic(auto, unfolding(crate::specs::Texts::token_text))]
-fn natural(alloc: Global, out: &mut Vec<u8>, number: u64) -> Result<(), NoMemory>
+fn natural(out: &mut Vec<u8>, number: u64) -> Result<(), NoMemory>
     ensures { OnOk result (out.new.items ≡ added out.old.items (Number number ∷ [])) }
 {
-    let digits = number.to_string(alloc)?;
+    let mut digits = Buffer::new();
     out.push(b' ')?;
-    out.extend_from_slice(digits.as_bytes())?;
+    out.extend_from_slice(digits.format(number).as_bytes())?;
     Ok(())
 }
 
 /// Appends the number, each of its tokens with a space before it.
-pub(crate) fn number(alloc: Global, out: &mut Vec<u8>, number: i64) -> Result<(), NoMemory>
+pub(crate) fn number(out: &mut Vec<u8>, number: i64) -> Result<(), NoMemory>
     ensures { OnOk result (out.new.items ≡ added out.old.items (number_tokens number)) }
 {
     if number < 0 {
         mark(out, Mark::Minus)?;
     }
-    natural(alloc, out, number.unsigned_abs())
+    natural(out, number.unsigned_abs())
 }
 
 /// Appends a byte as it is written between double quotes.

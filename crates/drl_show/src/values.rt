@@ -7,7 +7,6 @@ use drl_expr::LitTree;
 use drl_grammar::Operand;
 use drl_lex::Mark;
 use fx_base::NoMemory;
-use std::alloc::Global;
 
 /// A span in milliseconds, or another number.
 impl Printed for i64 {
@@ -15,8 +14,8 @@ impl Printed for i64 {
 
     ghost tokens = { number_tokens };
 
-    fn write(&self, alloc: Global, out: &mut Vec<u8>) -> Result<(), NoMemory> {
-        number(alloc, out, *self)
+    fn write(&self, out: &mut Vec<u8>) -> Result<(), NoMemory> {
+        number(out, *self)
     }
 }
 
@@ -31,9 +30,9 @@ impl Printed for LitTree {
 
     ghost tokens = { literal_tokens };
 
-    fn write(&self, alloc: Global, out: &mut Vec<u8>) -> Result<(), NoMemory> {
+    fn write(&self, out: &mut Vec<u8>) -> Result<(), NoMemory> {
         match self {
-            LitTree::Int(value) => number(alloc, out, *value),
+            LitTree::Int(value) => number(out, *value),
             LitTree::Bool(value) => word(out, truth(*value)),
             LitTree::Text(content) => text(out, content.as_str()),
         }
@@ -45,9 +44,9 @@ impl Printed for Operand {
 
     ghost tokens = { operand_tokens };
 
-    fn write(&self, alloc: Global, out: &mut Vec<u8>) -> Result<(), NoMemory> {
+    fn write(&self, out: &mut Vec<u8>) -> Result<(), NoMemory> {
         match self {
-            Operand::Lit(literal) => literal.write(alloc, out),
+            Operand::Lit(literal) => literal.write(out),
             Operand::Var(name) => variable(out, name.as_str()),
             Operand::VarField(name, field) => {
                 variable(out, name.as_str())?;

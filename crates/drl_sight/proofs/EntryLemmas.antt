@@ -1,12 +1,13 @@
 -- Known names, and behind them those of two lists, or of the items of a file.
-use Rattle.drl_sight.proofs.Common.{◌≡◌, ◌+◌, ◌<◌, ◌++◌, ◌∷◌, ℕ, suc, List, [], length, get_or, drop, drop-cons, add-one, refl, sym, ap, ◌∙◌, flat_map, Item, entries_named, with_name}
+use Rattle.drl_sight.proofs.Common.{◌≡◌, ◌+◌, ◌<◌, ◌++◌, ◌∷◌, ℕ, suc, List, [], length, get_or, drop, drop-cons, add-one, refl, sym, ap, ◌∙◌, flat_map, Item}
+use Rattle.drl_sight.proofs.Common.{entries_named, with_entry_name}
 use Rattle.drl_sight.specs.EntryPoints.{with_names}
 
 -- those of two lists are those of the first, and behind them those of the second
 pub with_both : (known a b : List (List ℕ)) → with_names known (a ++ b) ≡ with_names (with_names known a) b
 unfolding with_names
 with_both known [] b = refl
-with_both known (name ∷ a) b = with_both (with_name known name) a b
+with_both known (name ∷ a) b = with_both (with_entry_name known name) a b
 
 abbrev pub named_in : Item → List (List ℕ)
 named_in item = entries_named item.body

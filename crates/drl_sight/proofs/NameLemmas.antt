@@ -1,8 +1,11 @@
 -- The places of names in a list that grows at its end, and names that stand once.
-use Rattle.drl_sight.proofs.Common.{◌≡◌, ◌+◌, ◌++◌, ◌∷◌, ◌&&◌, ◌||◌, ℕ, ◌<◌, Bool, true, false, not, List, [], length, get_or, drop, drop-cons, add-one, Option, Some, None, is_some, cond, refl, sym, ap, subst, ◌∙◌, append_assoc, suc, arith, place_of, is_among}
+use Rattle.drl_sight.proofs.Common.{◌≡◌, ◌+◌, ◌++◌, ◌∷◌, ◌&&◌, ◌||◌, ℕ, ◌<◌, Bool, true, false, not, List, [], length, get_or, drop, drop-cons, add-one, Option}
+use Rattle.drl_sight.proofs.Common.{Some, None, is_some, cond, refl, sym, ap, subst, ◌∙◌, append_assoc, suc, arith, place_of_name, is_among}
+use Rattle.std.proofs.lemmas.Bool.{or_right}
 use Rattle.std.specs.Str.{bytes_eq}
 use Rattle.std.specs.Cmp.Lexicographic.{nat_list_eq_equiv}
 use Rattle.drl_sight.specs.Names.{place_from, are_distinct}
+use Rattle.fx_base.proofs.Tests.{or_first_false, or_second_false}
 
 abbrev turned : (a b : List ℕ) → bytes_eq a b ≡ bytes_eq b a
 turned a b = nat_list_eq_equiv.symm a b
@@ -55,14 +58,14 @@ added_by true None p j h e = refl
 added_by false None p j h e = refl
 
 -- a name that is there keeps its place
-pub kept : (names : List (List ℕ)) (n name : List ℕ) → is_some (place_of names n) ≡ true → place_of (names ++ n ∷ []) name ≡ place_of names name
+pub kept : (names : List (List ℕ)) (n name : List ℕ) → is_some (place_of_name names n) ≡ true → place_of_name (names ++ n ∷ []) name ≡ place_of_name names name
 kept names n name e =
-    placed_last 0 (length names) names n name (omega arith) ∙ kept_by (bytes_eq n name) (place_of names name) (place_of names n) (length names) e (λ h. placed_same 0 names n name h)
+    placed_last 0 (length names) names n name (omega arith) ∙ kept_by (bytes_eq n name) (place_of_name names name) (place_of_name names n) (length names) e (λ h. placed_same 0 names n name h)
 
 -- a new name has the last place
-pub added : (names : List (List ℕ)) (n name : List ℕ) → is_some (place_of names n) ≡ false → place_of (names ++ n ∷ []) name ≡ cond (bytes_eq n name) (Some (length names)) (place_of names name)
+pub added : (names : List (List ℕ)) (n name : List ℕ) → is_some (place_of_name names n) ≡ false → place_of_name (names ++ n ∷ []) name ≡ cond (bytes_eq n name) (Some (length names)) (place_of_name names name)
 added names n name e =
-    placed_last 0 (length names) names n name (omega arith) ∙ added_by (bytes_eq n name) (place_of names name) (place_of names n) (length names) e (λ h. placed_same 0 names n name h)
+    placed_last 0 (length names) names n name (omega arith) ∙ added_by (bytes_eq n name) (place_of_name names name) (place_of_name names n) (length names) e (λ h. placed_same 0 names n name h)
 
 -- ---- names that stand once
 
@@ -71,10 +74,6 @@ or_any true true c e = refl
 or_any true false c e = refl
 or_any false true c e = refl
 or_any false false c e = cc
-
-or_right : (a b : Bool) → b ≡ true → (a || b) ≡ true
-or_right true b e = refl
-or_right false b e = e
 
 among_middle : (names others : List (List ℕ)) (n name : List ℕ) → bytes_eq name n ≡ true → is_among (names ++ n ∷ others) name ≡ true
 among_middle [] others n name e = or_any false (bytes_eq name n) (is_among others name) e
@@ -111,22 +110,14 @@ still_apart true b c d e h g = cc
 still_apart false b true d e h g = let f : true ≡ false = h refl in cc
 still_apart false b false d e h g = g e
 
-or_left_false : (a b : Bool) → (a || b) ≡ false → a ≡ false
-or_left_false true b e = e
-or_left_false false b e = refl
-
-or_right_false : (a b : Bool) → (a || b) ≡ false → b ≡ false
-or_right_false true b e = cc
-or_right_false false b e = e
-
 -- one name more that is new
 pub still_distinct : (names : List (List ℕ)) (name : List ℕ) → are_distinct names ≡ true → is_among names name ≡ false → are_distinct (names ++ name ∷ []) ≡ true
 unfolding are_distinct
 still_distinct [] name e h = refl
 still_distinct (first ∷ names) name e h =
     still_apart (is_among names first) (are_distinct names) (is_among (names ++ name ∷ []) first) (are_distinct (names ++ name ∷ [])) e
-    (λ g. among_last names name first g (turned first name ∙ or_left_false (bytes_eq name first) (is_among names name) h))
-    (λ g. still_distinct names name g (or_right_false (bytes_eq name first) (is_among names name) h))
+    (λ g. among_last names name first g (turned first name ∙ or_first_false (bytes_eq name first) (is_among names name) h))
+    (λ g. still_distinct names name g (or_second_false (bytes_eq name first) (is_among names name) h))
 
 -- ---- the same, of a list that is read from its front
 

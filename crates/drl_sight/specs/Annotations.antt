@@ -16,8 +16,8 @@ abbrev pub role_of : List Meta → Bool
 role_of [] = false
 role_of (m ∷ metas) = role_with m (role_of metas)
 
-abbrev pub is_event : TypeTree → Bool
-is_event t = role_of t.metas
+abbrev pub is_tree_of_events : TypeTree → Bool
+is_tree_of_events t = role_of t.metas
 
 abbrev pub timestamp_with : Meta → Option (List ℕ) → Option (List ℕ)
 timestamp_with (meta.Timestamp field) others = Some field
@@ -39,9 +39,9 @@ duration_with (meta.Expires offset) others = others
 duration_with meta.Reference others = others
 
 -- the field that holds the duration
-abbrev pub duration_of : List Meta → Option (List ℕ)
-duration_of [] = None
-duration_of (m ∷ metas) = duration_with m (duration_of metas)
+abbrev pub duration_field_of : List Meta → Option (List ℕ)
+duration_field_of [] = None
+duration_field_of (m ∷ metas) = duration_with m (duration_field_of metas)
 
 abbrev pub expiry_with : Meta → Option ℤ → Option ℤ
 expiry_with (meta.Expires offset) others = Some offset
@@ -51,9 +51,9 @@ expiry_with (meta.Duration field) others = others
 expiry_with meta.Reference others = others
 
 -- how long behind its start an event is present, in milliseconds
-abbrev pub expiry_of : List Meta → Option ℤ
-expiry_of [] = None
-expiry_of (m ∷ metas) = expiry_with m (expiry_of metas)
+abbrev pub declared_expiry : List Meta → Option ℤ
+declared_expiry [] = None
+declared_expiry (m ∷ metas) = expiry_with m (declared_expiry metas)
 
 abbrev pub is_reference_meta : Meta → Bool
 is_reference_meta meta.Reference = true

@@ -9,7 +9,8 @@ use Rattle.drl_grammar.specs.declared.file.Body.TheVariants as body
 use Rattle.drl_grammar.specs.declared.file.Item.{Item}
 use Rattle.drl_grammar.specs.declared.file.TypeTree.{TypeTree}
 use Rattle.drl_grammar.specs.declared.file.RuleTree.{RuleTree}
-use Rattle.drl_sight.specs.Names.{is_among, place_of}
+use Rattle.drl_sight.specs.Names.{place_of_name}
+use Rattle.drl_expr.specs.Words.{is_among}
 
 abbrev pub type_in : Body → List TypeTree
 type_in (body.Declare t) = t ∷ []
@@ -44,12 +45,12 @@ abbrev pub field_names : TypeTree → List (List ℕ)
 field_names t = map (λ (field : List ℕ × List ℕ). field.0) t.fields
 
 -- the type of a name
-abbrev pub type_named : List TypeTree → List ℕ → Option TypeTree
-type_named types name = option_and_then (λ k. slice_get types k) (place_of (type_names types) name)
+abbrev pub type_tree_named : List TypeTree → List ℕ → Option TypeTree
+type_tree_named types name = option_and_then (λ k. slice_get types k) (place_of_name (type_names types) name)
 
 -- the kind that a kind word names, if it names one
-unfoldable pub kind_of : List ℕ → Option Kind
-kind_of word =
+unfoldable pub kind_by_word : List ℕ → Option Kind
+kind_by_word word =
     if is_among (codes "int" ∷ codes "long" ∷ codes "Integer" ∷ codes "Long" ∷ []) word then Some kind.Int
     else if is_among (codes "boolean" ∷ codes "Boolean" ∷ []) word then Some kind.Bool
     else if is_among (codes "String" ∷ []) word then Some kind.Text
@@ -57,4 +58,4 @@ kind_of word =
 
 -- the kind of a field by its place; a field whose kind word is none of the seven has none
 abbrev pub kind_at : TypeTree → ℕ → Option Kind
-kind_at t k = option_and_then (λ (field : List ℕ × List ℕ). kind_of field.1) (slice_get t.fields k)
+kind_at t k = option_and_then (λ (field : List ℕ × List ℕ). kind_by_word field.1) (slice_get t.fields k)

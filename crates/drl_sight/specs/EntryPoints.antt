@@ -9,7 +9,7 @@ use Rattle.drl_grammar.specs.declared.condition.SourceTree.{SourceTree}
 use Rattle.drl_grammar.specs.declared.file.Body.{Body}
 use Rattle.drl_grammar.specs.declared.file.Body.TheVariants as body
 use Rattle.drl_grammar.specs.declared.file.Item.{Item}
-use Rattle.drl_sight.specs.Names.{is_among}
+use Rattle.drl_expr.specs.Words.{is_among}
 
 unfoldable pub default_name : List ℕ
 default_name = codes "DEFAULT"
@@ -47,13 +47,13 @@ abbrev pub declared_entries : List Item → List (List ℕ)
 declared_entries items = flat_map (λ (item : Item). entries_declared item.body) items
 
 -- known names, and behind them one that may be new
-abbrev pub with_name : List (List ℕ) → List ℕ → List (List ℕ)
-with_name known name = if is_among known name then known else known ++ name ∷ []
+abbrev pub with_entry_name : List (List ℕ) → List ℕ → List (List ℕ)
+with_entry_name known name = if is_among known name then known else known ++ name ∷ []
 
 -- known names, and behind them those that are new
 unfoldable pub with_names : List (List ℕ) → List (List ℕ) → List (List ℕ)
 with_names known [] = known
-with_names known (name ∷ names) = with_names (with_name known name) names
+with_names known (name ∷ names) = with_names (with_entry_name known name) names
 
 abbrev pub entry_names : List Item → List (List ℕ)
 entry_names items = with_names (default_name ∷ []) (flat_map (λ (item : Item). entries_named item.body) items)

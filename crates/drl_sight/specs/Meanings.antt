@@ -4,7 +4,8 @@ use Rattle.std.specs.Option.{option_and_then}
 use Rattle.fx_base.specs.declared.kind.Kind.{Kind}
 use Rattle.fx_base.specs.declared.kind.Kind.TheVariants as kind
 use Rattle.drl_grammar.specs.declared.file.TypeTree.{TypeTree}
-use Rattle.drl_sight.specs.Names.{is_among, place_of}
+use Rattle.drl_sight.specs.Names.{place_of_name}
+use Rattle.drl_expr.specs.Words.{is_among}
 use Rattle.drl_sight.specs.Declarations.{field_names, kind_at}
 use Rattle.drl_sight.specs.Sight.{Meaning, of_fact, of_field, of_result}
 
@@ -21,7 +22,7 @@ lacks_for None f = false
 
 -- the kind of a field of a type, by its name
 abbrev pub field_kind : TypeTree → List ℕ → Option Kind
-field_kind t f = option_and_then (kind_at t) (place_of (field_names t) f)
+field_kind t f = option_and_then (kind_at t) (place_of_name (field_names t) f)
 
 -- the kind of a variable that is a value; a result is a whole number
 abbrev pub variable_kind : Option Meaning → Option (Option Kind)

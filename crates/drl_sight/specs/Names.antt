@@ -1,13 +1,10 @@
 -- Names: their lengths, their places in a list, and whether one stands twice.
 use Rattle.std.specs.Prelude.{ℕ, ◌+◌, ◌&&◌, Bool, true, not, List, [], ◌∷◌, length, nat_le, Option, Some, None, if◌then◌else◌}
-use Rattle.std.specs.List.{list_any}
 use Rattle.std.specs.Str.{bytes_eq}
+use Rattle.drl_expr.specs.Words.{is_among}
 
-abbrev pub is_short : ℕ → List ℕ → Bool
-is_short most name = nat_le (length name) most
-
-abbrev pub is_among : List (List ℕ) → List ℕ → Bool
-is_among names name = list_any (bytes_eq name) names
+abbrev pub is_name_short : ℕ → List ℕ → Bool
+is_name_short most name = nat_le (length name) most
 
 -- no name stands twice
 unfoldable pub are_distinct : List (List ℕ) → Bool
@@ -19,5 +16,5 @@ unfoldable pub place_from : ℕ → List (List ℕ) → List ℕ → Option ℕ
 place_from k [] name = None
 place_from k (first ∷ names) name = if bytes_eq first name then Some k else place_from (k + 1) names name
 
-abbrev pub place_of : List (List ℕ) → List ℕ → Option ℕ
-place_of names name = place_from 0 names name
+abbrev pub place_of_name : List (List ℕ) → List ℕ → Option ℕ
+place_of_name names name = place_from 0 names name

@@ -9,17 +9,17 @@ use Rattle.drl_grammar.specs.declared.file.Body.{Body}
 use Rattle.drl_grammar.specs.declared.file.Body.TheVariants as body
 use Rattle.drl_grammar.specs.declared.file.Item.{Item}
 use Rattle.drl_grammar.specs.declared.file.TypeTree.{TypeTree}
-use Rattle.drl_sight.specs.Names.{is_among}
-use Rattle.drl_sight.specs.Annotations.{is_event}
+use Rattle.drl_expr.specs.Words.{is_among}
+use Rattle.drl_sight.specs.Annotations.{is_tree_of_events}
 
-abbrev pub is_length : Option WindowTree → Bool
-is_length None = false
-is_length (Some (window.Time millis)) = false
-is_length (Some (window.Length count)) = true
+abbrev pub is_of_length : Option WindowTree → Bool
+is_of_length None = false
+is_of_length (Some (window.Time millis)) = false
+is_of_length (Some (window.Length count)) = true
 
 -- the types that a condition watches: that of a not, an exists or an accumulate, and that of a pattern with a length window
 abbrev pub watched_by : CondTree → List (List ℕ)
-watched_by (condition.Plain s) = if is_length s.window then s.ty ∷ [] else []
+watched_by (condition.Plain s) = if is_of_length s.window then s.ty ∷ [] else []
 watched_by (condition.Negated s) = s.ty ∷ []
 watched_by (condition.Existing s) = s.ty ∷ []
 watched_by (condition.Folded result s kind arg tests) = s.ty ∷ []
@@ -38,8 +38,8 @@ watched_names items = flat_map (λ (item : Item). watched_in item.body) items
 
 -- an event type that has one of these names
 abbrev pub is_event_among : List (List ℕ) → TypeTree → Bool
-is_event_among names t = is_event t && is_among names t.name
+is_event_among names t = is_tree_of_events t && is_among names t.name
 
 -- an event type that some condition of the file watches
-abbrev pub is_observed : List Item → TypeTree → Bool
-is_observed items t = is_event_among (watched_names items) t
+abbrev pub is_watched_type : List Item → TypeTree → Bool
+is_watched_type items t = is_event_among (watched_names items) t

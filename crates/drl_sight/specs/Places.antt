@@ -2,8 +2,8 @@
 use Rattle.std.specs.Prelude.{◌≡◌, ℕ, List}
 use Rattle.std.specs.Str.{bytes_eq}
 use Rattle.std.specs.HashMap.{HashMap, get}
-use Rattle.drl_sight.specs.Names.{place_of}
+use Rattle.drl_sight.specs.Names.{place_of_name}
 
 -- the map has at each name the place of the first of this name
 abbrev pub AreFirst : {S : Type 0} → List (List ℕ) → HashMap (List ℕ) ℕ S → Type 0
-AreFirst names first = (name : List ℕ) → get bytes_eq first name ≡ place_of names name
+AreFirst names first = (name : List ℕ) → get bytes_eq first name ≡ place_of_name names name

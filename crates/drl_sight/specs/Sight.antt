@@ -9,8 +9,8 @@ use Rattle.drl_grammar.specs.declared.condition.SourceTree.{SourceTree}
 use Rattle.drl_grammar.specs.declared.condition.Part.{Part}
 use Rattle.drl_grammar.specs.declared.condition.Part.TheVariants as part
 use Rattle.drl_grammar.specs.declared.file.TypeTree.{TypeTree}
-use Rattle.drl_sight.specs.Names.{place_of}
-use Rattle.drl_sight.specs.Declarations.{type_named, field_names, kind_at}
+use Rattle.drl_sight.specs.Names.{place_of_name}
+use Rattle.drl_sight.specs.Declarations.{type_tree_named, field_names, kind_at}
 
 -- what a variable means: the fact of a positive pattern, by its number and its type, a field of such a fact, by its place, or
 -- the result of an accumulate, by its number
@@ -37,7 +37,7 @@ seen_field fact t v None = []
 seen_field fact t v (Some k) = (v, of_field fact k (kind_at t k)) ∷ []
 
 abbrev pub seen_in : ℕ → TypeTree → Part → Sight
-seen_in fact t (part.Bind v f) = seen_field fact t v (place_of (field_names t) f)
+seen_in fact t (part.Bind v f) = seen_field fact t v (place_of_name (field_names t) f)
 seen_in fact t (part.Temporal op params other) = []
 seen_in fact t (part.AnyOf groups) = []
 
@@ -64,7 +64,7 @@ begin = record { sight = []; facts = 0; results = 0 }
 -- An accumulate without a variable for its result has a number too.
 abbrev pub behind : List TypeTree → Place → CondTree → Place
 behind types place (condition.Plain s) =
-    record { sight = place.sight ++ seen_of place.facts s (type_named types s.ty); facts = place.facts + 1; results = place.results }
+    record { sight = place.sight ++ seen_of place.facts s (type_tree_named types s.ty); facts = place.facts + 1; results = place.results }
 behind types place (condition.Negated s) = place
 behind types place (condition.Existing s) = place
 behind types place (condition.Folded result s kind arg tests) =

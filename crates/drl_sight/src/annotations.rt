@@ -1,12 +1,12 @@
 ghost use Rattle.std.specs.Prelude.{◌≡◌, option_map};
-ghost use Rattle.drl_sight.specs.Annotations.{role_of, is_event, timestamp_of, duration_of, expiry_of, reference_of};
+ghost use Rattle.drl_sight.specs.Annotations.{role_of, is_tree_of_events, timestamp_of, duration_field_of, declared_expiry, reference_of};
 
 use drl_grammar::{Meta, TypeTree};
 use fx_base::{Millis, Text};
 
 /// Whether a type is one of events.
 pub fn is_event_tree(tree: &TypeTree) -> bool
-    ensures { result ≡ is_event tree.now }
+    ensures { result ≡ is_tree_of_events tree.now }
 {
     for meta in tree.metas.as_slice() {
         match meta {
@@ -32,7 +32,7 @@ pub fn timestamp_field(tree: &TypeTree) -> Option<&Text>
 
 /// The field that holds the duration of an event, as the annotations name it.
 pub fn duration_field(tree: &TypeTree) -> Option<&Text>
-    ensures { option_map (λ f. f.now) result ≡ duration_of tree.now.metas }
+    ensures { option_map (λ f. f.now) result ≡ duration_field_of tree.now.metas }
 {
     for meta in tree.metas.as_slice() {
         match meta {
@@ -45,7 +45,7 @@ pub fn duration_field(tree: &TypeTree) -> Option<&Text>
 
 /// How long behind its start an event is present, in milliseconds, as the annotations say.
 pub fn expiry_offset(tree: &TypeTree) -> Option<Millis>
-    ensures { result ≡ expiry_of tree.now.metas }
+    ensures { result ≡ declared_expiry tree.now.metas }
 {
     for meta in tree.metas.as_slice() {
         match meta {

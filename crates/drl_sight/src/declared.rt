@@ -1,8 +1,9 @@
 ghost use Rattle.std.specs.Prelude.{◌≡◌, ◌++◌, List, map, option_map, IfOk};
-ghost use Rattle.drl_sight.specs.Names.{place_of, is_among};
-ghost use Rattle.drl_sight.specs.Declarations.{types_of, type_names, field_names, type_named, kind_of, kind_at};
+ghost use Rattle.drl_sight.specs.Names.{place_of_name};
+ghost use Rattle.drl_expr.specs.Words.{is_among};
+ghost use Rattle.drl_sight.specs.Declarations.{types_of, type_names, field_names, type_tree_named, kind_by_word, kind_at};
 ghost use Rattle.drl_sight.specs.Meanings.{field_kind};
-ghost use Rattle.drl_sight.specs.Annotations.{is_event, reference_of};
+ghost use Rattle.drl_sight.specs.Annotations.{is_tree_of_events, reference_of};
 
 use crate::annotations::{is_event_tree, is_reference_tree};
 use crate::places::Places;
@@ -61,9 +62,9 @@ pub fn names_of_fields(alloc: Global, tree: &TypeTree) -> Result<Vec<Text>, NoMe
 }
 
 /// The kind that a word names.
-#[tactic(auto, unfolding(crate::specs::Declarations::kind_of))]
+#[tactic(auto, unfolding(crate::specs::Declarations::kind_by_word))]
 pub fn kind_of_word(word: &Text) -> Option<Kind>
-    ensures { result ≡ kind_of word.now }
+    ensures { result ≡ kind_by_word word.now }
 {
     let word = word.as_str();
     if word == "int" || word == "long" || word == "Integer" || word == "Long" {
@@ -96,7 +97,7 @@ impl<'a> DeclaredType<'a> {
 
     /// Whether it is a type of events.
     pub fn is_event(&self) -> bool
-        ensures { result ≡ is_event self.now }
+        ensures { result ≡ is_tree_of_events self.now }
     {
         is_event_tree(self.tree)
     }
@@ -108,16 +109,9 @@ impl<'a> DeclaredType<'a> {
         is_reference_tree(self.tree)
     }
 
-    /// Its fields, each with its name and the word of its kind.
-    pub fn fields(&self) -> &[(Text, Text)]
-        ensures { result.now ≡ self.now.fields }
-    {
-        self.tree.fields.as_slice()
-    }
-
     /// The place of a field among the fields of the type.
     pub fn find(&self, field: &Text) -> Option<usize>
-        ensures { result ≡ place_of (field_names self.now) field.now }
+        ensures { result ≡ place_of_name (field_names self.now) field.now }
     {
         self.fields.find(field)
     }
@@ -175,7 +169,7 @@ impl<'a> Declared<'a> {
 
     /// The type of this name.
     pub fn find(&self, name: &Text) -> Option<&DeclaredType<'a>>
-        ensures { option_map (λ t. t.now) result ≡ type_named self.now name.now }
+        ensures { option_map (λ t. t.now) result ≡ type_tree_named self.now name.now }
     {
         match self.names.find(name) {
             Some(place) => self.types.get(place),
@@ -185,7 +179,7 @@ impl<'a> Declared<'a> {
 
     /// The place of the type of this name.
     pub fn place(&self, name: &Text) -> Option<usize>
-        ensures { result ≡ place_of (type_names self.now) name.now }
+        ensures { result ≡ place_of_name (type_names self.now) name.now }
     {
         self.names.find(name)
     }

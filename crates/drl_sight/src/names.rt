@@ -1,5 +1,5 @@
 ghost use Rattle.std.specs.Prelude.{◌≡◌, nat_le, length, IfOk};
-ghost use Rattle.drl_sight.specs.Names.{is_short, are_distinct};
+ghost use Rattle.drl_sight.specs.Names.{is_name_short, are_distinct};
 
 use crate::places::Places;
 use fx_base::{NoMemory, Text};
@@ -7,7 +7,7 @@ use std::alloc::Global;
 
 /// Whether a text has at most so many bytes.
 pub fn has_at_most(most: usize, text: &Text) -> bool
-    ensures { result ≡ is_short most text.now }
+    ensures { result ≡ is_name_short most text.now }
 {
     text.as_str().len() <= most
 }

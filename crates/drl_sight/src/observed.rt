@@ -1,6 +1,6 @@
 ghost use Rattle.std.specs.Prelude.{◌≡◌, ◌++◌, IfOk};
 ghost use Rattle.std.specs.List.{flat_map};
-ghost use Rattle.drl_sight.specs.Observed.{is_length, watched_by, watched_in, watched_names};
+ghost use Rattle.drl_sight.specs.Observed.{is_of_length, watched_by, watched_in, watched_names};
 
 use crate::places::Places;
 use drl_grammar::{Body, CondTree, Item, WindowTree};
@@ -8,7 +8,7 @@ use fx_base::NoMemory;
 use std::alloc::Global;
 
 fn is_length_window(window: &Option<WindowTree>) -> bool
-    ensures { result ≡ is_length window.now }
+    ensures { result ≡ is_of_length window.now }
 {
     match window {
         Some(WindowTree::Length(_)) => true,

@@ -1,6 +1,7 @@
 ghost use Rattle.std.specs.Prelude.{◌≡◌, ◌<◌, ◌++◌, ◌∷◌, [], length, is_some, IfOk, IfSome};
-ghost use Rattle.drl_sight.specs.Names.{place_of, is_among, are_distinct};
-ghost use Rattle.drl_sight.specs.EntryPoints.{with_name};
+ghost use Rattle.drl_sight.specs.Names.{place_of_name, are_distinct};
+ghost use Rattle.drl_expr.specs.Words.{is_among};
+ghost use Rattle.drl_sight.specs.EntryPoints.{with_entry_name};
 
 use fx_base::{Copies, NoMemory, Text};
 use std::alloc::Global;
@@ -57,7 +58,7 @@ impl Places {
 
     /// The place of the first of this name.
     pub fn find(&self, name: &Text) -> Option<usize>
-        ensures { result ≡ place_of self.now name.now }
+        ensures { result ≡ place_of_name self.now name.now }
     {
         self.first.get(name).copied()
     }
@@ -87,7 +88,7 @@ impl Places {
 
     /// The same, with the name at the end where it is new.
     pub fn with_new(self, alloc: Global, name: &Text) -> Result<Places, NoMemory>
-        ensures { IfOk result (λ p. p ≡ with_name self name.now) }
+        ensures { IfOk result (λ p. p ≡ with_entry_name self name.now) }
     {
         if self.holds(name) {
             Ok(self)

@@ -1,7 +1,7 @@
 ghost use Rattle.std.specs.Prelude.{◌≡◌, ◌<◌, ◌≤◌, ◌+◌, ◌^◌, ◌++◌, Some, option_map, IfOk, OnOk};
 ghost use Rattle.std.specs.List.{list_any};
 ghost use Rattle.drl_sight.specs.Sight.{meaning_of, seen_of, seen_in, seen_fact, seen_result, begin, behind, is_own, is_bound_in, is_bound_by};
-ghost use Rattle.drl_sight.specs.Declarations.{type_named};
+ghost use Rattle.drl_sight.specs.Declarations.{type_tree_named};
 ghost use Rattle.drl_sight.specs.Meanings.{lacks_for, variable_kind, variable_field_kind};
 ghost use Rattle.drl_sight.specs.Shown.{meant};
 
@@ -226,7 +226,7 @@ impl<'a, 'b> Place<'a, 'b> {
         source: &SourceTree,
     ) -> Result<Place<'a, 'b>, NoMemory>
         requires { self.facts < 2 ^ 63 }
-        ensures { IfOk result (λ p. p ≡ record { sight = self.entry.sight ++ seen_of self.entry.facts source.now (type_named types.now source.now.ty); facts = self.entry.facts + 1; results = self.entry.results }) }
+        ensures { IfOk result (λ p. p ≡ record { sight = self.entry.sight ++ seen_of self.entry.facts source.now (type_tree_named types.now source.now.ty); facts = self.entry.facts + 1; results = self.entry.results }) }
     {
         let Place {
             mut seen,

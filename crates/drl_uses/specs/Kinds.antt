@@ -23,13 +23,13 @@ use Rattle.drl_grammar.specs.declared.condition.FoldWord.TheVariants as fold
 use Rattle.drl_grammar.specs.declared.condition.Operand.{Operand}
 use Rattle.drl_grammar.specs.declared.condition.Operand.TheVariants as operand
 use Rattle.drl_grammar.specs.declared.file.TypeTree.{TypeTree}
-use Rattle.drl_sight.specs.Declarations.{type_named, kind_of}
+use Rattle.drl_sight.specs.Declarations.{type_tree_named, kind_by_word}
 use Rattle.drl_sight.specs.Meanings.{field_kind, variable_kind, variable_field_kind}
 use Rattle.drl_sight.specs.Sight.{Sight, Meaning, of_fact, of_field, of_result, meaning_of, Place}
 
 -- a field whose kind word is none of the seven
 abbrev pub has_unknown_kind : TypeTree → Bool
-has_unknown_kind t = list_any (λ (field : List ℕ × List ℕ). not (is_some (kind_of field.1))) t.fields
+has_unknown_kind t = list_any (λ (field : List ℕ × List ℕ). not (is_some (kind_by_word field.1))) t.fields
 
 abbrev pub literal_kind : LitTree → Kind
 literal_kind (literal.Int n) = kind.Int
@@ -121,11 +121,11 @@ abbrev pub test_misfits : Sight → Rel × Operand → Bool
 test_misfits sight test = misfits test.0 (Some kind.Int) (result_operand_kind sight test.1)
 
 abbrev pub has_wrong_kind : List TypeTree → Place → CondTree → Bool
-has_wrong_kind types place (condition.Plain s) = source_misfits (type_named types s.ty) place.sight s
-has_wrong_kind types place (condition.Negated s) = source_misfits (type_named types s.ty) place.sight s
-has_wrong_kind types place (condition.Existing s) = source_misfits (type_named types s.ty) place.sight s
+has_wrong_kind types place (condition.Plain s) = source_misfits (type_tree_named types s.ty) place.sight s
+has_wrong_kind types place (condition.Negated s) = source_misfits (type_tree_named types s.ty) place.sight s
+has_wrong_kind types place (condition.Existing s) = source_misfits (type_tree_named types s.ty) place.sight s
 has_wrong_kind types place (condition.Folded result s function arg tests) =
-    source_misfits (type_named types s.ty) place.sight s || argument_misfits (type_named types s.ty) s function arg || list_any (test_misfits place.sight) tests
+    source_misfits (type_tree_named types s.ty) place.sight s || argument_misfits (type_tree_named types s.ty) s function arg || list_any (test_misfits place.sight) tests
 
 -- ---- actions
 
@@ -161,7 +161,7 @@ fields_once (field ∷ fields) = field ∷ filter (λ (other : List ℕ × List 
 
 -- the kind that the kind word of a field names
 abbrev pub word_kind : List ℕ × List ℕ → Option Kind
-word_kind field = kind_of field.1
+word_kind field = kind_by_word field.1
 
 -- the kinds of the values that an insert takes, by the fields of the type
 abbrev pub taken_kinds : List (List ℕ × List ℕ) → List (Option Kind)
@@ -195,6 +195,6 @@ retract_misfits (Some (of_fact fact t)) = false
 retract_misfits None = false
 
 abbrev pub action_misfits : List TypeTree → Sight → ActTree → Bool
-action_misfits types sight (action.Insert ty args) = insert_misfits (option_map taken_by (type_named types ty)) sight args
+action_misfits types sight (action.Insert ty args) = insert_misfits (option_map taken_by (type_tree_named types ty)) sight args
 action_misfits types sight (action.Modify v sets) = modify_misfits (meaning_of sight v) sight sets
 action_misfits types sight (action.Retract v) = retract_misfits (meaning_of sight v)

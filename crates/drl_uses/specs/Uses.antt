@@ -15,7 +15,7 @@ use Rattle.drl_grammar.specs.declared.condition.Cmp.TheVariants as cmp
 use Rattle.drl_grammar.specs.declared.condition.Operand.{Operand}
 use Rattle.drl_grammar.specs.declared.condition.Operand.TheVariants as operand
 use Rattle.drl_grammar.specs.declared.file.TypeTree.{TypeTree}
-use Rattle.drl_sight.specs.Declarations.{type_named}
+use Rattle.drl_sight.specs.Declarations.{type_tree_named}
 use Rattle.drl_sight.specs.Meanings.{lacks, lacks_for}
 use Rattle.drl_sight.specs.Operands.{any_of_cmp, any_of_part, any_leaf_of}
 use Rattle.drl_sight.specs.Sight.{Sight, meaning_of, Place, behind, is_bound_by}
@@ -28,16 +28,16 @@ any_condition test types place (c ∷ cs) = test place c || any_condition test t
 -- ---- types
 
 abbrev pub is_type_unknown : List TypeTree → CondTree → Bool
-is_type_unknown types (condition.Plain s) = not (is_some (type_named types s.ty))
-is_type_unknown types (condition.Negated s) = not (is_some (type_named types s.ty))
-is_type_unknown types (condition.Existing s) = not (is_some (type_named types s.ty))
-is_type_unknown types (condition.Folded result s kind arg tests) = not (is_some (type_named types s.ty))
+is_type_unknown types (condition.Plain s) = not (is_some (type_tree_named types s.ty))
+is_type_unknown types (condition.Negated s) = not (is_some (type_tree_named types s.ty))
+is_type_unknown types (condition.Existing s) = not (is_some (type_tree_named types s.ty))
+is_type_unknown types (condition.Folded result s kind arg tests) = not (is_some (type_tree_named types s.ty))
 
 abbrev pub has_unknown_type : List TypeTree → List CondTree → Bool
 has_unknown_type types cs = list_any (is_type_unknown types) cs
 
 abbrev pub inserts_unknown_type : List TypeTree → ActTree → Bool
-inserts_unknown_type types (action.Insert ty args) = not (is_some (type_named types ty))
+inserts_unknown_type types (action.Insert ty args) = not (is_some (type_tree_named types ty))
 inserts_unknown_type types (action.Modify v sets) = false
 inserts_unknown_type types (action.Retract v) = false
 
@@ -77,10 +77,10 @@ abbrev pub test_lacks : Sight → Rel × Operand → Bool
 test_lacks sight test = result_operand_lacks sight test.1
 
 abbrev pub has_unknown_field : List TypeTree → Place → CondTree → Bool
-has_unknown_field types place (condition.Plain s) = source_lacks (type_named types s.ty) place.sight s
-has_unknown_field types place (condition.Negated s) = source_lacks (type_named types s.ty) place.sight s
-has_unknown_field types place (condition.Existing s) = source_lacks (type_named types s.ty) place.sight s
-has_unknown_field types place (condition.Folded result s kind arg tests) = source_lacks (type_named types s.ty) place.sight s || list_any (test_lacks place.sight) tests
+has_unknown_field types place (condition.Plain s) = source_lacks (type_tree_named types s.ty) place.sight s
+has_unknown_field types place (condition.Negated s) = source_lacks (type_tree_named types s.ty) place.sight s
+has_unknown_field types place (condition.Existing s) = source_lacks (type_tree_named types s.ty) place.sight s
+has_unknown_field types place (condition.Folded result s kind arg tests) = source_lacks (type_tree_named types s.ty) place.sight s || list_any (test_lacks place.sight) tests
 
 -- a field of a fact variable in sight, in an expression
 abbrev pub leaf_lacks : Sight → Tree → Bool

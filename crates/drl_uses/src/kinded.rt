@@ -1,6 +1,6 @@
 ghost use Rattle.std.specs.Prelude.{◌≡◌, ◌++◌, ◌∷◌, [], map, option_map, if◌then◌else◌, IfOk, OnOk};
-ghost use Rattle.drl_sight.specs.Names.{is_among};
-ghost use Rattle.drl_sight.specs.Declarations.{types_of, type_named};
+ghost use Rattle.drl_expr.specs.Words.{is_among};
+ghost use Rattle.drl_sight.specs.Declarations.{types_of, type_tree_named};
 ghost use Rattle.drl_uses.specs.Kinds.{word_kind, taken_kinds, taken_by};
 
 use drl_grammar::{Body, Item};
@@ -94,7 +94,7 @@ impl<'a> Kinded<'a> {
 
     /// The kinds of the values that an insert of the type of this name takes.
     pub(crate) fn taken(&self, name: &Text) -> Option<&Seq<Option<Kind>>>
-        ensures { option_map (λ kinds. kinds.now) result ≡ option_map taken_by (type_named self.now name.now) }
+        ensures { option_map (λ kinds. kinds.now) result ≡ option_map taken_by (type_tree_named self.now name.now) }
     {
         match self.types.place(name) {
             Some(place) => self.kinds.get(place),

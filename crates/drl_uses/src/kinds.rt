@@ -4,7 +4,7 @@ ghost use Rattle.drl_lex.specs.declared.token.Rel.TheVariants.{Equal};
 ghost use Rattle.drl_grammar.specs.declared.condition.Cmp.{Cmp};
 ghost use Rattle.drl_grammar.specs.declared.condition.Operand.{Operand};
 ghost use Rattle.drl_uses.specs.Kinds.{has_unknown_kind, literal_kind, operand_kind, is_int, is_same_kind, kinds_fit, misfits, cmp_misfits, is_value, part_misfits, source_misfits, is_number_in, is_number_of, wants_numbers, argument_misfits, result_operand_kind, test_misfits, has_wrong_kind};
-ghost use Rattle.drl_sight.specs.Declarations.{type_named};
+ghost use Rattle.drl_sight.specs.Declarations.{type_tree_named};
 ghost use Rattle.drl_sight.specs.Sight.{meaning_of};
 ghost use Rattle.drl_sight.specs.Meanings.{field_kind, variable_kind, variable_field_kind};
 
@@ -185,7 +185,7 @@ fn misfits_in_parts(ty: &DeclaredType, place: &Place, parts: &[Part]) -> bool
 }
 
 fn misfits_in_source(types: &Declared, place: &Place, source: &SourceTree) -> bool
-    ensures { result ≡ source_misfits (type_named types.now source.now.ty) place.now.sight source.now }
+    ensures { result ≡ source_misfits (type_tree_named types.now source.now.ty) place.now.sight source.now }
 {
     match types.find(&source.ty) {
         Some(ty) => misfits_in_parts(ty, place, source.parts.as_slice()),
@@ -229,7 +229,7 @@ fn does_argument_misfit(
     function: FoldWord,
     arg: &Text,
 ) -> bool
-    ensures { result ≡ argument_misfits (type_named types.now source.now.ty) source.now function arg.now }
+    ensures { result ≡ argument_misfits (type_tree_named types.now source.now.ty) source.now function arg.now }
 {
     match types.find(&source.ty) {
         Some(ty) => is_over_numbers(function) && !are_numbers_bound(ty, source, arg),

@@ -1,6 +1,6 @@
 ghost use Rattle.std.specs.Prelude.{◌≡◌, Some, IfOk};
 ghost use Rattle.std.specs.List.{list_any};
-ghost use Rattle.drl_sight.specs.Declarations.{type_named};
+ghost use Rattle.drl_sight.specs.Declarations.{type_tree_named};
 ghost use Rattle.drl_sight.specs.Sight.{begin, meaning_of};
 ghost use Rattle.drl_uses.specs.Times.{is_plain_fact, part_lacks_times, source_lacks_times, has_no_times};
 ghost use Rattle.drl_uses.specs.Uses.{any_condition};
@@ -44,7 +44,7 @@ fn lacks_times_in_some(ty: &DeclaredType, place: &Place, parts: &[Part]) -> bool
 }
 
 fn does_source_lack_times(types: &Declared, place: &Place, source: &SourceTree) -> bool
-    ensures { result ≡ source_lacks_times (type_named types.now source.now.ty) place.now.sight source.now }
+    ensures { result ≡ source_lacks_times (type_tree_named types.now source.now.ty) place.now.sight source.now }
 {
     match types.find(&source.ty) {
         Some(ty) => {

@@ -2,7 +2,7 @@ ghost use Rattle.std.specs.Prelude.{◌≡◌, List};
 ghost use Rattle.std.specs.List.{list_any};
 ghost use Rattle.drl_grammar.specs.declared.condition.Cmp.{Cmp};
 ghost use Rattle.drl_sight.specs.Sight.{meaning_of};
-ghost use Rattle.drl_sight.specs.Declarations.{type_named};
+ghost use Rattle.drl_sight.specs.Declarations.{type_tree_named};
 ghost use Rattle.drl_sight.specs.Meanings.{lacks, lacks_for};
 ghost use Rattle.drl_uses.specs.Uses.{is_type_unknown, has_unknown_type, operand_lacks, cmp_lacks, part_lacks, source_lacks, test_lacks, has_unknown_field, is_unseen, operand_unseen, part_unseen, source_unseen, test_unseen, has_unknown_variable};
 
@@ -114,7 +114,7 @@ fn lacks_in_parts(ty: &DeclaredType, place: &Place, parts: &[Part]) -> bool
 }
 
 fn lacks_in_source(types: &Declared, place: &Place, source: &SourceTree) -> bool
-    ensures { result ≡ source_lacks (type_named types.now source.now.ty) place.now.sight source.now }
+    ensures { result ≡ source_lacks (type_tree_named types.now source.now.ty) place.now.sight source.now }
 {
     match types.find(&source.ty) {
         Some(ty) => lacks_in_parts(ty, place, source.parts.as_slice()),

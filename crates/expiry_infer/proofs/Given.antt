@@ -1,17 +1,18 @@
 -- Reaches, what conditions add, and what patterns give, against the greatest limits that were found.
-use Rattle.expiry_infer.proofs.Common.{◌≡◌, inl, inr, ◌≤◌, ℕ, suc, ℤ, pos, ◌≤ℤ◌, true, false, List, [], ◌∷◌, length, Some, None, refl, sym, ◌∙◌, ap, subst, arith, slice_get, ints, Times, Condition, Program, Rule, TypeInfo, pattern_of, is_reference, in_place, Occurrence, Limit, finite, infinite, plus, tail, AddsAt, GivesAt, GivesIn, placed, Among, IsTop, false_is, is_event_type, expiry_in, Placed, SolvesWith, IsReach, Adds, of_fact, of_event, AddsSome, LivesFor, PatternLife, IsLife, AddsBy}
+use Rattle.expiry_infer.proofs.Common.{◌≡◌, inl, inr, ◌≤◌, ℕ, suc, ℤ, pos, ◌≤ℤ◌, true, false, List, [], ◌∷◌, length, Some, None, refl, sym, ◌∙◌, ap, subst}
+use Rattle.expiry_infer.proofs.Common.{arith, slice_get, Times, Condition, Program, Rule, TypeInfo, pattern_of, is_reference, in_place, Occurrence, Limit}
+use Rattle.expiry_infer.proofs.Common.{finite, infinite, plus, tail, AddsAt, GivesAt, GivesIn, placed, Among, IsTop, false_is, is_event_type, expiry_in, Placed}
+use Rattle.expiry_infer.proofs.Common.{SolvesWith, IsReach, Adds, of_fact, of_event, AddsSome, LivesFor, PatternLife, IsLife, AddsBy}
 use Rattle.fx_base.specs.Lists.{In}
 use Rattle.rule_model.specs.Types.{is_event, expiry_of}
 use Rattle.expiry_infer.proofs.Tops.{top_like, top_of_none, anywhere}
+use Rattle.fx_base.proofs.Orders.{≤ℤ_antisym}
 
 -- ---- one reach
 
-equal : (a b : ℤ) → a ≤ℤ b → b ≤ℤ a → a ≡ b
-equal a b h k = omega (arith, ints)
-
 pub one_reach : (p : Program) (conditions : List Condition) (i j : Placed) (r s : Limit) → IsReach p conditions i j r → IsReach p conditions i j s → r ≡ s
 one_reach p conditions i j (finite a) (finite b) h k =
-    ap finite (equal a b (subst (λ (z : ℤ). z ≤ℤ b) h.attained (k.bounds h.times h.solves)) (subst (λ (z : ℤ). z ≤ℤ a) k.attained (h.bounds k.times k.solves)))
+    ap finite (≤ℤ_antisym a b (subst (λ (z : ℤ). z ≤ℤ b) h.attained (k.bounds h.times h.solves)) (subst (λ (z : ℤ). z ≤ℤ a) k.attained (h.bounds k.times k.solves)))
 one_reach p conditions i j (finite a) infinite h k = absurd (k.1 a h)
 one_reach p conditions i j infinite (finite b) h k = absurd (h.1 b k)
 one_reach p conditions i j infinite infinite h k = refl

@@ -1,13 +1,14 @@
 -- The function that tells whether patterns can match decides whether their network has a solution.
-use Rattle.expiry_infer.proofs.Common.{◌≡◌, Bool, true, false, [], List, refl, sym, arith, Decides, Condition, Program, IsSolvable, edges_of, HaveNetwork, all_among}
+use Rattle.expiry_infer.proofs.Common.{◌≡◌, Bool, true, false, [], List, refl, sym, arith, Decides, Condition, Program, AreSolvable, edges_of_conditions}
+use Rattle.expiry_infer.proofs.Common.{HaveNetwork, all_among}
 use Rattle.temporal_net.proofs.Potentials.{decided}
 use Rattle.expiry_infer.specs.Solvable.{can_match}
 use Rattle.expiry_infer.proofs.Reaching.{solvable, numbered}
 
-pub can_match_is_exact : (p : Program) (conditions : List Condition) → HaveNetwork conditions → Decides (can_match p conditions) (IsSolvable p conditions)
+pub can_match_is_exact : (p : Program) (conditions : List Condition) → HaveNetwork conditions → Decides (can_match p conditions) (AreSolvable p conditions)
 unfolding can_match
 can_match_is_exact p conditions h =
-    let edges = edges_of p conditions [] 0 conditions in
+    let edges = edges_of_conditions p conditions [] 0 conditions in
     let d = decided 16 edges (omega arith) (all_among p conditions [] h.few h.operators h.named) in
     (λ t. solvable p conditions h.named (d.0 t), λ s. d.1 (numbered p conditions [] h.few h.named s.0 s.1))
 

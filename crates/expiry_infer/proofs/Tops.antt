@@ -1,17 +1,17 @@
 -- Laws of the greatest of limits.
-use Rattle.expiry_infer.proofs.Common.{◌≡◌, ◌⊎◌, inl, inr, ◌<◌, ◌≤◌, ◌+◌, ℕ, ℤ, ◌≤ℤ◌, List, length, Some, refl, sym, ◌∙◌, subst, arith, pos, negsuc, to_z, of_z, to_z-of_z, w64, FitsSigned, ◌^◌, slice_get, ints, Bound, IsWithinNetwork, Limit, finite, infinite, plus, limit_of, IsShort, IsSmall, Among, IsTop, slice_get_within, Below, IsSpan, the_same}
+use Rattle.expiry_infer.proofs.Common.{◌≡◌, ◌⊎◌, inl, inr, ◌<◌, ◌≤◌, ◌+◌, ℕ, ℤ, ◌≤ℤ◌, List, length, Some, refl, sym, ◌∙◌, subst, arith, pos, negsuc, to_z, of_z}
+use Rattle.expiry_infer.proofs.Common.{to_z-of_z, w64, FitsSigned, ◌^◌, slice_get, ints, Bound, IsWithinNetwork, Limit, finite, infinite, plus, limit_of}
+use Rattle.expiry_infer.proofs.Common.{IsShortLimit, IsSmallLimit, Among, IsTop, slice_get_within, Below, IsShortSpan, the_same}
 use Rattle.fx_base.specs.declared.bound.Bound.TheVariants.{Finite, Infinite}
 use Rattle.rule_world.specs.Events.{most_millis}
+use Rattle.fx_base.proofs.Orders.{below_or_last, ≤ℤ_trans}
 
 pub below_itself : (l : Limit) → Below l l
 below_itself (finite a) = omega (arith, ints)
 below_itself infinite = tt
 
-further : (a b c : ℤ) → a ≤ℤ b → b ≤ℤ c → a ≤ℤ c
-further a b c h k = omega (arith, ints)
-
 pub below_both : (a b c : Limit) → Below a b → Below b c → Below a c
-below_both (finite a) (finite b) (finite c) h k = further a b c h k
+below_both (finite a) (finite b) (finite c) h k = ≤ℤ_trans a b c h k
 below_both (finite a) (finite b) infinite h k = tt
 below_both (finite a) infinite (finite c) h k = absurd k
 below_both (finite a) infinite infinite h k = tt
@@ -29,16 +29,13 @@ top_like of other low top f g h = record { above_least = h.above_least; above_al
     reached_by (inl e) = inl e
     reached_by (inr k) = inr (f top k)
 
-which : (place n : ℕ) → place < n + 1 → (place < n) ⊎ (place ≡ n)
-which place n h = grind arith
-
 -- ---- elements of a list, one after the other
 
 pub top_next : {A : Type 0} (xs : List A) (gives : ℕ → A → Limit → Type 0) (n : ℕ) (x : A) (low middle top : Limit) → slice_get xs n ≡ Some x
     → IsTop (Among xs gives n) low middle → IsTop (gives n x) middle top → IsTop (Among xs gives (n + 1)) low top
 top_next xs gives n x low middle top at first next = record {
   above_least = below_both low middle top first.above_least next.above_least;
-  above_all = λ l h. under l h (which h.place n h.before);
+  above_all = λ l h. under l h (below_or_last h.place n h.before);
   reached = by_next next.reached first.reached;
 }
   where
@@ -76,15 +73,15 @@ anywhere xs gives end place x l all at g = record { place = place; before = insi
 -- ---- small limits
 
 -- the greatest is small where all are
-pub top_small : (of : Limit → Type 0) (low top : Limit) → IsTop of low top → ((l : Limit) → of l → IsSmall l) → IsSmall low → IsSmall top
+pub top_small : (of : Limit → Type 0) (low top : Limit) → IsTop of low top → ((l : Limit) → of l → IsSmallLimit l) → IsSmallLimit low → IsSmallLimit top
 top_small of low top h all small = by h.reached
   where
-    by : (top ≡ low) ⊎ of top → IsSmall top
-    by (inl e) = subst IsSmall (sym e) small
+    by : (top ≡ low) ⊎ of top → IsSmallLimit top
+    by (inl e) = subst IsSmallLimit (sym e) small
     by (inr g) = all top g
 
 -- a reach and a tail have a small sum
-pub sum_small : (reach : Bound) (tail : Limit) → IsWithinNetwork reach → IsShort tail → IsSmall (plus (limit_of reach) tail)
+pub sum_small : (reach : Bound) (tail : Limit) → IsWithinNetwork reach → IsShortLimit tail → IsSmallLimit (plus (limit_of reach) tail)
 unfolding most_millis
 sum_small (Finite reach) (finite tail) within short =
     let (least, most) = within in
@@ -93,12 +90,12 @@ sum_small (Finite reach) infinite within short = tt
 sum_small Infinite tail within short = tt
 
 -- and so has a span
-pub span_small : (n : ℤ) → IsSpan n → IsSmall (finite n)
+pub span_small : (n : ℤ) → IsShortSpan n → IsSmallLimit (finite n)
 unfolding most_millis
 span_small n (low, high) = omega (arith, ints)
 
 -- a span has 64 bits
-pub span_whole : (n : ℤ) → IsSpan n → to_z w64 (of_z w64 n) ≡ n
+pub span_whole : (n : ℤ) → IsShortSpan n → to_z w64 (of_z w64 n) ≡ n
 unfolding most_millis
 span_whole (pos n) (low, high) = let less : n ≤ 2 ^ 53 = omega (arith, ints) in let fits : FitsSigned w64 (pos n) = omega (arith, ints) in to_z-of_z fits
 span_whole (negsuc n) (low, high) = absurd (omega (arith, ints))

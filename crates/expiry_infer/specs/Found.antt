@@ -16,6 +16,6 @@ IsSolved edges (Some network) = (network ≡ record { points = 16; edges = edges
 IsSolved edges None = IsSolvable edges → ⊥
 
 -- the reach of j behind i, or nothing where their network has no solution
-abbrev pub IsFound : Program → List Condition → Placed → Placed → Option Bound → Type 0
-IsFound p conditions i j (Some bound) = IsReach p conditions i j (limit_of bound)
-IsFound p conditions i j None = (times : Occurrence → Times) → SolvesWith p conditions i j times → ⊥
+abbrev pub IsReachFound : Program → List Condition → Placed → Placed → Option Bound → Type 0
+IsReachFound p conditions i j (Some bound) = IsReach p conditions i j (limit_of bound)
+IsReachFound p conditions i j None = (times : Occurrence → Times) → SolvesWith p conditions i j times → ⊥

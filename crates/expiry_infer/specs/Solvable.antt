@@ -4,7 +4,7 @@ use Rattle.std.specs.Prelude.{Bool, List, []}
 use Rattle.temporal_net.specs.Potentials.{is_solvable}
 use Rattle.rule_model.specs.declared.condition.Condition.{Condition}
 use Rattle.rule_model.specs.declared.program.Program.{Program}
-use Rattle.life_edges.specs.Edges.{edges_of}
+use Rattle.life_edges.specs.Edges.{edges_of_conditions}
 
 unfoldable pub can_match : Program → List Condition → Bool
-can_match p conditions = is_solvable (edges_of p conditions [] 0 conditions)
+can_match p conditions = is_solvable (edges_of_conditions p conditions [] 0 conditions)

@@ -4,7 +4,7 @@ ghost use Rattle.rule_model.specs.Lives.{AreShort, IsShortLife};
 ghost use Rattle.rule_model.specs.Rows.{pattern_of};
 ghost use Rattle.rule_model.specs.Types.{is_event, expiry_of};
 ghost use Rattle.rule_lives.specs.Lifetimes.{AddsSome, IsLife, LivesFor};
-ghost use Rattle.life_edges.specs.Tails.{limit_of, HaveLives, IsSmall};
+ghost use Rattle.life_edges.specs.Tails.{limit_of, HaveLives, IsSmallLimit};
 ghost use Rattle.expiry_infer.specs.Tops.{Among, IsTop};
 ghost use Rattle.rule_lives.specs.Keeping.{AreLives, IsLifeOf, IsSafeTable};
 ghost use Rattle.rule_world.specs.Programs.{IsRunnable};
@@ -38,7 +38,7 @@ fn with_added(
     requires i { StandsIn conditions.now (lent i.now) }
     requires j { StandsIn conditions.now (lent j.now) }
     ensures top { IfOk result (λ greatest. IsTop (AddsBy program.now conditions.now (lent i.now) (lent j.now)) (limit_of most) (limit_of greatest)) }
-    ensures small { IfOk result (λ greatest. IsSmall (limit_of most) → IsSmall (limit_of greatest)) }
+    ensures small { IfOk result (λ greatest. IsSmallLimit (limit_of most) → IsSmallLimit (limit_of greatest)) }
 {
     let pattern = j.condition.pattern();
     if program.is_reference(pattern.ty) {
@@ -64,7 +64,7 @@ fn with_all_added(
     requires conditions { HaveLives program.now conditions.now }
     requires i { StandsIn conditions.now (lent i.now) }
     ensures top { IfOk result (λ greatest. IsTop (AddsSome program.now conditions.now (lent i.now)) (limit_of most) (limit_of greatest)) }
-    ensures small { IfOk result (λ greatest. IsSmall (limit_of most) → IsSmall (limit_of greatest)) }
+    ensures small { IfOk result (λ greatest. IsSmallLimit (limit_of most) → IsSmallLimit (limit_of greatest)) }
 {
     let mut most = most;
     for (place, condition) in conditions.iter().enumerate() {
@@ -85,7 +85,7 @@ fn with_pattern(
     requires conditions { HaveLives program.now conditions.now }
     requires i { StandsIn conditions.now (lent i.now) }
     ensures top { IfOk result (λ greatest. IsTop (LivesFor program.now conditions.now (lent i.now) (pattern_of i.now.condition.now).window) (limit_of most) (limit_of greatest)) }
-    ensures small { IfOk result (λ greatest. IsSmall (limit_of most) → IsSmall (limit_of greatest)) }
+    ensures small { IfOk result (λ greatest. IsSmallLimit (limit_of most) → IsSmallLimit (limit_of greatest)) }
 {
     match i.condition.pattern().window {
         WindowTag::Whole => with_all_added(
@@ -110,7 +110,7 @@ fn with_rule(
 ) -> Result<Bound, NoMemory>
     requires { HaveLives program.now conditions.now }
     ensures top { IfOk result (λ greatest. IsTop (Among conditions.now (GivesAt program.now conditions.now ty) (length conditions.now)) (limit_of most) (limit_of greatest)) }
-    ensures small { IfOk result (λ greatest. IsSmall (limit_of most) → IsSmall (limit_of greatest)) }
+    ensures small { IfOk result (λ greatest. IsSmallLimit (limit_of most) → IsSmallLimit (limit_of greatest)) }
 {
     let mut most = most;
     for (place, condition) in conditions.iter().enumerate() {
@@ -128,7 +128,7 @@ fn inferred(alloc: Global, program: &Program, ty: usize) -> Result<Bound, NoMemo
     requires event { is_event program.now ty ≡ true }
     requires unexpired { expiry_of program.now ty ≡ None }
     ensures life { IfOk result (λ life. IsLife program.now ty (limit_of life)) }
-    ensures small { IfOk result (λ life. IsSmall (limit_of life)) }
+    ensures small { IfOk result (λ life. IsSmallLimit (limit_of life)) }
 {
     let mut most = Bound::Finite(0);
     for rule in program.rules.as_slice() {

@@ -2,7 +2,7 @@
 ghost use Rattle.std.specs.Prelude.{◌≡◌};
 ghost use Rattle.temporal_net.specs.Networks.{IsWithinNetwork};
 ghost use Rattle.rule_lives.specs.Reach.{plus};
-ghost use Rattle.life_edges.specs.Tails.{limit_of, IsShort};
+ghost use Rattle.life_edges.specs.Tails.{limit_of, IsShortLimit};
 ghost use Rattle.expiry_infer.specs.Tops.{IsTop};
 
 use fx_base::Bound;
@@ -20,7 +20,7 @@ pub(crate) fn greater(a: Bound, b: Bound) -> Bound
 #[tactic(auto, unfolding(rule_world::specs::Events::most_millis))]
 pub(crate) fn sum(reach: Bound, tail: Bound) -> Bound
     requires reach { IsWithinNetwork reach }
-    requires tail { IsShort (limit_of tail) }
+    requires tail { IsShortLimit (limit_of tail) }
     ensures { limit_of result ≡ plus (limit_of reach) (limit_of tail) }
 {
     match (reach, tail) {

@@ -2,9 +2,9 @@ ghost use Rattle.std.specs.Prelude.{◌≡◌, ◌<◌, length, slice_get, Some,
 ghost use Rattle.std.specs.Bool.{Decides};
 ghost use Rattle.temporal_net.specs.Networks.{IsWithinNetwork};
 ghost use Rattle.rule_model.specs.declared.condition.Condition.{Condition as AnyCondition};
-ghost use Rattle.rule_lives.specs.Networks.{IsSolvable};
-ghost use Rattle.life_edges.specs.Edges.{edges_of, HaveNetwork};
-ghost use Rattle.expiry_infer.specs.Found.{IsFound, IsSolved};
+ghost use Rattle.rule_lives.specs.Networks.{AreSolvable};
+ghost use Rattle.life_edges.specs.Edges.{edges_of_conditions, HaveNetwork};
+ghost use Rattle.expiry_infer.specs.Found.{IsReachFound, IsSolved};
 ghost use Rattle.expiry_infer.specs.Solvable.{can_match};
 ghost use Rattle.life_edges.specs.Places.{placed};
 
@@ -23,7 +23,7 @@ fn solved(
     places: &[usize],
 ) -> Result<Option<Minimal>, NoMemory>
     requires { HaveNetwork conditions.now }
-    ensures { IfOk result (IsSolved (edges_of program.now conditions.now places.now 0 conditions.now)) }
+    ensures { IfOk result (IsSolved (edges_of_conditions program.now conditions.now places.now 0 conditions.now)) }
 {
     let edges = network(alloc, program, conditions, places)?;
     match Net::solve(alloc, POINTS, &edges) {
@@ -42,7 +42,7 @@ pub fn is_solvable(
 ) -> Result<bool, NoMemory>
     requires { HaveNetwork conditions.now }
     ensures answer { IfOk result (λ answer. answer ≡ can_match program.now conditions.now) }
-    ensures meaning { IfOk result (λ answer. Decides answer (IsSolvable program.now conditions.now)) }
+    ensures meaning { IfOk result (λ answer. Decides answer (AreSolvable program.now conditions.now)) }
 {
     let found = solved(alloc, program, conditions, &[])?;
     Ok(found.is_some())
@@ -62,7 +62,7 @@ pub(crate) fn reach(
     requires j { j < length conditions.now }
     ensures size { IfOk result (λ found. IfSome found IsWithinNetwork) }
     ensures reach { (first second : AnyCondition) → slice_get conditions.now i ≡ Some first → slice_get conditions.now j ≡ Some second
-        → IfOk result (IsFound program.now conditions.now (placed i first) (placed j second)) }
+        → IfOk result (IsReachFound program.now conditions.now (placed i first) (placed j second)) }
 {
     match solved(alloc, program, conditions, &[i, j])? {
         Some(minimal) => Ok(Some(minimal.bound(start(j), end(i)))),

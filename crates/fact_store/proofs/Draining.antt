@@ -1,10 +1,13 @@
 -- Facts that are taken out of a store one by one, in the order of their tags.
-use Rattle.fact_store.proofs.Common.{◌≡◌, ◌∙◌, sym, ap, refl, subst, ℕ, List, [], ◌∷◌, ◌++◌, Option, Some, None, Bool, true, false, cond, length, arith, T, find, is_sorted, get-entries, get-remove, entries_sorted, nat_cmp_total, below_all, nat_cmp, eq_by_cmp, Fact, HeldFacts, facts_of, tag_of}
+use Rattle.fact_store.proofs.Common.{◌≡◌, ◌∙◌, sym, ap, refl, subst, ℕ, List, [], ◌∷◌, ◌++◌, Option, Some, None, Bool, true, false, cond, length, arith, T}
+use Rattle.fact_store.proofs.Common.{find, is_sorted, get-entries, get-remove, entries_sorted, nat_cmp_total, below_all, nat_cmp, eq_by_cmp, Fact, HeldFacts}
+use Rattle.fact_store.proofs.Common.{facts_of, tag_of}
 use Rattle.std.proofs.Common.{map as list_map}
 use Rattle.std.specs.FinMap as map
 use Rattle.fx_base.specs.declared.ids.Tag.{Tag}
-use Rattle.fact_store.proofs.Members.{first, second, found_first, found_later, not_found}
+use Rattle.fact_store.proofs.Members.{found_first, found_later, not_found}
 use Rattle.fact_store.proofs.Stored.{tied}
+use Rattle.fx_base.proofs.Tests.{T_first, T_second}
 
 -- These facts are made; the tags that are left are those of entries that the store still has, and whose facts complete the list.
 pub record AreTaken (all made : List Fact) (tags : List Tag) (store : HeldFacts) : Type 0 where
@@ -54,10 +57,10 @@ one_taken all made tags more tag store next step gone are = by are.rest (sym ste
             rest = rest;
             named = tail_of tag (tag_of e.0) more _ named;
             whole = behind made e.1 (list_map (λ (x : ℕ × Fact). x.1) rest) ∙ whole;
-            sorted = second _ _ sorted;
+            sorted = T_second _ _ sorted;
             held = λ key f is.
                 ap (λ m. map.get m key) gone ∙ get-remove nat_cmp_total store tag.0 key
-                ∙ ap (λ b. cond b None (map.get store key)) (apart key f is same) ∙ held key f (found_later e rest key f (first _ _ sorted) is);
+                ∙ ap (λ b. cond b None (map.get store key)) (apart key f is same) ∙ held key f (found_later e rest key f (T_first _ _ sorted) is);
           },
         )
       where
@@ -68,7 +71,7 @@ one_taken all made tags more tag store next step gone are = by are.rest (sym ste
             test false p = p
             test true p =
                 let at : key ≡ e.0 = tied key tag.0 p ∙ same in
-                absurd (let x : None ≡ Some f = sym (not_found key rest (subst (λ n. T (below_all nat_cmp n rest)) (sym at) (first _ _ sorted))) ∙ is in cc)
+                absurd (let x : None ≡ Some f = sym (not_found key rest (subst (λ n. T (below_all nat_cmp n rest)) (sym at) (T_first _ _ sorted))) ∙ is in cc)
 
 some_of : (f g : Fact) → ◌≡◌ {A = Option Fact} (Some f) (Some g) → f ≡ g
 some_of f g e = cc

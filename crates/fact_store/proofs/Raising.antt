@@ -1,10 +1,15 @@
 -- The counts of ids by type, after one version is put in or taken out.
-use Rattle.fact_store.proofs.Common.{◌≡◌, ◌∙◌, sym, ap, refl, subst, ℕ, ◌+◌, ◌-◌, ◌≤◌, List, [], ◌∷◌, length, get_or, Bool, true, false, cond, not, ◌&&◌, arith, nat_eq, Ordering, Less, Equal, Greater, nat_cmp, ordering_then, is_eq, is_at, get-empty, nat_cmp-IsAntisymmetric, OnTrue, OnFalse, list_any, exact_unsigned_eq, HeldFacts, is_of, Version, version_cmp, is_version, IsTotalOrder, CountsIds, CountsType}
+use Rattle.fact_store.proofs.Common.{◌≡◌, ◌∙◌, sym, ap, refl, subst, ℕ, ◌+◌, ◌-◌, ◌≤◌, List, [], ◌∷◌, length, get_or, Bool, true, false, cond, not, ◌&&◌, arith}
+use Rattle.fact_store.proofs.Common.{nat_eq, Ordering, Less, Equal, Greater, nat_cmp, ordering_then, is_eq, is_at, get-empty, nat_cmp-IsAntisymmetric, OnTrue}
+use Rattle.fact_store.proofs.Common.{OnFalse, list_any, exact_unsigned_eq, HeldFacts, is_of, Version, version_cmp, is_version, IsTotalOrder, CountsIds}
+use Rattle.fact_store.proofs.Common.{CountsType}
 use Rattle.std.specs.FinMap as map
 use Rattle.std.specs.List.{IsDistinct}
 use Rattle.std.proofs.lemmas.Cmp.{on_total, then_total, nat_cmp_total, eq_by_cmp_equiv}
 use Rattle.fact_store.specs.Versions.{Counted}
-use Rattle.fact_store.proofs.Counting.{torn, eq_self, without, length-without, AreIds-same, AreIds-first, AreIds-again, AreIds-last, AreIds-still}
+use Rattle.fact_store.proofs.Counting.{without, length-without, AreIds-same, AreIds-first, AreIds-again, AreIds-last, AreIds-still}
+use Rattle.fx_base.proofs.Orders.{eqb-self}
+use Rattle.fx_base.proofs.Tests.{both_ways_absurd}
 
 -- the order of versions is total
 version_total : IsTotalOrder version_cmp
@@ -12,10 +17,10 @@ version_total = then_total (then_total (on_total (λ (v : Version). v.0) nat_cmp
 
 -- what ties is equal in both parts
 pub then_equal : (a b : Ordering) → is_eq (ordering_then a b) ≡ true → (a ≡ Equal) × (b ≡ Equal)
-then_equal Less b e = torn false e refl
-then_equal Greater b e = torn false e refl
-then_equal Equal Less e = torn false e refl
-then_equal Equal Greater e = torn false e refl
+then_equal Less b e = both_ways_absurd false e refl
+then_equal Greater b e = both_ways_absurd false e refl
+then_equal Equal Less e = both_ways_absurd false e refl
+then_equal Equal Greater e = both_ways_absurd false e refl
 then_equal Equal Equal e = (refl, refl)
 
 -- versions that tie are the same
@@ -41,8 +46,8 @@ Counted-none ty = (
   [],
   record {
     once = tt;
-    some = λ id e. torn false e refl;
-    all = λ id tag e. torn (is_of ty id (map.get map.empty tag)) e (ap (is_of ty id) (get-empty nat_cmp tag));
+    some = λ id e. both_ways_absurd false e refl;
+    all = λ id tag e. both_ways_absurd (is_of ty id (map.get map.empty tag)) e (ap (is_of ty id) (get-empty nat_cmp tag));
   },
   refl,
 )
@@ -61,7 +66,7 @@ module _ (was is : Version → Bool) (counts after : List ℕ) (ty id tag : ℕ)
   elsewhere other q t apart = by (is_at (version_cmp (ty, id, tag)) (other, q, t)) refl
     where
       by : (b : Bool) → is_at (version_cmp (ty, id, tag)) (other, q, t) ≡ b → b ≡ false
-      by true e = torn (nat_eq other ty) (ap (λ n. nat_eq n ty) (sym (same_version (ty, id, tag) (other, q, t) e).0) ∙ eq_self ty) apart
+      by true e = both_ways_absurd (nat_eq other ty) (ap (λ n. nat_eq n ty) (sym (same_version (ty, id, tag) (other, q, t) e).0) ∙ eqb-self ty) apart
       by false e = refl
 
   -- another type's ids stay
@@ -92,7 +97,7 @@ module _ (was is : Version → Bool) (counts after : List ℕ) (ty id tag : ℕ)
   count_above held = let c = counted ty in by c.0 (c.1.all id tag held) c.2
     where
       by : (ids : List ℕ) → list_any (nat_eq id) ids ≡ true → get_or counts ty 0 ≡ length ids → 1 ≤ get_or counts ty 0
-      by [] e is = torn false e refl
+      by [] e is = both_ways_absurd false e refl
       by (x ∷ ids) e is = omega (arith, is)
 
   -- a version is put in
@@ -108,7 +113,7 @@ module _ (was is : Version → Bool) (counts after : List ℕ) (ty id tag : ℕ)
   raised put false some none numbers =
       let c = counted ty in
       let was_so = c.2 in
-      let more : get_or after ty 0 ≡ get_or counts ty 0 + 1 = numbers ty ∙ ap (λ b. cond b (get_or counts ty 0 + 1) (get_or counts ty 0)) (eq_self ty) in
+      let more : get_or after ty 0 ≡ get_or counts ty 0 + 1 = numbers ty ∙ ap (λ b. cond b (get_or counts ty 0 + 1) (get_or counts ty 0)) (eqb-self ty) in
       by_types true put (
         id ∷ c.0,
         AreIds-first (λ q t. was (ty, q, t)) (λ q t. is (ty, q, t)) at id tag c.0 c.1 own (version_itself (ty, id, tag)) none (λ q t. put (ty, q, t)),
@@ -130,7 +135,7 @@ module _ (was is : Version → Bool) (counts after : List ℕ) (ty id tag : ℕ)
       let c = counted ty in
       let was_so = c.2 in
       let fewer = length-without id c.0 c.1.once (c.1.all id tag there) in
-      let less : get_or after ty 0 ≡ get_or counts ty 0 - 1 = numbers ty ∙ ap (λ b. cond b (get_or counts ty 0 - 1) (get_or counts ty 0)) (eq_self ty) in
+      let less : get_or after ty 0 ≡ get_or counts ty 0 - 1 = numbers ty ∙ ap (λ b. cond b (get_or counts ty 0 - 1) (get_or counts ty 0)) (eqb-self ty) in
       by_types false taken (
         without id c.0,
         AreIds-last (λ q t. was (ty, q, t)) (λ q t. is (ty, q, t)) at id tag c.0 c.1 own (version_itself (ty, id, tag)) none (λ q t. taken (ty, q, t)),

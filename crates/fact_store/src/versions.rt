@@ -1,6 +1,6 @@
 ghost use Rattle.std.specs.Prelude.{◌≡◌, ◌≤◌, ◌<◌, ◌^◌, ℕ, [], false, true, cond, IfSome, IfNone, OnOk, OnErr};
 ghost use Rattle.std.specs.BTreeMap.{is_at};
-ghost use Rattle.fact_store.specs.Indexes.{pair_cmp, has_pair};
+ghost use Rattle.fact_store.specs.Indexes.{id_tag_cmp, has_pair};
 
 use fx_base::NoMemory;
 use page_map::PageMap;
@@ -20,7 +20,7 @@ impl Model for Versions {
     ghost use Rattle.std.specs.Prelude.{ℕ, List, ◌++◌};
     ghost use Rattle.std.specs.Coded.{codes};
     ghost use Rattle.std.specs.FinMap as map;
-    ghost use Rattle.fact_store.specs.Indexes.{Leads};
+    ghost use Rattle.fact_store.specs.Indexes.{LeadsToNewest};
 
     ghost Value = { List (ℕ × ℕ) };
 
@@ -28,7 +28,7 @@ impl Model for Versions {
 
     ghost view = { λ v. map.entries v.newest ++ v.older.keys };
 
-    ghost invariant = { λ v. Leads v.newest v.older.keys };
+    ghost invariant = { λ v. LeadsToNewest v.newest v.older.keys };
 }
 
 impl Versions {
@@ -68,7 +68,7 @@ impl Versions {
     /// Puts in a version that is new. Where memory is refused, nothing changes. The tag 2^64 - 1 is refused in the same way.
     pub(crate) fn add(&mut self, id: u64, tag: u64) -> Result<(), NoMemory>
         requires { has_pair self.old (id, tag) ≡ false }
-        ensures ok { OnOk result ((other : ℕ × ℕ) → has_pair self.new other ≡ cond (is_at (pair_cmp (id, tag)) other) true (has_pair self.old other)) }
+        ensures ok { OnOk result ((other : ℕ × ℕ) → has_pair self.new other ≡ cond (is_at (id_tag_cmp (id, tag)) other) true (has_pair self.old other)) }
         ensures err { OnErr result (self.new ≡ self.old) }
     {
         if tag == u64::MAX {
@@ -90,7 +90,7 @@ impl Versions {
 
     /// Takes out a version. Takes no memory.
     pub(crate) fn remove(&mut self, id: u64, tag: u64)
-        ensures { (other : ℕ × ℕ) → has_pair self.new other ≡ cond (is_at (pair_cmp (id, tag)) other) false (has_pair self.old other) }
+        ensures { (other : ℕ × ℕ) → has_pair self.new other ≡ cond (is_at (id_tag_cmp (id, tag)) other) false (has_pair self.old other) }
     {
         match self.newest.get(id) {
             Some(newest) => {

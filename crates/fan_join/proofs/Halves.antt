@@ -1,5 +1,9 @@
 -- The parts of a member's step: left rows that go and come, and candidates that go and come.
-use Rattle.fan_join.proofs.Common.{◌≡◌, ◌∙◌, sym, ap, refl, List, [], Bool, true, false, not, ◌&&◌, ◌||◌, is_some, Value, same_value, Delta, Named, Row, row_cmp, has, Leads, IsDifference, without, along, at, Look, joins, Candidates, LeftRows, joined, has_name, has_left, made, Keeps, has_row, has_candidate, beside, IsBeside, NamesLeave, NamesCome, keeps_then, RowTurn, IsTurn, IsRowsDifference, AreNamesTurned, value_beside}
+use Rattle.fan_join.proofs.Common.{◌≡◌, ◌∙◌, sym, ap, refl, List, [], Bool, true, false, not, ◌&&◌, ◌||◌, is_some, Value, same_value, Delta, Named, Row}
+use Rattle.fan_join.proofs.Common.{row_cmp, has, LeadsRows, IsDifference, without, along, at, Look, joins, Candidates, LeftRows, joined, has_name, has_left}
+use Rattle.fan_join.proofs.Common.{made, KeepsMemories, has_row, has_candidate, beside, LooksWhereKept, NamesLeave, NamesCome, keeps_then, RowTurn}
+use Rattle.fan_join.proofs.Common.{AreRowsInTurn, IsRowsDifference, AreNamesTurned, value_beside}
+use Rattle.std.proofs.Math.Bool.{or-false}
 use Rattle.row_change.specs.declared.change.Change.{Change}
 use Rattle.row_change.proofs.Alike.{leads_alike}
 use Rattle.pair_memory.specs.declared.memories.Memories.{Memories}
@@ -10,16 +14,16 @@ use Rattle.fan_join.proofs.Sets.{none_joined, rows_less, rows_more, rows_inside,
 
 -- what a call that takes rows, or brings them, does to a change
 abbrev pub Leaves : List Row → Change → Change → Type 0
-Leaves rows change changed = (old now : Row → Bool) → Leads old now change.gone.keys change.come.keys → ((r : Row) → has rows r ≡ true → now r ≡ true) → Leads old (without now rows) changed.gone.keys changed.come.keys
+Leaves rows change changed = (old now : Row → Bool) → LeadsRows old now change.gone.keys change.come.keys → ((r : Row) → has rows r ≡ true → now r ≡ true) → LeadsRows old (without now rows) changed.gone.keys changed.come.keys
 
 abbrev pub Arrives : List Row → Change → Change → Type 0
-Arrives rows change changed = (old now : Row → Bool) → Leads old now change.gone.keys change.come.keys → ((r : Row) → has rows r ≡ true → now r ≡ false) → Leads old (along now rows) changed.gone.keys changed.come.keys
+Arrives rows change changed = (old now : Row → Bool) → LeadsRows old now change.gone.keys change.come.keys → ((r : Row) → has rows r ≡ true → now r ≡ false) → LeadsRows old (along now rows) changed.gone.keys changed.come.keys
 
 -- what has changed so far leads on, from the rows that are made of the one to those of the other
 abbrev pub LeadsOn : Memories (Unit {0}) → Memories (Unit {0}) → Look → Change → Change → Type 0
-LeadsOn m n look change changed = (old : Row → Bool) → Leads old (made m look) change.gone.keys change.come.keys → Leads old (made n look) changed.gone.keys changed.come.keys
+LeadsOn m n look change changed = (old : Row → Bool) → LeadsRows old (made m look) change.gone.keys change.come.keys → LeadsRows old (made n look) changed.gone.keys changed.come.keys
 
-module _ (m n : Memories (Unit {0})) (look : Look) (left : Row → Bool) (right : Named → Bool) (keeps : Keeps m n look left right) (change changed : Change) (rows : List Row) (moved : Row → Bool)
+module _ (m n : Memories (Unit {0})) (look : Look) (left : Row → Bool) (right : Named → Bool) (keeps : KeepsMemories m n look left right) (change changed : Change) (rows : List Row) (moved : Row → Bool)
     (are : (r : Row) → has rows r ≡ moved r) where
   -- these rows go
   rows_go : ((r : Row) → joined (joins m.pattern look) left right r ≡ (made m look r && not (moved r))) → ((r : Row) → moved r ≡ true → made m look r ≡ true) → Leaves rows change changed
@@ -36,11 +40,11 @@ module _ (m n : Memories (Unit {0})) (look : Look) (left : Row → Bool) (right 
       (λ r. ap (λ b. made m look r || b) (are r) ∙ sym (more r) ∙ sym (made_after m n look left right keeps r))
 
 -- a row is found by each member that looks for it where it is kept
-pub found_beside : (left : LeftRows) (c : Candidates) (look : Look) → IsBeside left c → (r : Row) → has_row left look r ≡ has_left (beside left c) look r
+pub found_beside : (left : LeftRows) (c : Candidates) (look : Look) → LooksWhereKept left c → (r : Row) → has_row left look r ≡ has_left (beside left c) look r
 found_beside left c look is r = ap (λ (v : Value). is_some (at same_value row_cmp left.rows v r)) (value_beside left c look r is)
 
-module _ (before between after : LeftRows) (look : Look) (gone come : List Row) (turn : RowTurn) (is : IsTurn before between after look gone come turn) (c : Candidates) (change changed : Change) (rows : List Row) where
-  rows_went : IsBeside before c → ((r : Row) → has rows r ≡ joined (joins c.pattern look) (has turn.went.items) (has_candidate c look) r) → Leaves rows change changed
+module _ (before between after : LeftRows) (look : Look) (gone come : List Row) (turn : RowTurn) (is : AreRowsInTurn before between after look gone come turn) (c : Candidates) (change changed : Change) (rows : List Row) where
+  rows_went : LooksWhereKept before c → ((r : Row) → has rows r ≡ joined (joins c.pattern look) (has turn.went.items) (has_candidate c look) r) → Leaves rows change changed
       → LeadsOn (beside before c) (beside between c) look change changed
   rows_went b are leave =
       let went : (l : Row) → has turn.went.items l ≡ (has gone l && has_left (beside before c) look l) = λ l. is.went l ∙ ap (λ h. has gone l && h) (found_beside before c look b l) in
@@ -48,7 +52,7 @@ module _ (before between after : LeftRows) (look : Look) (gone come : List Row) 
       (rows_less (joins c.pattern look) (has_left (beside before c) look) (has gone) (has turn.went.items) (has_candidate c look) went)
       (rows_inside (joins c.pattern look) (has_left (beside before c) look) (has gone) (has turn.went.items) (has_candidate c look) went) leave
 
-  rows_came : IsBeside between c → ((r : Row) → has rows r ≡ joined (joins c.pattern look) (has turn.came.items) (has_candidate c look) r) → Arrives rows change changed
+  rows_came : LooksWhereKept between c → ((r : Row) → has rows r ≡ joined (joins c.pattern look) (has turn.came.items) (has_candidate c look) r) → Arrives rows change changed
       → LeadsOn (beside between c) (beside after c) look change changed
   rows_came b are arrive =
       let came : (l : Row) → has turn.came.items l ≡ (has come l && not (has_left (beside between c) look l)) = λ l. is.came l ∙ ap (λ h. has come l && not h) (found_beside between c look b l) in
@@ -78,8 +82,8 @@ module _ (left : LeftRows) (look : Look) (c n : Candidates) (names found : List 
 pub rows_turned : (turn : RowTurn) (look : Look) (c : Candidates) (gone_rows come_rows : List Row) (ch0 ch1 ch2 : Change) (delta : Delta)
     → ((r : Row) → has gone_rows r ≡ joined (joins c.pattern look) (has turn.went.items) (has_candidate c look) r)
     → ((r : Row) → has come_rows r ≡ joined (joins c.pattern look) (has turn.came.items) (has_candidate c look) r)
-    → ((rows : Row → Bool) → Leads rows rows ch0.gone.keys ch0.come.keys) → Leaves gone_rows ch0 ch1 → Arrives come_rows ch1 ch2
-    → ((old now : Row → Bool) → Leads old now ch2.gone.keys ch2.come.keys → IsDifference old now delta)
+    → ((rows : Row → Bool) → LeadsRows rows rows ch0.gone.keys ch0.come.keys) → Leaves gone_rows ch0 ch1 → Arrives come_rows ch1 ch2
+    → ((old now : Row → Bool) → LeadsRows old now ch2.gone.keys ch2.come.keys → IsDifference old now delta)
     → IsRowsDifference turn look c delta
 rows_turned turn look c gone_rows come_rows ch0 ch1 ch2 delta went came none leave arrive difference before between after gone come is b =
     let old = made (beside before c) look in
@@ -94,8 +98,8 @@ pub names_turn : (left : LeftRows) (look : Look) (c0 c1 c2 : Candidates) (gone c
     → ((who : Named) → has_name came who ≡ (has_name come who && not (has_candidate c1 look who)))
     → ((r : Row) → has gone_rows r ≡ joined (joins c0.pattern look) (has_left (beside left c0) look) (has_name went) r)
     → ((r : Row) → has come_rows r ≡ joined (joins c1.pattern look) (has_left (beside left c1) look) (has_name came) r)
-    → ((old now : Row → Bool) → IsDifference old now so_far → Leads old now ch0.gone.keys ch0.come.keys) → Leaves gone_rows ch0 ch1 → Arrives come_rows ch1 ch2
-    → ((old now : Row → Bool) → Leads old now ch2.gone.keys ch2.come.keys → IsDifference old now delta)
+    → ((old now : Row → Bool) → IsDifference old now so_far → LeadsRows old now ch0.gone.keys ch0.come.keys) → Leaves gone_rows ch0 ch1 → Arrives come_rows ch1 ch2
+    → ((old now : Row → Bool) → LeadsRows old now ch2.gone.keys ch2.come.keys → IsDifference old now delta)
     → AreNamesTurned left look gone come so_far c0 c2 delta
 names_turn left look c0 c1 c2 gone come went came gone_rows come_rows ch0 ch1 ch2 so_far delta p1 p2 leave arrive went_are came_are gone_are come_are begun t1 t2 difference = record {
   pattern = p2 ∙ p1;
@@ -126,11 +130,7 @@ less_nothing : (a : Bool) → (a && not false) ≡ a
 less_nothing true = refl
 less_nothing false = refl
 
-pub or_nothing : (a : Bool) → (a || false) ≡ a
-or_nothing true = refl
-or_nothing false = refl
-
-module _ (before between after : LeftRows) (look : Look) (gone come : List Row) (turn : RowTurn) (is : IsTurn before between after look gone come turn) (c : Candidates) (b : IsBeside before c)
+module _ (before between after : LeftRows) (look : Look) (gone come : List Row) (turn : RowTurn) (is : AreRowsInTurn before between after look gone come turn) (c : Candidates) (b : LooksWhereKept before c)
     (went : (l : Row) (who : Named) → has turn.went.items l ≡ true → has_candidate c look who ≡ true → joins c.pattern look l who ≡ false)
     (came : (l : Row) (who : Named) → has turn.came.items l ≡ true → has_candidate c look who ≡ true → joins c.pattern look l who ≡ false) where
   -- its rows are the same
@@ -139,7 +139,7 @@ module _ (before between after : LeftRows) (look : Look) (gone come : List Row) 
       let then = b ∙ sym is.key in
       made_after (beside between c) (beside after c) look _ _ (is.comes c then) r
       ∙ rows_more (joins c.pattern look) (has_left (beside between c) look) (has come) (has turn.came.items) (has_candidate c look) (λ l. is.came l ∙ ap (λ h. has come l && not h) (found_beside between c look then l)) r
-      ∙ ap (λ x. made (beside between c) look r || x) (none_joined (joins c.pattern look) (has turn.came.items) (has_candidate c look) came r) ∙ or_nothing _
+      ∙ ap (λ x. made (beside between c) look r || x) (none_joined (joins c.pattern look) (has turn.came.items) (has_candidate c look) came r) ∙ or-false _
       ∙ made_after (beside before c) (beside between c) look _ _ (is.leaves c b) r
       ∙ rows_less (joins c.pattern look) (has_left (beside before c) look) (has gone) (has turn.went.items) (has_candidate c look) (λ l. is.went l ∙ ap (λ h. has gone l && h) (found_beside before c look b l)) r
       ∙ ap (λ x. made (beside before c) look r && not x) (none_joined (joins c.pattern look) (has turn.went.items) (has_candidate c look) went r) ∙ less_nothing _
@@ -174,8 +174,8 @@ came_to true b g c e f h = let x : false ≡ true = sym (not_both b f) ∙ h in 
     not_both false f = f
 came_to false b g c e f h = refl
 
-pub begun_by : (so_far : Delta) (ch0 ch1 ch2 : Change) → ((rows : Row → Bool) → Leads rows rows ch0.gone.keys ch0.come.keys) → Leaves so_far.gone ch0 ch1 → Arrives so_far.come ch1 ch2
-    → (old now : Row → Bool) → IsDifference old now so_far → Leads old now ch2.gone.keys ch2.come.keys
+pub begun_by : (so_far : Delta) (ch0 ch1 ch2 : Change) → ((rows : Row → Bool) → LeadsRows rows rows ch0.gone.keys ch0.come.keys) → Leaves so_far.gone ch0 ch1 → Arrives so_far.come ch1 ch2
+    → (old now : Row → Bool) → IsDifference old now so_far → LeadsRows old now ch2.gone.keys ch2.come.keys
 begun_by so_far ch0 ch1 ch2 none leave arrive old now is =
     let goes = is.leads.goes in
     let comes = is.leads.comes in

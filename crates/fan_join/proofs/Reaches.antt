@@ -1,11 +1,14 @@
 -- Under which values members are found.
-use Rattle.fan_join.proofs.Common.{◌≡◌, ◌∙◌, sym, ap, refl, subst, ℕ, ◌+◌, ◌<◌, List, length, take, get_or, Bool, true, false, cond, ◌&&◌, ◌||◌, Option, Some, None, slice_get, set, is_some, nat_cmp, eq_by_cmp, JoinIndex, at, Value, same_value, Named, name_cmp, Look, candidate_value, Candidates, Delta, has_name, AreNamesTurned, FanJoin, IsReached, is_under, false≢true, IsMemberTurned}
+use Rattle.fan_join.proofs.Common.{◌≡◌, ◌∙◌, sym, ap, refl, subst, ℕ, ◌+◌, ◌<◌, List, length, take, get_or, Bool, true, false, cond, ◌&&◌, ◌||◌, Some, None}
+use Rattle.fan_join.proofs.Common.{slice_get, set, is_some, nat_cmp, eq_by_cmp, JoinIndex, at, Value, same_value, Named, name_cmp, Look, candidate_value}
+use Rattle.fan_join.proofs.Common.{Candidates, Delta, has_name, AreNamesTurned, FanJoin, IsReached, is_member_under, false≢true, IsMemberTurned}
 use Rattle.std.specs.List.{list_any}
 use Rattle.std.proofs.lemmas.List.Folds.{list_any_more}
 use Rattle.std.proofs.lemmas.Bool.{and_parts, and_from}
 use Rattle.fx_base.specs.SameValues.{equal_values, same_itself}
 use Rattle.fan_join.proofs.Whole.{member_turned}
-use Rattle.fan_join.proofs.Places.{both_at, place_itself, same_place, set_other, set_same}
+use Rattle.fx_base.proofs.Orders.{eq_by_nat_cmp-self, eq_by_nat_cmp-true}
+use Rattle.fx_base.proofs.Sequences.{get-set_other, get-set_same, is_some-cond, one_value}
 
 -- what holds of the elements so far and of the next one
 pub among_more : {A : Type 0} (eq : A → A → Bool) → ((a b : A) → eq a b ≡ true → a ≡ b) → (xs : List A) (i : ℕ) → i < length xs → (any x : A) → x ≡ get_or xs i any → (P : A → Type 0)
@@ -18,28 +21,24 @@ among_more eq exact xs i below any x is P so_far here a there = by (list_any (eq
 
 -- ---- a place under a value
 
-some_still : {S : Type 0} (b : Bool) (w : S) (old : Option S) → is_some old ≡ true → is_some (cond b (Some w) old) ≡ true
-some_still true w old e = refl
-some_still false w old e = e
-
 module _ (old new : JoinIndex Value ℕ (Unit {0})) (value : Value) (place : ℕ) where
   module _ (put : (v : Value) (k : ℕ) → at same_value nat_cmp new v k ≡ cond (same_value value v && eq_by_cmp nat_cmp place k) (Some tt) (at same_value nat_cmp old v k)) where
-    pub under_stays : (v : Value) (k : ℕ) → is_under old v k ≡ true → is_under new v k ≡ true
-    under_stays v k e = ap is_some (put v k) ∙ some_still (same_value value v && eq_by_cmp nat_cmp place k) tt _ e
+    pub under_stays : (v : Value) (k : ℕ) → is_member_under old v k ≡ true → is_member_under new v k ≡ true
+    under_stays v k e = ap is_some (put v k) ∙ is_some-cond (same_value value v && eq_by_cmp nat_cmp place k) tt _ e
 
-    pub under_here : is_under new value place ≡ true
-    under_here = ap is_some (put value place ∙ ap (λ b. cond b (Some tt) (at same_value nat_cmp old value place)) (and_from _ _ (same_itself value) (place_itself place)))
+    pub under_here : is_member_under new value place ≡ true
+    under_here = ap is_some (put value place ∙ ap (λ b. cond b (Some tt) (at same_value nat_cmp old value place)) (and_from _ _ (same_itself value) (eq_by_nat_cmp-self place)))
 
   -- one is taken where nothing is kept
   pub under_left : (names : JoinIndex Value Named (Unit {0})) → ((who : Named) → at same_value name_cmp names value who ≡ None)
       → ((v : Value) (k : ℕ) → at same_value nat_cmp new v k ≡ cond (same_value value v && eq_by_cmp nat_cmp place k) None (at same_value nat_cmp old v k))
-      → (v : Value) (k : ℕ) → (k ≡ place → (who : Named) × (is_some (at same_value name_cmp names v who) ≡ true)) → is_under old v k ≡ true → is_under new v k ≡ true
+      → (v : Value) (k : ℕ) → (k ≡ place → (who : Named) × (is_some (at same_value name_cmp names v who) ≡ true)) → is_member_under old v k ≡ true → is_member_under new v k ≡ true
   under_left names none taken v k held was = by (same_value value v && eq_by_cmp nat_cmp place k) refl
     where
-      by : (b : Bool) → (same_value value v && eq_by_cmp nat_cmp place k) ≡ b → is_under new v k ≡ true
+      by : (b : Bool) → (same_value value v && eq_by_cmp nat_cmp place k) ≡ b → is_member_under new v k ≡ true
       by true e =
           let both = and_parts (same_value value v) (eq_by_cmp nat_cmp place k) e in
-          let kept = held (sym (same_place place k both.1)) in
+          let kept = held (sym (eq_by_nat_cmp-true place k both.1)) in
           absurd (false≢true (sym (ap is_some (none kept.0)) ∙ ap (λ u. is_some (at same_value name_cmp names u kept.0)) (equal_values value v both.0) ∙ kept.1))
       by false e = ap is_some (taken v k ∙ ap (λ b. cond b None (at same_value nat_cmp old v k)) e) ∙ was
 
@@ -48,32 +47,32 @@ module _ (old new : JoinIndex Value ℕ (Unit {0})) (value : Value) (place : ℕ
 module _ (old new : FanJoin) (mid : JoinIndex Value ℕ (Unit {0})) (look : Look) (place : ℕ) (come : List Named) (c d : Candidates) (was : slice_get old.members.items place ≡ Some c) (is : new.members.items ≡ set old.members.items place d)
     (under : (value : Value) (who : Named) → is_some (at same_value name_cmp d.names value who) ≡ true
     → (is_some (at same_value name_cmp c.names value who) || (has_name come who && same_value (candidate_value d.pattern look who) value)) ≡ true)
-    (left : (value : Value) (k : ℕ) → (k ≡ place → (who : Named) × (is_some (at same_value name_cmp d.names value who) ≡ true)) → is_under old.reached value k ≡ true → is_under mid value k ≡ true)
-    (stays : (value : Value) (k : ℕ) → is_under mid value k ≡ true → is_under new.reached value k ≡ true)
-    (put : (who : Named) → has_name come who ≡ true → is_under new.reached (candidate_value d.pattern look who) place ≡ true) where
-  reached_here : IsReached old → (value : Value) (who : Named) → is_some (at same_value name_cmp d.names value who) ≡ true → is_under new.reached value place ≡ true
+    (left : (value : Value) (k : ℕ) → (k ≡ place → (who : Named) × (is_some (at same_value name_cmp d.names value who) ≡ true)) → is_member_under old.reached value k ≡ true → is_member_under mid value k ≡ true)
+    (stays : (value : Value) (k : ℕ) → is_member_under mid value k ≡ true → is_member_under new.reached value k ≡ true)
+    (put : (who : Named) → has_name come who ≡ true → is_member_under new.reached (candidate_value d.pattern look who) place ≡ true) where
+  reached_here : IsReached old → (value : Value) (who : Named) → is_some (at same_value name_cmp d.names value who) ≡ true → is_member_under new.reached value place ≡ true
   reached_here reached value who kept = by (is_some (at same_value name_cmp c.names value who)) refl
     where
-      by : (b : Bool) → is_some (at same_value name_cmp c.names value who) ≡ b → is_under new.reached value place ≡ true
+      by : (b : Bool) → is_some (at same_value name_cmp c.names value who) ≡ b → is_member_under new.reached value place ≡ true
       by true e = stays value place (left value place (λ same. (who, kept)) (reached place c value who was e))
       by false e =
           let both =
           and_parts (has_name come who) (same_value (candidate_value d.pattern look who) value)
           (ap (λ b. b || (has_name come who && same_value (candidate_value d.pattern look who) value)) (sym e) ∙ under value who kept) in
-          ap (λ v. is_under new.reached v place) (sym (equal_values (candidate_value d.pattern look who) value both.1)) ∙ put who both.0
+          ap (λ v. is_member_under new.reached v place) (sym (equal_values (candidate_value d.pattern look who) value both.1)) ∙ put who both.0
 
   reached_turned : IsReached old → IsReached new
   reached_turned reached k a value who member kept = by (eq_by_cmp nat_cmp k place) refl
     where
-      by : (b : Bool) → eq_by_cmp nat_cmp k place ≡ b → is_under new.reached value k ≡ true
+      by : (b : Bool) → eq_by_cmp nat_cmp k place ≡ b → is_member_under new.reached value k ≡ true
       by true e =
-          let same = same_place k place e in
+          let same = eq_by_nat_cmp-true k place e in
           let there : slice_get (set old.members.items place d) place ≡ Some a = ap (λ (members : List Candidates). slice_get members place) (sym is) ∙ ap (slice_get new.members.items) (sym same) ∙ member in
-          let a_is = both_at (slice_get (set old.members.items place d) place) a d there (set_same old.members.items place d c was) in
-          ap (is_under new.reached value) same ∙ reached_here reached value who (ap (λ (m : Candidates). is_some (at same_value name_cmp m.names value who)) (sym a_is) ∙ kept)
+          let a_is = one_value (slice_get (set old.members.items place d) place) a d there (get-set_same old.members.items place d c was) in
+          ap (is_member_under new.reached value) same ∙ reached_here reached value who (ap (λ (m : Candidates). is_some (at same_value name_cmp m.names value who)) (sym a_is) ∙ kept)
       by false e =
-          let other : k ≡ place → ⊥ = λ same. false≢true (sym e ∙ ap (λ n. eq_by_cmp nat_cmp n place) same ∙ place_itself place) in
-          let there : slice_get old.members.items k ≡ Some a = sym (set_other old.members.items place k d other) ∙ ap (λ (members : List Candidates). slice_get members k) (sym is) ∙ member in
+          let other : k ≡ place → ⊥ = λ same. false≢true (sym e ∙ ap (λ n. eq_by_cmp nat_cmp n place) same ∙ eq_by_nat_cmp-self place) in
+          let there : slice_get old.members.items k ≡ Some a = sym (get-set_other old.members.items place k d other) ∙ ap (λ (members : List Candidates). slice_get members k) (sym is) ∙ member in
           stays value k (left value k (λ same. absurd (other same)) (reached k a value who there kept))
 
   pub names_reached : (gone : List Named) (so_far delta : Delta) → AreNamesTurned old.left look gone come so_far c d delta → new.left ≡ old.left → IsMemberTurned old new look place gone come so_far delta

@@ -25,12 +25,12 @@ abbrev pub has_place : List ℕ → ℕ → Bool
 has_place places k = list_any (eq_by_cmp nat_cmp k) places
 
 -- whether the member in a place is found under a value
-abbrev pub is_under : JoinIndex Value ℕ (Unit {0}) → Value → ℕ → Bool
-is_under reached value k = is_some (at same_value nat_cmp reached value k)
+abbrev pub is_member_under : JoinIndex Value ℕ (Unit {0}) → Value → ℕ → Bool
+is_member_under reached value k = is_some (at same_value nat_cmp reached value k)
 
 -- the members that are found under the values of these rows are in these places
 abbrev pub AreAmong : RowKey → JoinIndex Value ℕ (Unit {0}) → Look → List Row → List ℕ → Type 0
-AreAmong key reached look rows places = (row : Row) (k : ℕ) → has rows row ≡ true → is_under reached (value_by key look row) k ≡ true → has_place places k ≡ true
+AreAmong key reached look rows places = (row : Row) (k : ℕ) → has rows row ≡ true → is_member_under reached (value_by key look row) k ≡ true → has_place places k ≡ true
 
 -- The members to ask of a turn are in these places: all of them, where there is a range of time, and else those that its rows reach.
 pub record AreAsked (fan : FanJoin) (look : Look) (turn : RowTurn) (places : List ℕ) : Type 0 where
@@ -44,7 +44,7 @@ pub record AreKept (turn : RowTurn) (look : Look) (members : List Candidates) (d
   pub each : (k : ℕ) (c : Candidates) (delta : Delta) → slice_get members k ≡ Some c → get nat_cmp deltas k ≡ Some delta → IsRowsDifference turn look c delta
 
 -- a difference is kept of the member in a place, unless it is empty
-pub record IsPut (place : ℕ) (delta : Delta) (old new : BTreeMap ℕ Delta) : Type 0 where
+pub record IsDifferencePut (place : ℕ) (delta : Delta) (old new : BTreeMap ℕ Delta) : Type 0 where
   pub each : (k : ℕ) (d : Delta) → get nat_cmp new k ≡ Some d → (get nat_cmp old k ≡ Some d) ⊎ ((k ≡ place) × (delta ≡ d))
   pub stays : (k : ℕ) → get nat_cmp new k ≡ None → get nat_cmp old k ≡ None
   pub here : get nat_cmp new place ≡ None → delta ≡ nothing

@@ -9,13 +9,13 @@ use Rattle.join_tests.specs.Joins.{Look}
 use Rattle.pair_memory.specs.declared.candidates.Candidates.{Candidates}
 use Rattle.pair_memory.specs.declared.left_rows.LeftRows.{LeftRows}
 use Rattle.pair_memory.specs.Joined.{has_name}
-use Rattle.pair_memory.specs.Memories.{has_left, has_right, made, Keeps}
-use Rattle.pair_memory.specs.Apart.{has_row, beside, IsBeside, RowsLeave, RowsCome}
+use Rattle.pair_memory.specs.Memories.{has_left, has_right, made, KeepsMemories}
+use Rattle.pair_memory.specs.Apart.{has_row, beside, LooksWhereKept, RowsLeave, RowsCome}
 use Rattle.fan_join.specs.declared.row_turn.RowTurn.{RowTurn}
 
 -- Rows leave and then come: the left rows before, between and after; and it is known which of those that leave were there, and which of
 -- those that come were not.
-pub record IsTurn (before between after : LeftRows) (look : Look) (gone come : List Row) (turn : RowTurn) : Type 0 where
+pub record AreRowsInTurn (before between after : LeftRows) (look : Look) (gone come : List Row) (turn : RowTurn) : Type 0 where
   pub key : between.key ≡ before.key
   pub key_now : after.key ≡ before.key
   pub leaves : RowsLeave before between look gone
@@ -25,12 +25,12 @@ pub record IsTurn (before between after : LeftRows) (look : Look) (gone come : L
 
 -- the difference that these left rows make with the candidates of a member
 abbrev pub IsRowsDifference : RowTurn → Look → Candidates → Delta → Type 0
-IsRowsDifference turn look c delta = (before between after : LeftRows) (gone come : List Row) → IsTurn before between after look gone come turn → IsBeside before c
+IsRowsDifference turn look c delta = (before between after : LeftRows) (gone come : List Row) → AreRowsInTurn before between after look gone come turn → LooksWhereKept before c
     → IsDifference (made (beside before c) look) (made (beside after c) look) delta
 
 -- Candidates of a member leave and then come, and what had changed in its rows so far goes on by what changes with them.
 pub record AreNamesTurned (left : LeftRows) (look : Look) (gone come : List Named) (so_far : Delta) (old new : Candidates) (delta : Delta) : Type 0 where
   pub pattern : new.pattern ≡ old.pattern
-  pub kept : Keeps (beside left old) (beside left new) look (has_left (beside left old) look)
+  pub kept : KeepsMemories (beside left old) (beside left new) look (has_left (beside left old) look)
       (λ who. (has_right (beside left old) look who && not (has_name gone who)) || has_name come who)
   pub difference : (first : Row → Bool) → IsDifference first (made (beside left old) look) so_far → IsDifference first (made (beside left new) look) delta

@@ -4,7 +4,7 @@ ghost use Rattle.std.specs.BTreeMap.{get};
 ghost use Rattle.std.specs.Ordering.{nat_cmp};
 ghost use Rattle.pair_memory.specs.declared.candidates.Candidates.{Candidates as CandidatesData};
 ghost use Rattle.fan_join.specs.Fans.{nothing};
-ghost use Rattle.fan_join.specs.Reaching.{AreDifferences, AreKept, IsPut};
+ghost use Rattle.fan_join.specs.Reaching.{AreDifferences, AreKept, IsDifferencePut};
 ghost use Rattle.fan_join.specs.Turns.{IsRowsDifference};
 
 use crate::member::rows_difference;
@@ -62,7 +62,7 @@ fn put_change(
     place: usize,
     delta: Delta,
 ) -> Result<(), NoMemory>
-    ensures { OnOk result (IsPut place delta deltas.old deltas.new) }
+    ensures { OnOk result (IsDifferencePut place delta deltas.old deltas.new) }
 {
     if !changes_nothing(&delta) {
         deltas.insert(place, delta)?;

@@ -1,7 +1,7 @@
 ghost use Rattle.std.specs.Prelude.{◌≡◌, ◌<◌, ◌++◌, ◌∷◌, [], length, IfOk, OnOk};
 ghost use Rattle.join_tests.specs.RowKeys.{row_key};
 ghost use Rattle.pair_memory.specs.declared.candidates.Candidates.{Candidates as CandidatesData};
-ghost use Rattle.fan_join.specs.Fans.{IsMember, AreBeside, AreRowsTurned, IsEmpty, IsMemberTurned, IsReached};
+ghost use Rattle.fan_join.specs.Fans.{IsMemberAt, AreBeside, AreRowsTurned, IsEmpty, IsMemberTurned, IsReached};
 ghost use Rattle.fan_join.specs.Reaching.{AreAsked};
 
 use crate::asking::differences;
@@ -74,7 +74,7 @@ impl FanJoin {
     /// The pattern of the member in a place. Takes no memory.
     pub fn pattern(&self, place: usize) -> &Pattern
         requires { place < length self.now.members.items }
-        ensures { (c : CandidatesData) → IsMember self.now place c → result.now ≡ c.pattern }
+        ensures { (c : CandidatesData) → IsMemberAt self.now place c → result.now ≡ c.pattern }
     {
         self.members[place].pattern()
     }

@@ -9,7 +9,7 @@ ghost use Rattle.alpha_memory.specs.JoinIndex.{at};
 ghost use Rattle.join_tests.specs.Kept.{candidate_value};
 ghost use Rattle.pair_memory.specs.Joined.{has_name};
 ghost use Rattle.row_change.specs.declared.change.Change.{Change as ChangeData};
-ghost use Rattle.row_change.specs.Changes.{IsDifference, Leads};
+ghost use Rattle.row_change.specs.Changes.{IsDifference, LeadsRows};
 ghost use Rattle.fan_join.specs.Turns.{AreNamesTurned, IsRowsDifference};
 
 use crate::row_turn::RowTurn;
@@ -68,7 +68,7 @@ pub(crate) fn names_turned<F: Facts>(
 
 /// A change that has come as far as a difference.
 fn begun(alloc: Global, so_far: Delta) -> Result<Change, NoMemory>
-    ensures { IfOk result (λ change. (old now : Row → Bool) → IsDifference old now so_far → Leads old now change.gone.keys change.come.keys) }
+    ensures { IfOk result (λ change. (old now : Row → Bool) → IsDifference old now so_far → LeadsRows old now change.gone.keys change.come.keys) }
 {
     let mut change = Change::none(alloc);
     change.leave(alloc, so_far.gone.into_vec())?;

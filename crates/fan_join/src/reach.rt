@@ -9,7 +9,7 @@ ghost use Rattle.alpha_memory.specs.Bucket.{found};
 ghost use Rattle.alpha_memory.specs.JoinIndex.{at};
 ghost use Rattle.join_tests.specs.Kept.{candidate_value};
 ghost use Rattle.pair_memory.specs.Joined.{has_name};
-ghost use Rattle.fan_join.specs.Reaching.{has_place, is_under, AreAmong};
+ghost use Rattle.fan_join.specs.Reaching.{has_place, is_member_under, AreAmong};
 
 use alpha_memory::{Bucket, JoinIndex};
 use fx_base::{Facts, NoMemory, Value};
@@ -56,7 +56,7 @@ fn add_under(
     value: &Value,
 ) -> Result<(), NoMemory>
     ensures stays { OnOk result ((k : ℕ) → has_place places.old.keys k ≡ true → has_place places.new.keys k ≡ true) }
-    ensures added { OnOk result ((k : ℕ) → is_under reached.now value.now k ≡ true → has_place places.new.keys k ≡ true) }
+    ensures added { OnOk result ((k : ℕ) → is_member_under reached.now value.now k ≡ true → has_place places.new.keys k ≡ true) }
 {
     match reached.bucket(value) {
         Some(bucket) => add_places(places, bucket),
@@ -94,8 +94,8 @@ pub(crate) fn put_values<F: Facts>(
     come: &[Named],
     facts: &F,
 ) -> Result<(), NoMemory>
-    ensures stays { OnOk result ((value : ValueData) (k : ℕ) → is_under reached.old value k ≡ true → is_under reached.new value k ≡ true) }
-    ensures put { OnOk result ((who : NamedData) → has_name come.now who ≡ true → is_under reached.new (candidate_value member.now.pattern (F.map facts.now) who) place ≡ true) }
+    ensures stays { OnOk result ((value : ValueData) (k : ℕ) → is_member_under reached.old value k ≡ true → is_member_under reached.new value k ≡ true) }
+    ensures put { OnOk result ((who : NamedData) → has_name come.now who ≡ true → is_member_under reached.new (candidate_value member.now.pattern (F.map facts.now) who) place ≡ true) }
 {
     for who in come {
         let value = member.value(*who, facts).into_value(alloc)?;
@@ -114,7 +114,7 @@ pub(crate) fn take_values<F: Facts>(
     facts: &F,
 )
     ensures { (value : ValueData) (k : ℕ) → (k ≡ place → (who : NamedData) × (is_some (at same_value name_cmp member.now.names value who) ≡ true))
-        → is_under reached.old value k ≡ true → is_under reached.new value k ≡ true }
+        → is_member_under reached.old value k ≡ true → is_member_under reached.new value k ≡ true }
 {
     for who in gone {
         let value = member.value(*who, facts);
@@ -130,7 +130,7 @@ fn take_value(
     value: &Value,
 )
     ensures { (v : ValueData) (k : ℕ) → (k ≡ place → (who : NamedData) × (is_some (at same_value name_cmp member.now.names v who) ≡ true))
-        → is_under reached.old v k ≡ true → is_under reached.new v k ≡ true }
+        → is_member_under reached.old v k ≡ true → is_member_under reached.new v k ≡ true }
 {
     if member.has_under(value) {
         return;

@@ -1,8 +1,15 @@
 -- The numbers of the entries of a search tree: they rise already, and the first and the last key are the ends.
-use Rattle.fold_fn.proofs.Common.{◌≡◌, ℕ, zero, suc, ◌<◌, ℤ, ◌≤ℤ◌, true, false, List, [], ◌∷◌, ◌++◌, replicate, Some, refl, sym, ap, ◌∙◌, arith, All, Contains, int_eq, int_cmp, int_lt, Less, is_lt, is_gt, ⊎_elim, lookup, keys_of, ints, cases_Bool, cond-false, lookup_head, lookup_tail, All-nil, All-head, All-tail, All-weaker, insert_rising, in_rising_order, least, greatest, repeated, NoneIsZero, AllByRecursion, IsStrictlySortedBy, sorted_head, sorted_tail, All-append, All-replicate, Contains-append_left, Contains-append_right}
-use Rattle.fold_fn.proofs.Rising.{same_number}
+use Rattle.fold_fn.proofs.Common.{◌≡◌, ℕ, zero, suc, ◌<◌, ℤ, ◌≤ℤ◌, true, false, List, [], ◌∷◌, ◌++◌, replicate, Option, Some, None, refl, sym, ap, ◌∙◌, arith}
+use Rattle.fold_fn.proofs.Common.{All, Contains, int_eq, int_cmp, int_lt, Less, is_lt, is_gt, ⊎_elim, insert_rising, in_rising_order, lookup, keys_of, ints}
+use Rattle.fold_fn.proofs.Common.{cases_Bool, cond-false, lookup_head, lookup_tail, All-nil, All-head, All-tail, All-weaker, All-append, All-replicate}
+use Rattle.fold_fn.proofs.Common.{Contains-append_left, Contains-append_right, least, greatest, repeated, NoneIsZero, AllByRecursion, sorted_head, sorted_tail}
+use Rattle.fold_fn.proofs.Common.{unwrap_or, int_eq-true}
+use Rattle.std.specs.List.Sorted.{IsStrictlySortedBy}
+use Rattle.std.specs.Prelude.{◌↔◌, is_some}
+use Rattle.fold_fn.proofs.Rising.{times-rising}
 use Rattle.fold_fn.proofs.ResultLemmas.{least-rising, greatest-rising}
-use Rattle.fold_fn.proofs.LawLemmas.{least_found, greatest_found}
+use Rattle.fold_fn.proofs.LawLemmas.{least_found, greatest_found, times_from_contains, contains_timed}
+use Rattle.fold_fn.proofs.Multisets.{times_in, count_at_from_contains}
 
 -- k goes in front of numbers whose entries have greater keys
 goes_first : (k : ℤ) (es : List (ℤ × ℕ)) → AllByRecursion (λ y. int_cmp k y ≡ Less) (keys_of es) → insert_rising k (repeated es) ≡ k ∷ repeated es
@@ -45,11 +52,25 @@ contains_key k (e ∷ es) n h some =
     ⊎_elim
     (λ (here : int_eq k e.0 ≡ true).
     let count : e.1 ≡ n = (let found = lookup_head (int_eq k) e es here in cc) in
-    rw (same_number k e.0 here, count) (Contains-append_left (replicate n e.0) (repeated es) e.0 (contains_again e.0 n some)))
+    rw (int_eq-true k e.0 here, count) (Contains-append_left (replicate n e.0) (repeated es) e.0 (contains_again e.0 n some)))
     (λ (away : int_eq k e.0 ≡ false).
     Contains-append_right (replicate e.1 e.0) (repeated es) k
     (contains_key k es n (sym (lookup_tail (int_eq k) e es away) ∙ h) some))
     (cases_Bool (int_eq k e.0))
+
+-- the numbers are those that have an entry
+pub has_entry : (es : List (ℤ × ℕ)) (v : ℤ) → NoneIsZero (times_in es) → (is_some (times_in es v) ≡ true) ↔ Contains (in_rising_order (repeated es)) v
+has_entry es v positive = (λ some. of_entry (times_in es v) refl some, λ has. counted (times_in es v) (count_at_from_contains es v positive has))
+  where
+    of_entry : (o : Option ℕ) → times_in es v ≡ o → is_some o ≡ true → Contains (in_rising_order (repeated es)) v
+    of_entry None e some = absurd (cc)
+    of_entry (Some n) e some =
+        let among = times_from_contains v (repeated es) (contains_key v es n e (rw e at (positive v))) in
+        contains_timed v (in_rising_order (repeated es)) (omega (arith, among, times-rising v (repeated es)))
+
+    counted : (o : Option ℕ) → 0 < unwrap_or o 0 → is_some o ≡ true
+    counted None h = absurd (omega (arith, h))
+    counted (Some n) h = refl
 
 not_greater : (k q : ℤ) → is_gt (int_cmp k q) ≡ false → k ≤ℤ q
 not_greater k q h = grind (arith, ints)

@@ -1,6 +1,8 @@
 -- What a list contains, its least and greatest number, the floor of a quotient, and taking back.
-use Rattle.fold_fn.proofs.Common.{◌≡◌, ℕ, zero, suc, ◌*◌, ◌<◌, ◌≤◌, ◌/◌, ℤ, pos, negsuc, ◌+ℤ◌, ◌*ℤ◌, ◌≤ℤ◌, ◌<ℤ◌, List, [], ◌∷◌, Some, refl, ap, arith, All, Contains, int_eq, int_lt, true, false, ⊎_elim, ints, cases_Bool, All-nil, All-cons, All-weaker, times, insert_rising, in_rising_order, least_of, greatest_of, least, greatest, floor_quotient, int_min, int_max, All-contains}
-use Rattle.fold_fn.proofs.Rising.{times-cons, times-nil, times-rising, int_eq-same, same_number}
+use Rattle.fold_fn.proofs.Common.{◌≡◌, ℕ, zero, suc, ◌*◌, ◌<◌, ◌≤◌, ◌/◌, ℤ, pos, negsuc, ◌+ℤ◌, ◌*ℤ◌, ◌≤ℤ◌, ◌<ℤ◌, List, [], ◌∷◌, Some, refl, sym, ap, arith, All}
+use Rattle.fold_fn.proofs.Common.{Contains, int_eq, int_lt, true, false, ⊎_elim, ints, cases_Bool, All-nil, All-cons, All-weaker, All-contains, times}
+use Rattle.fold_fn.proofs.Common.{insert_rising, least_of, greatest_of, least, greatest, floor_quotient, int_min, int_max, int_eq-self, int_eq-true}
+use Rattle.fold_fn.proofs.Rising.{times-cons, times-insert, times-nil}
 
 -- a number goes in at one place only, so it leaves one list when it is taken out
 pub insert-injective : (v : ℤ) (xs ys : List ℤ) → insert_rising v xs ≡ insert_rising v ys → ys ≡ xs
@@ -9,11 +11,22 @@ insert-injective v [] (y ∷ ys) h = grind (arith, ints)
 insert-injective v (x ∷ xs) [] h = grind (arith, ints)
 insert-injective v (x ∷ xs) (y ∷ ys) h = grind (arith, ints, insert-injective v xs ys)
 
--- a list has a number more than no time where it contains it
+-- a list has a number more than no time exactly where it contains it
 pub times_from_contains : (v : ℤ) (xs : List ℤ) → Contains xs v → 0 < times v xs
 times_from_contains v [] h = absurd (omega (arith, h.1))
-times_from_contains v (x ∷ xs) (zero, low, e) = let f : x ≡ v = e in rw f (grind (arith, times-cons, int_eq-same))
+times_from_contains v (x ∷ xs) (zero, low, e) = let f : x ≡ v = e in rw f (grind (arith, times-cons, int_eq-self))
 times_from_contains v (x ∷ xs) (suc k, low, e) = omega (arith, times-cons v x xs, times_from_contains v xs (k, omega arith, e))
+
+pub contains_timed : (v : ℤ) (xs : List ℤ) → 0 < times v xs → Contains xs v
+contains_timed v [] h = absurd (omega (arith, times-nil v))
+contains_timed v (x ∷ xs) h =
+    ⊎_elim
+    (λ (e : int_eq v x ≡ true). (0, omega arith, sym (int_eq-true v x e)))
+    (λ (e : int_eq v x ≡ false). let rest = contains_timed v xs (let more = times-cons v x xs in grind arith) in (suc rest.0, omega (arith, rest.1), rest.2))
+    (cases_Bool (int_eq v x))
+
+pub contains_inserted : (v : ℤ) (xs : List ℤ) → Contains (insert_rising v xs) v
+contains_inserted v xs = contains_timed v (insert_rising v xs) (let more = times-cons v v xs in let one = int_eq-self v in grind (arith, times-insert))
 
 contains_head : (x : ℤ) (xs : List ℤ) → Contains (x ∷ xs) x
 contains_head x xs = (0, omega arith, refl)

@@ -1,10 +1,12 @@
 -- What one more of a number, or one fewer, in the entries of a map does to the numbers that they stand for.
-use Rattle.fold_fn.proofs.Common.{◌≡◌, ℕ, zero, suc, ◌+◌, ◌<◌, ◌≤◌, ℤ, true, false, cond, List, [], ◌∷◌, ◌++◌, length, replicate, length-append, Option, None, Some, refl, sym, ◌∙◌, arith, Contains, int_eq, ⊎_elim, lookup, keys_of, cases_Bool, lookup_head, lookup_tail, times, insert_rising, in_rising_order, repeated, NoneIsZero, IsDistinct, count_at, IsDistinct-tail, none_past_head, HasOneMore}
-use Rattle.std.specs.Option.{unwrap_or, IfSome}
+use Rattle.fold_fn.proofs.Common.{◌≡◌, ℕ, zero, suc, ◌+◌, ◌<◌, ◌≤◌, ℤ, true, false, cond, List, [], ◌∷◌, ◌++◌, length, replicate, length-append, Option, None}
+use Rattle.fold_fn.proofs.Common.{Some, refl, sym, ◌∙◌, arith, Contains, int_eq, ⊎_elim, lookup, keys_of, count_at, cases_Bool, lookup_head, lookup_tail}
+use Rattle.fold_fn.proofs.Common.{none_past_head, times, insert_rising, in_rising_order, repeated, NoneIsZero, HasOneMore, IsDistinct, IsDistinct-tail}
+use Rattle.fold_fn.proofs.Common.{unwrap_or, IfSome, int_eq-self, int_eq-true}
 use Rattle.std.specs.Cmp.{int_eq_equiv}
 use Rattle.std.proofs.lemmas.List.{length-replicate}
 use Rattle.std.proofs.lemmas.Map.{lookup-none}
-use Rattle.fold_fn.proofs.Rising.{times-cons, times-nil, times-rising, rising_same, int_eq-same, same_number}
+use Rattle.fold_fn.proofs.Rising.{times-cons, times-nil, times-rising, rising_same}
 use Rattle.fold_fn.proofs.LawLemmas.{times_from_contains}
 use Rattle.fold_fn.proofs.ResultLemmas.{length-rising}
 
@@ -39,7 +41,7 @@ one_more old new v old_keys new_keys counts = rising_same (repeated new) (v ∷ 
     let c = counts q in
     let front = times-cons q v (repeated old) in
     ⊎_elim
-    (λ (e : int_eq v q ≡ true). let same = same_number v q e in let back = int_eq-same q in grind arith)
+    (λ (e : int_eq v q ≡ true). let same = int_eq-true v q e in let back = int_eq-self q in grind arith)
     (λ (e : int_eq v q ≡ false). let back = sym (int_eq_equiv.symm v q) ∙ e in grind arith)
     (cases_Bool (int_eq v q)))
 

@@ -1,8 +1,8 @@
 -- The rising order of a list keeps its numbers and forgets its order.
-use Rattle.fold_fn.proofs.Common.{◌≡◌, ◌+◌, ◌<◌, ℤ, true, cond, List, [], ◌∷◌, refl, sym, ap, ◌∙◌, ⊎_elim, arith, int_eq, ints, cases_Bool, IsPermutation, insert_rising, in_rising_order, HaveSame}
-use Rattle.std.proofs.lemmas.List.Sums.{sum_by-cons}
-use Rattle.std.proofs.lemmas.List.Sorted.{sum_by-IsPermutation}
+use Rattle.fold_fn.proofs.Common.{◌≡◌, ◌+◌, ◌<◌, ℤ, cond, List, [], ◌∷◌, refl, sym, ap, ◌∙◌, ⊎_elim, arith, int_eq, ints, cases_Bool, insert_rising}
+use Rattle.fold_fn.proofs.Common.{in_rising_order, HaveSame, int_eq-self, int_eq-true}
 use Rattle.fold_fn.specs.Order.{times}
+use Rattle.std.proofs.lemmas.List.Sums.{sum_by-cons}
 
 pub times-cons : (v x : ℤ) (xs : List ℤ) → times v (x ∷ xs) ≡ cond (int_eq v x) 1 0 + times v xs
 unfolding times
@@ -11,12 +11,6 @@ times-cons v x xs = sum_by-cons (λ y. cond (int_eq v y) 1 0) x xs
 pub times-nil : (v : ℤ) → times v [] ≡ 0
 unfolding times
 times-nil v = refl
-
-pub int_eq-same : (v : ℤ) → int_eq v v ≡ true
-int_eq-same v = grind (arith, ints)
-
-pub same_number : (v w : ℤ) → int_eq v w ≡ true → v ≡ w
-same_number v w h = grind (arith, ints)
 
 -- two numbers go in in either order
 pub insert-insert : (v w : ℤ) (xs : List ℤ) → insert_rising v (insert_rising w xs) ≡ insert_rising w (insert_rising v xs)
@@ -41,7 +35,7 @@ unfolding without
 times-without w v [] h = absurd (omega (arith, times-nil v))
 times-without w v (x ∷ xs) h =
     ⊎_elim
-    (λ e. rw (same_number v x e) (grind (arith, times-cons, int_eq-same)))
+    (λ e. rw (int_eq-true v x e) (grind (arith, times-cons, int_eq-self)))
     (λ e. grind (arith, times-cons, times-without w v xs))
     (cases_Bool (int_eq v x))
 
@@ -50,22 +44,18 @@ unfolding without
 rising-without v [] h = absurd (omega (arith, times-nil v))
 rising-without v (x ∷ xs) h =
     ⊎_elim
-    (λ e. rw (same_number v x e) (grind (arith, int_eq-same)))
+    (λ e. rw (int_eq-true v x e) (grind (arith, int_eq-self)))
     (λ e. grind (arith, times-cons, insert-insert, rising-without v xs))
     (cases_Bool (int_eq v x))
 
 -- a list that has no number is empty
 pub none_from_times : (xs : List ℤ) → ((v : ℤ) → times v xs ≡ 0) → xs ≡ []
 none_from_times [] h = refl
-none_from_times (x ∷ xs) h = absurd (let e = h x in grind (arith, times-cons, int_eq-same))
+none_from_times (x ∷ xs) h = absurd (let e = h x in grind (arith, times-cons, int_eq-self))
 
 pub rising_same : (xs ys : List ℤ) → HaveSame xs ys → in_rising_order xs ≡ in_rising_order ys
 rising_same [] ys h = ap in_rising_order (sym (none_from_times ys (λ v. sym (h v) ∙ times-nil v)))
 rising_same (x ∷ xs) ys h =
-    let p : 0 < times x ys = (let e = h x in grind (arith, times-cons, int_eq-same)) in
+    let p : 0 < times x ys = (let e = h x in grind (arith, times-cons, int_eq-self)) in
     rw (rising-without x ys p)
     (ap (insert_rising x) (rising_same xs (without x ys) (λ v. let e = h v in let f = times-without v x ys p in grind (arith, times-cons))))
-
-pub times-permutation : (v : ℤ) (xs ys : List ℤ) → IsPermutation xs ys → times v ys ≡ times v xs
-unfolding times
-times-permutation v xs ys same = sum_by-IsPermutation (λ y. cond (int_eq v y) 1 0) xs ys same

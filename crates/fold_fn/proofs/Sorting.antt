@@ -1,9 +1,6 @@
 -- The rising order rises, and a list that rises is in it.
-use Rattle.fold_fn.proofs.Common.{◌≡◌, zero, suc, ◌<◌, ℤ, true, false, List, [], ◌∷◌, length, get_or, refl, sym, ◌∙◌, arith, int_lt, IsSorted, int_cmp, is_lt, add-one, ints, cond_both, cond-false, IsPermutation, insert_rising, in_rising_order}
-use Rattle.fold_fn.proofs.Rising.{times-permutation, rising_same}
-
-below_not_above : (x y : ℤ) → int_lt x y ≡ true → int_lt y x ≡ false
-below_not_above x y h = grind (arith, ints)
+use Rattle.fold_fn.proofs.Common.{◌≡◌, zero, suc, ◌<◌, ℤ, false, List, [], ◌∷◌, length, get_or, refl, sym, ◌∙◌, arith, int_lt, IsSorted, int_cmp, is_lt}
+use Rattle.fold_fn.proofs.Common.{add-one, ints, cond_both, cond-false, insert_rising, in_rising_order, int_lt-flip}
 
 is_lt-int_cmp : (a b : ℤ) → is_lt (int_cmp a b) ≡ int_lt a b
 is_lt-int_cmp a b = grind (arith, ints)
@@ -24,7 +21,7 @@ sorted-insert v [] s = λ k d low high. absurd (omega arith)
 sorted-insert v (x ∷ xs) s =
     cond_both (int_lt x v) (x ∷ insert_rising v xs) (v ∷ (x ∷ xs)) (IsSorted int_cmp)
     (λ e. sorted_cons x (insert_rising v xs)
-    (λ d some. head-insert v x xs (below_not_above x v e) (λ d' some'. sym (is_lt-int_cmp (get_or xs 0 d') x) ∙ s 0 d' (omega arith) (omega arith)) d)
+    (λ d some. head-insert v x xs (int_lt-flip x v e) (λ d' some'. sym (is_lt-int_cmp (get_or xs 0 d') x) ∙ s 0 d' (omega arith) (omega arith)) d)
     (sorted-insert v xs (sorted_tail x xs s)))
     (λ e. sorted_cons v (x ∷ xs) (λ d some. e) s)
 
@@ -39,7 +36,3 @@ rising-sorted (x ∷ []) s = refl
 rising-sorted (x ∷ (y ∷ ys)) s =
     let first : int_lt y x ≡ false = sym (is_lt-int_cmp y x) ∙ s 0 x (omega arith) (omega arith) in
     rw (rising-sorted (y ∷ ys) (sorted_tail x (y ∷ ys) s)) (cond-false _ _ _ first)
-
--- a sorted list with the numbers of another is that one's rising order
-pub sorted_same : (xs ys : List ℤ) → IsSorted int_cmp ys → IsPermutation xs ys → ys ≡ in_rising_order xs
-sorted_same xs ys s same = sym (rising-sorted ys s) ∙ rising_same ys xs (λ v. times-permutation v xs ys same)

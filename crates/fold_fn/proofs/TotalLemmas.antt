@@ -1,5 +1,7 @@
 -- How large a sum and an average can be, and what a value more or fewer does to a count and a sum.
-use Rattle.fold_fn.proofs.Common.{◌≡◌, ℕ, ◌+◌, ◌-◌, ◌*◌, ◌/◌, ◌^◌, ◌<◌, ℤ, pos, negsuc, ◌+ℤ◌, ◌-ℤ◌, ◌≤ℤ◌, List, [], ◌∷◌, length, refl, ap, ◌∙◌, arith, w64, FitsSigned, All, int_lt, eqb, Some, ints, cond_both, cond-false, All-nil, All-cons, All-head, All-tail, insert_rising, total, floor_quotient, int_div_euclid, ne_eqb, average, AreTotals}
+use Rattle.fold_fn.proofs.Common.{◌≡◌, ℕ, ◌+◌, ◌-◌, ◌*◌, ◌/◌, ◌^◌, ◌<◌, ℤ, pos, negsuc, ◌+ℤ◌, ◌-ℤ◌, ◌≤ℤ◌, List, [], ◌∷◌, length, refl, ap, ◌∙◌, arith, w64}
+use Rattle.fold_fn.proofs.Common.{FitsSigned, All, int_lt, eqb, Some, ints, cond_both, cond-false, ne_eqb, All-nil, All-cons, All-head, All-tail, insert_rising}
+use Rattle.fold_fn.proofs.Common.{total, floor_quotient, average, int_div_euclid, AreTotals}
 use Rattle.std.proofs.Math.Nat.{div-lt_iff_lt-mul}
 use Rattle.fold_fn.proofs.ResultLemmas.{total-insert, length-insert}
 

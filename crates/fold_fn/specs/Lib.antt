@@ -2,4 +2,3 @@ pub mod Order
 pub mod Results
 pub mod Laws
 pub mod Held
-pub mod Kept

@@ -4,12 +4,11 @@
 
 mod any_fold;
 mod fold;
-mod hash_multiset;
 mod kind;
 pub mod laws;
+mod multiset;
 mod repeat;
 mod totals;
-mod tree_multiset;
 
 pub use any_fold::AnyFold;
 pub use fold::Fold;

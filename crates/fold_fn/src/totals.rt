@@ -1,9 +1,9 @@
-ghost use Rattle.std.specs.Prelude.{◌≡◌, [], pos, ◌-◌, ◌^◌, ◌<◌, length, Contains, IfOk, IsSorted, OnOk, OnErr};
+ghost use Rattle.std.specs.Prelude.{◌≡◌, [], ◌-◌, ◌^◌, ◌<◌, ◌↔◌, length, Contains, IfOk, IsSorted, IsTrue, OnOk, OnErr};
 ghost use Rattle.std.specs.Ordering.{int_cmp};
 ghost use Rattle.fold_fn.specs.Order.{insert_rising};
-ghost use Rattle.fold_fn.specs.Results.{total, in_64_bits, average};
+ghost use Rattle.fold_fn.specs.Results.{total, in_64_bits, average, least, greatest};
 
-use crate::hash_multiset::HashMultiset;
+use crate::multiset::Multiset;
 use fx_base::{NoMemory, Seq};
 use std::alloc::Global;
 use std::marker::Model;
@@ -11,7 +11,7 @@ use std::marker::Model;
 /// Values with their count and their sum, seen as the values in rising order.
 #[derive(Drop)]
 pub struct Totals {
-    values: HashMultiset,
+    values: Multiset,
     count: u64,
     sum: i128,
 }
@@ -32,7 +32,7 @@ impl Totals {
         ensures { result ≡ [] }
     {
         Totals {
-            values: HashMultiset::new(alloc),
+            values: Multiset::new(alloc),
             count: 0,
             sum: 0,
         }
@@ -58,10 +58,17 @@ impl Totals {
         self.sum -= i128::from(value);
     }
 
-    pub fn count(&self) -> i64
-        ensures { result ≡ pos (length self.now) }
+    pub fn holds(&self, value: i64) -> bool
+        ensures { IsTrue result ↔ Contains self.now value }
     {
-        self.count as i64
+        self.values.holds(value)
+    }
+
+    pub fn count(&self) -> u64
+        ensures length { result ≡ length self.now }
+        ensures few { result < 2 ^ 63 }
+    {
+        self.count
     }
 
     /// The sum, where it fits 64 bits.
@@ -79,6 +86,18 @@ impl Totals {
             return None;
         }
         Some(self.sum.div_euclid(i128::from(self.count)) as i64)
+    }
+
+    pub fn least(&self) -> Option<i64>
+        ensures { result ≡ least self.now }
+    {
+        self.values.least()
+    }
+
+    pub fn greatest(&self) -> Option<i64>
+        ensures { result ≡ greatest self.now }
+    {
+        self.values.greatest()
     }
 
     pub fn values(&self, alloc: Global) -> Result<Seq<i64>, NoMemory>

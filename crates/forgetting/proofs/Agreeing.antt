@@ -1,5 +1,11 @@
 -- What the sight of a world keeps by a table of lives.
-use Rattle.forgetting.proofs.Common.{◌≡◌, ℕ, ℤ, ◌==◌, ◌&&◌, ◌||◌, ◌+ℤ◌, Bool, true, false, cond, not, inl, inr, List, [], ◌∷◌, refl, sym, ◌∙◌, ap, subst, arith, Option, Some, None, is_some, option_map, int_le, pos, list_any, ints, In, Fact, Named, LifeTable, Match, Program, is_present, matches, has_match, name_of, one_fact, IsOrdered, World, snapshot, present, found, revised, has_id, and_parts, kept_ordered, has_pending, has_come, names_tag, clean, end_of_life, ends_by, only, is_needed, is_kept_fact, kept, is_kept, is_forgotten, is_clean, fact_at, sight_of, slice_get, of_filter, has_in, pending, modified_plain, fact_with, plain_present, forgotten_fact, PlainEndless, ExpiredEndless, ModifyEndless}
+use Rattle.forgetting.proofs.Common.{◌≡◌, ℕ, ℤ, ◌==◌, ◌&&◌, ◌||◌, ◌+ℤ◌, Bool, true, false, cond, not, inl, inr, List, [], ◌∷◌, refl, sym, ◌∙◌, ap, subst, arith}
+use Rattle.forgetting.proofs.Common.{Option, Some, None, is_some, option_map, int_le, pos, list_any, ints, In, Fact, Named, LifeTable, Match, Program}
+use Rattle.forgetting.proofs.Common.{is_present, matches, has_match, name_of, one_fact, IsOrdered, World, snapshot, present, found, revised, has_id}
+use Rattle.forgetting.proofs.Common.{kept_ordered, has_pending, has_come, names_tag, clean, end_of_life, ends_by, only, is_needed, is_kept_fact, kept}
+use Rattle.forgetting.proofs.Common.{is_kept_tag, is_forgotten_tag, is_clean, fact_at, sight_of, slice_get, of_filter, has_in, pending, modified_plain}
+use Rattle.forgetting.proofs.Common.{fact_with, plain_present, forgotten_fact, PlainEndless, ExpiredEndless, ModifyEndless}
+use Rattle.std.proofs.lemmas.Bool.{and_parts, eq-eqb, eqb-true}
 use Rattle.rule_model.specs.declared.life.Life.{Life}
 use Rattle.rule_model.specs.declared.life.Life.TheVariants.{Plain, Explicit, Finite, Infinite}
 use Rattle.rule_world.specs.Worlds.{step_fault}
@@ -8,11 +14,12 @@ use Rattle.rule_lives.proofs.Safe.{plain_unlisted}
 use Rattle.rule_lives.proofs.Still.{always_present}
 use Rattle.pair_memory.specs.Joined.{has_name}
 use Rattle.condition_rows.proofs.Ends.{in_name, name_in}
-use Rattle.keeping.specs.Kept.{is_alive, is_named, is_kept as is_kept_in, is_forgotten as is_forgotten_in}
+use Rattle.keeping.specs.Kept.{is_alive, is_pending_named, is_kept as is_kept_in, is_forgotten as is_forgotten_in}
 use Rattle.forgetting.proofs.Before.{chosen}
 use Rattle.forgetting.proofs.Forgotten.{two_tests}
-use Rattle.forgetting.proofs.Naming.{same_bool, some_in, one_in, holds_of}
-use Rattle.forgetting.proofs.Seeing.{tag_of, same_tag, is_same, fact_in, own_at, at_filter, named_present, sight_law}
+use Rattle.forgetting.proofs.Naming.{some_in, one_in, holds_of}
+use Rattle.forgetting.proofs.Seeing.{tag_of, fact_in, own_at, at_filter, named_present, sight_law}
+use Rattle.fx_base.proofs.Tests.{same_test}
 
 -- ---- lives that do not end
 
@@ -75,18 +82,18 @@ module _ (p : Program) (table : LifeTable) (w : World) (are : AreSafe p table) (
         let same : f ≡ g.0 = one_fact w.facts o.tags f g.0 inside (of_filter (is_present p w.clock) g.0 w.facts g.1) (ap tag_of (e ∙ ap (λ (k : Named). k.tag.0) (sym g.2))) in
         ap name_of same ∙ g.2
 
-    needed_same : is_needed (sight_of p w) f.tag.0 ≡ is_named p w f
-    needed_same = same_bool (is_needed (sight_of p w) f.tag.0) (is_named p w f)
+    needed_same : is_needed (sight_of p w) f.tag.0 ≡ is_pending_named p w f
+    needed_same = same_test (is_needed (sight_of p w) f.tag.0) (is_pending_named p w f)
         (λ needed.
         let m = one_in (names_tag f.tag.0) (pending p w) needed in
         let n = one_in (λ (k : Named). f.tag.0 == k.tag.0) m.0.row.facts m.2 in
-        let own = own_name m.0 m.1 n.0 n.1 (same_tag f.tag.0 n.0.tag.0 n.2) in
+        let own = own_name m.0 m.1 n.0 n.1 (eqb-true f.tag.0 n.0.tag.0 n.2) in
         some_in (λ (x : Match). has_name x.row.facts (name_of f)) m.0 (pending p w) m.1
         (in_name (name_of f) m.0.row.facts (subst (λ (k : Named). In k m.0.row.facts) (sym own) n.1)))
         (λ named.
         let m = one_in (λ (x : Match). has_name x.row.facts (name_of f)) (pending p w) named in
         some_in (names_tag f.tag.0) m.0 (pending p w) m.1
-        (some_in (λ (k : Named). f.tag.0 == k.tag.0) (name_of f) m.0.row.facts (name_in (name_of f) m.0.row.facts m.2) (is_same f.tag.0 f.tag.0 refl)))
+        (some_in (λ (k : Named). f.tag.0 == k.tag.0) (name_of f) m.0.row.facts (name_in (name_of f) m.0.row.facts m.2) (eq-eqb f.tag.0 f.tag.0 refl)))
 
     -- what a match names is present
     needed_present : fact_at w.facts f.tag.0 ≡ Some f → is_needed (sight_of p w) f.tag.0 ≡ true → is_present p w.clock f ≡ true
@@ -131,16 +138,16 @@ module _ (p : Program) (table : LifeTable) (w : World) (are : AreSafe p table) (
   same_kept tag = ap (only (is_kept_fact lives (sight_of p w) tag)) (present_at tag) ∙ same_at tag (fact_at w.facts tag) refl
 
   -- what is forgotten of the present facts
-  forgotten_same : (n : Named) (g : Fact) → In g (present p w) → name_of g ≡ n → is_forgotten lives (sight_of p w) n.tag.0 ≡ is_forgotten_in p table w n
+  forgotten_same : (n : Named) (g : Fact) → In g (present p w) → name_of g ≡ n → is_forgotten_tag lives (sight_of p w) n.tag.0 ≡ is_forgotten_in p table w n
   forgotten_same n g i named =
       let inside = of_filter (is_present p w.clock) g w.facts i in
-      let keeps : is_kept lives (sight_of p w) g.tag.0 ≡ is_kept_in p table w g =
+      let keeps : is_kept_tag lives (sight_of p w) g.tag.0 ≡ is_kept_in p table w g =
       ap is_some (same_kept g.tag.0 ∙ ap (only (is_kept_in p table w)) (own_at w.facts o.tags g inside)) ∙ chosen (is_kept_in p table w g) g in
-      subst (λ (k : Named). is_forgotten lives (sight_of p w) k.tag.0 ≡ is_forgotten_in p table w k) named
-      (ap (λ x. is_some x && not (is_kept lives (sight_of p w) g.tag.0)) (own_at (present p w) (kept_ordered p w o).tags g i) ∙ ap not keeps ∙ sym (forgotten_fact p table w o.tags g inside))
+      subst (λ (k : Named). is_forgotten_tag lives (sight_of p w) k.tag.0 ≡ is_forgotten_in p table w k) named
+      (ap (λ x. is_some x && not (is_kept_tag lives (sight_of p w) g.tag.0)) (own_at (present p w) (kept_ordered p w o).tags g i) ∙ ap not keeps ∙ sym (forgotten_fact p table w o.tags g inside))
 
   pub same_clean : (m : Match) → has_match (matches p (snapshot w)) m ≡ true → is_clean lives (sight_of p w) m ≡ clean (is_forgotten_in p table w) m.row
   same_clean m matched =
-      ap not (any_same (λ (n : Named). is_forgotten lives (sight_of p w) n.tag.0) (is_forgotten_in p table w) m.row.facts (λ n i.
+      ap not (any_same (λ (n : Named). is_forgotten_tag lives (sight_of p w) n.tag.0) (is_forgotten_in p table w) m.row.facts (λ n i.
       let g = named_present p w m matched n i in
       forgotten_same n g.0 g.1 g.2))

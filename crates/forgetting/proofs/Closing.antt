@@ -1,5 +1,9 @@
 -- Steps and firings of a lawful world with the lives of its program.
-use Rattle.forgetting.proofs.Common.{◌≡◌, ◌<◌, Bool, true, false, cond, not, inl, inr, refl, sym, ◌∙◌, ap, subst, arith, Option, Some, None, is_some, list_any, In, Fact, Named, LifeTable, Match, Program, Step, is_present, matches, has_match, name_of, named_of, one_fact, rule_of, World, snapshot, present, and_parts, below_of, clean, ends_by, only, is_kept, is_forgotten, is_clean, fact_at, sight_of, comes, goes, marked, lost, StepComesClean, NextClean, WorldStepKept, WorldFireKept}
+use Rattle.forgetting.proofs.Common.{◌≡◌, ◌<◌, Bool, true, false, cond, not, inl, inr, refl, sym, ◌∙◌, ap, subst, arith, Option, Some, None, is_some, list_any}
+use Rattle.forgetting.proofs.Common.{In, Fact, Named, LifeTable, Match, Program, Step, is_present, matches, has_match, name_of, named_of, one_fact, rule_of}
+use Rattle.forgetting.proofs.Common.{World, snapshot, present, below_of, clean, ends_by, only, is_kept_tag, is_forgotten_tag, is_clean, fact_at, sight_of}
+use Rattle.forgetting.proofs.Common.{comes, goes, marked, lost, StepComesClean, NextClean, WorldStepKept, WorldFireKept}
+use Rattle.std.proofs.lemmas.Bool.{and_parts, not-true}
 use Rattle.rule_world.specs.Worlds.{stepped}
 use Rattle.rule_world.proofs.Steps.{step_in_order, firing_in_order}
 use Rattle.rule_world.proofs.Vain.{next_tag}
@@ -9,7 +13,7 @@ use Rattle.keeping.specs.Steps.{IsLawfulStep}
 use Rattle.keeping.proofs.Decided.{is_tested}
 use Rattle.forgetting.proofs.Agreeing.{present_at, same_kept, same_clean}
 use Rattle.forgetting.proofs.Firing.{fire_law}
-use Rattle.forgetting.proofs.Naming.{one_in, not_true}
+use Rattle.forgetting.proofs.Naming.{one_in}
 use Rattle.forgetting.proofs.Seeing.{tag_of, fact_in, sight_law, world_fire_law}
 use Rattle.forgetting.proofs.Stepping.{step_law}
 use Rattle.forgetting.proofs.WorldSteps.{world_step_law}
@@ -38,15 +42,15 @@ module _ (p : Program) (table : LifeTable) (w : World) (step : Step) (given : Is
   there_is None e = absurd (let n : false ≡ true = e in cc)
   there_is (Some f) e = (f, refl)
 
-  none_forgotten : (n : Named) → In n m.row.facts → is_forgotten (ends_by table) (sight_of p w) n.tag.0 ≡ true → ⊥
+  none_forgotten : (n : Named) → In n m.row.facts → is_forgotten_tag (ends_by table) (sight_of p w) n.tag.0 ≡ true → ⊥
   none_forgotten n i e =
-      let both = and_parts (is_some (fact_at (present p w) n.tag.0)) (not (is_kept (ends_by table) (sight_of p w) n.tag.0)) e in
+      let both = and_parts (is_some (fact_at (present p w) n.tag.0)) (not (is_kept_tag (ends_by table) (sight_of p w) n.tag.0)) e in
       let f = there_is (fact_at w.facts n.tag.0) (ap is_some (sym (present_at p table w given.safe given.lawful.ordered n.tag.0)) ∙ both.0) in
       let own = fact_in w.facts n.tag.0 f.0 f.1 in
       let keeps = kept_own f.0 own.0 (subst (λ (k : Named). In k m.row.facts) (named_own n i f.0 own.0 own.1) i) in
-      let here : is_kept (ends_by table) (sight_of p w) n.tag.0 ≡ true =
+      let here : is_kept_tag (ends_by table) (sight_of p w) n.tag.0 ≡ true =
       ap is_some (same_kept p table w given.safe given.lawful.ordered n.tag.0 ∙ ap (only (is_kept_in p table w)) f.1) ∙ ap (λ t. is_some (cond t (Some f.0) None)) keeps in
-      let n : true ≡ false = sym here ∙ not_true _ both.1 in
+      let n : true ≡ false = sym here ∙ not-true _ both.1 in
       cc
 
   none_lost : (n : Named) → In n m.row.facts → is_forgotten_in p table w n ≡ true → ⊥
@@ -64,7 +68,7 @@ module _ (p : Program) (table : LifeTable) (w : World) (step : Step) (given : Is
 
 pub step_comes_clean : StepComesClean
 step_comes_clean p table w step given m is was_not =
-    none_of p table w step given m is was_not (λ (n : Named). is_forgotten (ends_by table) (sight_of p w) n.tag.0) (none_forgotten p table w step given m is was_not)
+    none_of p table w step given m is was_not (λ (n : Named). is_forgotten_tag (ends_by table) (sight_of p w) n.tag.0) (none_forgotten p table w step given m is was_not)
 
 pub next_clean : NextClean
 next_clean p table w step given m is = by (has_match (matches p (snapshot w)) m) refl

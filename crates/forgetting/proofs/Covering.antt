@@ -1,6 +1,8 @@
 -- What a retention covers as the store changes.
-use Rattle.forgetting.proofs.Common.{◌≡◌, ℕ, ℤ, ◌==◌, Bool, true, false, cond, not, refl, sym, ◌∙◌, ap, subst, arith, Option, Some, None, option_and_then, nat_tests, Fact, lingers, Covers, without, later_law, same_covered, Lives, is_needed, ends_of, brought, changed, with_end, hold_law, release_law}
+use Rattle.forgetting.proofs.Common.{◌≡◌, ℤ, ◌==◌, Bool, true, false, cond, not, refl, sym, ◌∙◌, ap, subst, Option, Some, None, option_and_then, Fact, lingers}
+use Rattle.forgetting.proofs.Common.{Covers, without, later_law, same_covered, Lives, is_needed, ends_of, brought, changed, with_end, hold_law, release_law}
 use Rattle.forgetting.specs.Covering.{LaterCovers, FreeCovers, InsertCovers, RetractCovers, EndlessCovers}
+use Rattle.fx_base.proofs.Orders.{eqb-flip}
 
 pub later_covers : LaterCovers
 later_covers lives w now s holds le = later_law (ends_of lives s.store) w.clock now (is_needed w) s.retention le holds.watched
@@ -13,9 +15,6 @@ free_covers lives now tag s covers free =
     by true o e = refl
     by false o e = e
 
-turned : (a b : ℕ) → (a == b) ≡ (b == a)
-turned a b = grind (arith, nat_tests)
-
 put_end : (lives : Lives) (f : Fact) (at : ℤ) (t : Bool) (o : Option Fact) → lives f ≡ Some at
     → cond t (Some at) (option_and_then lives o) ≡ option_and_then lives (changed (cond t (Some f) None) (λ g. false) o)
 put_end lives f at true o e = sym e
@@ -26,7 +25,7 @@ pub insert_covers : InsertCovers
 insert_covers lives f at now before middle covers new life store due lingering =
     same_covered (with_end (ends_of lives before.store) f.tag.0 at) (ends_of lives middle.store) now middle.retention
     (λ tag.
-    ap (λ t. cond t (Some at) (ends_of lives before.store tag)) (turned tag f.tag.0)
+    ap (λ t. cond t (Some at) (ends_of lives before.store tag)) (eqb-flip tag f.tag.0)
     ∙ put_end lives f at (f.tag.0 == tag) (before.store tag) life ∙ ap (option_and_then lives) (sym (store tag)))
     (hold_law (ends_of lives before.store) now at f.tag.0 before.retention middle.retention covers (ap (option_and_then lives) new) due lingering).1
 

@@ -1,18 +1,15 @@
 -- The law of a firing in two phases.
-use Rattle.forgetting.proofs.Common.{◌≡◌, ℕ, ℤ, ◌≤ℤ◌, ◌&&◌, ◌||◌, Bool, true, false, not, refl, sym, ◌∙◌, ap, subst, arith, None, option_and_then, eq_by_cmp, ints, tells_apart, Match, has_match, match_cmp, match_exact, and_parts, names_tag, lingers, Covers, later_law, same_covered, is_needed, is_kept, some_tag, each_tag, ends_of}
+use Rattle.forgetting.proofs.Common.{◌≡◌, ℕ, ◌≤ℤ◌, ◌&&◌, ◌||◌, Bool, true, false, not, refl, sym, ◌∙◌, ap, subst, None, option_and_then, eq_by_cmp, tells_apart}
+use Rattle.forgetting.proofs.Common.{Match, has_match, match_cmp, match_exact, names_tag, lingers, Covers, later_law, same_covered, is_needed, is_kept_tag}
+use Rattle.forgetting.proofs.Common.{some_tag, each_tag, ends_of}
+use Rattle.std.proofs.lemmas.Bool.{and_parts}
 use Rattle.retention.specs.declared.retention.Retention.{Retention}
 use Rattle.forgetting.specs.Firings.{FireLaw}
 use Rattle.forgetting.proofs.Before.{kept_before, needed_kept, pending_kept}
 use Rattle.forgetting.proofs.Forgotten.{all_stay, IsForgotten, still_kept, holds_kept}
 use Rattle.forgetting.proofs.Naming.{found, witness}
-
-pub stands : (a b : ℤ) → b ≡ a → a ≤ℤ b
-stands a b e = grind (arith, ints)
-
-still_pending : (a b s : Bool) → ((a && not b) && not s) ≡ (a && not (b || s))
-still_pending true true s = refl
-still_pending true false s = refl
-still_pending false b s = refl
+use Rattle.fx_base.proofs.Orders.{≤ℤ_same}
+use Rattle.fx_base.proofs.Tests.{and_not_not}
 
 -- a match that was pending and is not is the one that was marked
 is_marked : (a s : Bool) → a ≡ true → (a && not s) ≡ false → s ≡ true
@@ -37,9 +34,9 @@ pub fire_law : FireLaw
 fire_law lives m was is before middle after left old lawful lawful_now marks holds pends fires leaves forgets =
     let same = λ (x : Match). eq_by_cmp match_cmp m x in
     let is_it : (x : Match) → same x ≡ true → m ≡ x = λ x. tells_apart match_exact m x in
-    let le = stands was.clock is.clock marks.clock in
+    let le = ≤ℤ_same was.clock is.clock marks.clock in
     let pend : (x : Match) → has_match middle.agenda.pending x ≡ has_match is.pending x = λ x.
-    fires.pending x ∙ ap (λ t. t && not (same x)) (holds.pending x ∙ lawful.pending x) ∙ still_pending (was.matches x) (was.fired x) (same x)
+    fires.pending x ∙ ap (λ t. t && not (same x)) (holds.pending x ∙ lawful.pending x) ∙ and_not_not (was.matches x) (was.fired x) (same x)
     ∙ ap (λ t. was.matches x && not t) (sym (marks.fired x)) ∙ ap (λ t. t && not (is.fired x)) (sym (marks.matches x)) ∙ sym (lawful_now.pending x) in
     let needed : (tag : ℕ) → is_needed is tag ≡ true → is_needed was tag ≡ true = λ tag n.
     let w = witness (names_tag tag) is.pending n in
@@ -66,11 +63,11 @@ fire_law lives m was is before middle after left old lawful lawful_now marks hol
     let matched = (and_parts (was.matches m) (not (was.fired m)) (sym (lawful.pending m) ∙ pending_now)).0 in
     let kept_still = λ (x : Match) (e : was.matches x ≡ true). still_kept phase x (lawful.names x e) (lawful_now.names x (marks.matches x ∙ e)) in
     holds_kept phase (λ x.
-    let kv = each_tag (is_kept lives was) x in let kw = each_tag (is_kept lives is) x in
+    let kv = each_tag (is_kept_tag lives was) x in let kw = each_tag (is_kept_tag lives is) x in
     ap (λ t. t && not (some_tag old x)) (fires.fired x)
     ∙ ap (λ t. (t || same x) && not (some_tag old x)) (holds.fired x)
     ∙ fired_now (was.fired x) (same x) kv kw (some_tag old x)
     (λ f. kept_still x (lawful.fired x f))
-    (λ s. ap (each_tag (is_kept lives was)) (sym (is_it x s)) ∙ pending_kept lives was lawful m pending_now)
+    (λ s. ap (each_tag (is_kept_tag lives was)) (sym (is_it x s)) ∙ pending_kept lives was lawful m pending_now)
     (λ s. kept_still x (ap was.matches (sym (is_it x s)) ∙ matched))
     ∙ ap (λ t. t && kw) (sym (marks.fired x)))

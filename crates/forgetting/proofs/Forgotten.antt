@@ -1,9 +1,13 @@
 -- The second phase of steps and of firings.
-use Rattle.forgetting.proofs.Common.{◌≡◌, ℕ, ℤ, ◌&&◌, ◌||◌, Bool, true, false, cond, not, refl, sym, ◌∙◌, ap, Option, Some, None, option_and_then, is_some, Fact, Match, has_match, has_come, names_tag, lingers, Covers, without, same_watched, Lives, Sight, only, is_needed, is_kept_fact, kept, is_kept, some_tag, each_tag, ends_of, brought, changed, KeptBefore, is_named, Watches, is_old, Holding, HoldsKept, HasLeft, Forgets}
+use Rattle.forgetting.proofs.Common.{◌≡◌, ℕ, ℤ, ◌&&◌, ◌||◌, Bool, true, false, cond, not, refl, sym, ◌∙◌, ap, Option, Some, None, option_and_then, is_some}
+use Rattle.forgetting.proofs.Common.{Fact, Match, has_match, has_come, names_tag, lingers, Covers, without, same_watched, Lives, TagWorld, only, is_needed}
+use Rattle.forgetting.proofs.Common.{is_kept_fact, kept, is_kept_tag, some_tag, each_tag, ends_of, brought, changed, KeptBeforeStep, is_named, Watches, is_old}
+use Rattle.forgetting.proofs.Common.{Holding, HoldsKept, HasLeft, Forgets}
 use Rattle.retention.proofs.Leaving.{left_law}
 use Rattle.retention.proofs.Past.{past_law}
 use Rattle.forgetting.proofs.Before.{chosen, kept_here}
 use Rattle.forgetting.proofs.Naming.{any_alike, each_next}
+use Rattle.fx_base.proofs.Tests.{and_is}
 
 -- ---- the store, at one tag
 
@@ -58,10 +62,6 @@ store_at was_kept past n d None out (Some f) e before =
     by true false e b = one_fact (past f) n d f e
     by false false e b = no_fact d ∙ none_kept (keep f) f (λ u. b (ap (λ t. cond t (Some f) None) u))
 
-and_is : (k s : Bool) → s ≡ true → (k && s) ≡ k
-and_is true s e = e
-and_is false s e = refl
-
 -- a fact that stays is no new one, and does not go out
 stays : (new there : Option Fact) (out keep : Fact → Bool) → (is_some new ≡ true → there ≡ None) → is_some there ≡ true → is_some (changed new out there) ≡ true
     → changed new out (only keep there) ≡ only keep there
@@ -88,10 +88,10 @@ ends_less lives false o = refl
 -- ---- the phase
 
 -- what the first phase of a step or of a firing leaves, and what the second one makes of it
-pub record IsForgotten (lives : Lives) (new : Option Fact) (out : Fact → Bool) (was is : Sight) (before middle after : Holding) (left old : ℕ → Bool) : Type 0 where
+pub record IsForgotten (lives : Lives) (new : Option Fact) (out : Fact → Bool) (was is : TagWorld) (before middle after : Holding) (left old : ℕ → Bool) : Type 0 where
   pub facts : (tag : ℕ) → is.facts tag ≡ changed (brought new tag) out (was.facts tag)
   pub fresh : (tag : ℕ) → is_some (brought new tag) ≡ true → was.facts tag ≡ None
-  pub kept_before : KeptBefore lives was is
+  pub kept_before : KeptBeforeStep lives was is
   pub holds : HoldsKept lives was before
   pub store : (tag : ℕ) → middle.store tag ≡ changed (brought new tag) out (before.store tag)
   pub covered : Covers (ends_of lives middle.store) is.clock middle.retention
@@ -100,7 +100,7 @@ pub record IsForgotten (lives : Lives) (new : Option Fact) (out : Fact → Bool)
   pub leaves : HasLeft before.agenda middle.agenda left
   pub forgets : Forgets is.clock left middle after old
 
-module _ {lives : Lives} {new : Option Fact} {out : Fact → Bool} {was is : Sight} {before middle after : Holding} {left old : ℕ → Bool}
+module _ {lives : Lives} {new : Option Fact} {out : Fact → Bool} {was is : TagWorld} {before middle after : Holding} {left old : ℕ → Bool}
     (r : IsForgotten lives new out was is before middle after left old) where
   abbrev ends : ℕ → Option ℤ
   ends = ends_of lives middle.store
@@ -133,9 +133,9 @@ module _ {lives : Lives} {new : Option Fact} {out : Fact → Bool} {was is : Sig
 
   -- a match of both worlds names kept facts alone where it did and names nothing old
   pub still_kept : (m : Match) → each_tag (λ tag. is_some (was.facts tag)) m ≡ true → each_tag (λ tag. is_some (is.facts tag)) m ≡ true
-      → each_tag (is_kept lives is) m ≡ (each_tag (is_kept lives was) m && not (some_tag old m))
+      → each_tag (is_kept_tag lives is) m ≡ (each_tag (is_kept_tag lives was) m && not (some_tag old m))
   still_kept m =
-      each_next (λ tag. is_some (was.facts tag)) (λ tag. is_some (is.facts tag)) (is_kept lives is) (is_kept lives was) old
+      each_next (λ tag. is_some (was.facts tag)) (λ tag. is_some (is.facts tag)) (is_kept_tag lives is) (is_kept_tag lives was) old
       (λ tag here there.
       ap is_some (sym (stored tag)
       ∙ ap (cond (old tag) None) (stays (brought new tag) (was.facts tag) out (is_kept_fact lives was tag) (r.fresh tag) here (ap is_some (sym (r.facts tag)) ∙ there)))
@@ -143,7 +143,7 @@ module _ {lives : Lives} {new : Option Fact} {out : Fact → Bool} {was is : Sig
       m.row.facts
 
   -- what is left to show is which fired matches are there
-  pub holds_kept : ((m : Match) → (has_match middle.agenda.fired m && not (some_tag old m)) ≡ (is.fired m && each_tag (is_kept lives is) m)) → HoldsKept lives is after
+  pub holds_kept : ((m : Match) → (has_match middle.agenda.fired m && not (some_tag old m)) ≡ (is.fired m && each_tag (is_kept_tag lives is) m)) → HoldsKept lives is after
   holds_kept fired = record {
     store = behind;
     watched =

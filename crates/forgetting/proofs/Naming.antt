@@ -1,22 +1,19 @@
 -- Lists of matches that name a tag, and the tags that a match names.
-use Rattle.forgetting.proofs.Common.{◌≡◌, ℕ, ◌==◌, ◌&&◌, ◌||◌, Bool, true, false, not, inl, inr, List, [], ◌∷◌, refl, sym, ◌∙◌, ap, list_any, eq_by_cmp, Decides-eqb, tells_apart, In, Named, Match, match_cmp, has_match, match_equiv, match_exact, or_left, or_right, or_split, and_both, and_parts, names_tag, each_tag, some_tag, list_all}
+use Rattle.forgetting.proofs.Common.{◌≡◌, ℕ, ◌==◌, ◌&&◌, ◌||◌, Bool, true, false, not, inl, inr, List, [], ◌∷◌, refl, sym, ◌∙◌, ap, list_any, eq_by_cmp}
+use Rattle.forgetting.proofs.Common.{Decides-eqb, tells_apart, In, Named, Match, match_cmp, has_match, match_equiv, match_exact, or_split, names_tag, each_tag}
+use Rattle.forgetting.proofs.Common.{some_tag, list_all}
+use Rattle.std.proofs.lemmas.Bool.{and_from, and_parts, or_left, or_right}
+use Rattle.std.proofs.Math.Bool.{and-false}
 use Rattle.rule_world.proofs.Acting.{all_of}
+use Rattle.fx_base.proofs.Orders.{eqb-self}
+use Rattle.fx_base.proofs.Tests.{same_test}
 
 -- ---- lists
-
-pub same_bool : (a b : Bool) → (a ≡ true → b ≡ true) → (b ≡ true → a ≡ true) → a ≡ b
-same_bool true b f g = sym (f refl)
-same_bool false true f g = g refl
-same_bool false false f g = refl
-
-pub not_true : (t : Bool) → not t ≡ true → t ≡ false
-not_true true e = sym e
-not_true false e = refl
 
 module _ {A : Type 0} (test : A → Bool) where
   pub each_in : (xs : List A) → ((x : A) → In x xs → test x ≡ true) → list_all test xs ≡ true
   each_in [] h = refl
-  each_in (x ∷ xs) h = and_both (test x) (list_all test xs) (h x (inl refl)) (each_in xs (λ y i. h y (inr i)))
+  each_in (x ∷ xs) h = and_from (test x) (list_all test xs) (h x (inl refl)) (each_in xs (λ y i. h y (inr i)))
 
   pub some_in : (x : A) (xs : List A) → In x xs → test x ≡ true → list_any test xs ≡ true
   some_in x [] i e = absurd i
@@ -51,14 +48,11 @@ module _ (p : Match → Bool) where
 
   -- lists with the same matches pass alike
   pub any_alike : (xs ys : List Match) → ((m : Match) → has_match xs m ≡ has_match ys m) → list_any p xs ≡ list_any p ys
-  any_alike xs ys alike = same_bool (list_any p xs) (list_any p ys)
+  any_alike xs ys alike = same_test (list_any p xs) (list_any p ys)
       (λ is. let w = witness xs is in found w.0 ys w.1 (sym (alike w.0) ∙ w.2))
       (λ is. let w = witness ys is in found w.0 xs w.1 (alike w.0 ∙ w.2))
 
 -- ---- the tags that a match names
-
-same_tag : (tag : ℕ) → (tag == tag) ≡ true
-same_tag tag = (Decides-eqb tag tag).1 refl
 
 module _ (p : ℕ → Bool) (m : Match) where
   -- what holds of each tag of a match holds of a tag that it names
@@ -69,7 +63,7 @@ module _ (p : ℕ → Bool) (m : Match) where
 
   -- and what holds of each that it names holds of each of its tags
   pub each_named : ((tag : ℕ) → names_tag tag m ≡ true → p tag ≡ true) → each_tag p m ≡ true
-  each_named h = each_in (λ (k : Named). p k.tag.0) m.row.facts (λ n i. h n.tag.0 (some_in (λ (k : Named). n.tag.0 == k.tag.0) n m.row.facts i (same_tag n.tag.0)))
+  each_named h = each_in (λ (k : Named). p k.tag.0) m.row.facts (λ n i. h n.tag.0 (some_in (λ (k : Named). n.tag.0 == k.tag.0) n m.row.facts i (eqb-self n.tag.0)))
 
   -- what holds of none of its tags does not hold of one that it names
   pub free_of : (tag : ℕ) → some_tag p m ≡ false → names_tag tag m ≡ true → p tag ≡ false
@@ -83,12 +77,8 @@ module _ (p : ℕ → Bool) (m : Match) where
 
 -- ---- facts that are kept
 
-never : (t : Bool) → (t && false) ≡ false
-never true = refl
-never false = refl
-
 parted : (a b s t : Bool) → ((a && not b) && (s && not t)) ≡ ((a && s) && not (b || t))
-parted true true s t = sym (never s)
+parted true true s t = sym (and-false s)
 parted true false s t = refl
 parted false b s t = refl
 

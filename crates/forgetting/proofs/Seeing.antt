@@ -1,5 +1,9 @@
 -- The worlds of a program as forgetting sees them, and the facts under their tags.
-use Rattle.forgetting.proofs.Common.{◌≡◌, ◌<◌, ℕ, ◌==◌, ◌||◌, ◌++◌, Bool, true, false, cond, not, List, [], ◌∷◌, inl, inr, refl, sym, ◌∙◌, ap, subst, arith, Option, Some, None, is_some, eq_by_cmp, nat_tests, Decides-eqb, In, Fact, Value, Named, Match, Program, HaveDistinctTags, match_equiv, matches, has_match, match_cmp, name_of, named_of, one_fact, rule_of, World, snapshot, present, only_present, has_id, revised, AllBelow, has_pending, only, brought, changed, fact_at, map, filter, revised_in, SightLaw, WorldFireLaw}
+use Rattle.forgetting.proofs.Common.{◌≡◌, ◌<◌, ℕ, ◌==◌, ◌||◌, ◌++◌, Bool, true, false, cond, not, List, [], ◌∷◌, inl, inr, refl, sym, ◌∙◌, ap, subst, arith}
+use Rattle.forgetting.proofs.Common.{Option, Some, None, is_some, eq_by_cmp, nat_tests, In, Fact, Value, Named, Match, Program, HaveDistinctTags, match_equiv}
+use Rattle.forgetting.proofs.Common.{matches, has_match, match_cmp, name_of, named_of, one_fact, rule_of, World, snapshot, present, only_present, has_id}
+use Rattle.forgetting.proofs.Common.{revised, AllBelow, has_pending, only, brought, changed, fact_at, map, filter, revised_in, SightLaw, WorldFireLaw}
+use Rattle.std.proofs.lemmas.Bool.{eq-eqb, eqb-true}
 use Rattle.std.proofs.Math.Bool.{or_comm}
 use Rattle.fx_base.specs.declared.ids.Tag.{Tag}
 use Rattle.rule_model.proofs.Listed.{in_map}
@@ -10,18 +14,12 @@ use Rattle.forgetting.proofs.Naming.{each_in}
 abbrev pub tag_of : ℕ → Tag
 tag_of number = record { 0 = number }
 
-pub same_tag : (a b : ℕ) → (a == b) ≡ true → a ≡ b
-same_tag a b = (Decides-eqb a b).0
-
-pub is_same : (a b : ℕ) → a ≡ b → (a == b) ≡ true
-is_same a b = (Decides-eqb a b).1
-
 -- ---- the fact under a tag
 
 -- a fact of the list stands under its tag, or another does
 in_at : (facts : List Fact) (g : Fact) → In g facts → is_some (fact_at facts g.tag.0) ≡ true
 in_at [] g i = absurd i
-in_at (f ∷ facts) g (inl s) = ap (λ b. is_some (cond b (Some f) (fact_at facts g.tag.0))) (is_same f.tag.0 g.tag.0 (ap (λ (x : Fact). x.tag.0) (sym s)))
+in_at (f ∷ facts) g (inl s) = ap (λ b. is_some (cond b (Some f) (fact_at facts g.tag.0))) (eq-eqb f.tag.0 g.tag.0 (ap (λ (x : Fact). x.tag.0) (sym s)))
 in_at (f ∷ facts) g (inr j) = by (f.tag.0 == g.tag.0) (in_at facts g j)
   where
     by : (t : Bool) → is_some (fact_at facts g.tag.0) ≡ true → is_some (cond t (Some f) (fact_at facts g.tag.0)) ≡ true
@@ -35,7 +33,7 @@ fact_in (g ∷ facts) tag f e = by (g.tag.0 == tag) refl e (fact_in facts tag f)
   where
     by : (t : Bool) → (g.tag.0 == tag) ≡ t → cond t (Some g) (fact_at facts tag) ≡ Some f → (fact_at facts tag ≡ Some f → In f facts × (f.tag.0 ≡ tag))
         → In f (g ∷ facts) × (f.tag.0 ≡ tag)
-    by true h is rest = let s : g ≡ f = cc in (inl (sym s), ap (λ (x : Fact). x.tag.0) (sym s) ∙ same_tag g.tag.0 tag h)
+    by true h is rest = let s : g ≡ f = cc in (inl (sym s), ap (λ (x : Fact). x.tag.0) (sym s) ∙ eqb-true g.tag.0 tag h)
     by false h is rest = let r = rest is in (inr r.0, r.1)
 
 pub some_fact : (o : Option Fact) → is_some o ≡ true → (f : Fact) × (o ≡ Some f)
@@ -55,14 +53,14 @@ free_at [] tag none = refl
 free_at (g ∷ facts) tag none = by (g.tag.0 == tag) refl (free_at facts tag (λ x i. none x (inr i)))
   where
     by : (t : Bool) → (g.tag.0 == tag) ≡ t → fact_at facts tag ≡ None → cond t (Some g) (fact_at facts tag) ≡ None
-    by true e rest = absurd (none g (inl refl) (same_tag g.tag.0 tag e))
+    by true e rest = absurd (none g (inl refl) (eqb-true g.tag.0 tag e))
     by false e rest = rest
 
 -- of facts with distinct tags no other stands under the tag of the first
 alone_at : (f : Fact) (facts : List Fact) (tag : ℕ) → HaveDistinctTags (f ∷ facts) → (f.tag.0 == tag) ≡ true → fact_at facts tag ≡ None
 alone_at f facts tag distinct e =
     free_at facts tag (λ g i s.
-    let same : g.tag ≡ f.tag = ap tag_of (s ∙ sym (same_tag f.tag.0 tag e)) in
+    let same : g.tag ≡ f.tag = ap tag_of (s ∙ sym (eqb-true f.tag.0 tag e)) in
     distinct.0 (subst (λ (t : Tag). In t (map (λ (x : Fact). x.tag) facts)) same (in_map (λ (x : Fact). x.tag) g facts i)))
 
 -- ---- facts that go out
@@ -133,7 +131,7 @@ module _ (id next : ℕ) (sets : List (ℕ × Value)) where
           → fact_at (cond k (revised next sets f) f ∷ revised_in id next sets facts) next ≡ Some (revised next sets g)
       by true h rest =
           let s : f ≡ g = cc in
-          ap (λ b. cond b (Some (revised next sets f)) (fact_at (revised_in id next sets facts) next)) (is_same next next refl) ∙ ap (λ x. Some (revised next sets x)) s
+          ap (λ b. cond b (Some (revised next sets f)) (fact_at (revised_in id next sets facts) next)) (eq-eqb next next refl) ∙ ap (λ x. Some (revised next sets x)) s
       by false h rest = ap (λ b. cond b (Some f) (fact_at (revised_in id next sets facts) next)) (not_next f.tag.0 (below f (inl refl))) ∙ rest h
 
 -- ---- worlds

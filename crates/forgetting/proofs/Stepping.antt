@@ -1,5 +1,9 @@
 -- The laws of a step in two phases.
-use Rattle.forgetting.proofs.Common.{◌≡◌, ℤ, ◌≤ℤ◌, ◌+ℤ◌, ◌&&◌, ◌||◌, Bool, true, false, not, refl, sym, ◌∙◌, ap, arith, None, int_le, pos, is_some, option_and_then, ints, Match, has_match, and_parts, has_come, same_watched, Lives, Sight, IsLawful, end_of_life, only, is_needed, is_kept_fact, ends_of, is_kept, is_clean, some_tag, each_tag, new_law, EndLaw, StartLaw, LeftLaw, DropLaw, StepLaw}
+use Rattle.forgetting.proofs.Common.{◌≡◌, ℤ, ◌≤ℤ◌, ◌+ℤ◌, ◌&&◌, ◌||◌, Bool, true, false, not, refl, sym, ◌∙◌, ap, arith, None, int_le, pos, is_some}
+use Rattle.forgetting.proofs.Common.{option_and_then, ints, Match, has_match, has_come, same_watched, Lives, TagWorld, IsSoundSight, end_of_life, only}
+use Rattle.forgetting.proofs.Common.{is_needed, is_kept_fact, ends_of, is_kept_tag, is_clean, some_tag, each_tag, new_law, EndLaw, EmptySessionLaw}
+use Rattle.forgetting.proofs.Common.{MatchesLeftLaw, DropFiredLaw, TwoPhaseLaw}
+use Rattle.std.proofs.lemmas.Bool.{and_parts}
 use Rattle.forgetting.proofs.Before.{pending_kept, kept_before_law}
 use Rattle.forgetting.proofs.Forgotten.{IsForgotten, still_kept, holds_kept}
 use Rattle.forgetting.proofs.Naming.{clean_is}
@@ -21,19 +25,19 @@ end_law table f n now e =
 
 -- ---- the beginning
 
-pub start_law : StartLaw
+pub start_law : EmptySessionLaw
 start_law lives w s no_facts none_fired empty due lingering pending unfired = record {
   store = λ tag. empty tag ∙ sym (ap (only (is_kept_fact lives w tag)) (no_facts tag));
   watched =
       same_watched (λ tag. None) (ends_of lives s.store) w.clock (is_needed w) (is_needed w) s.retention (λ tag. sym (ap (option_and_then lives) (empty tag))) (λ tag. refl)
       (new_law w.clock (is_needed w) s.retention due lingering);
   pending = pending;
-  fired = λ m. unfired m ∙ sym (ap (λ t. t && each_tag (is_kept lives w) m) (none_fired m));
+  fired = λ m. unfired m ∙ sym (ap (λ t. t && each_tag (is_kept_tag lives w) m) (none_fired m));
 }
 
 -- ---- what left, and what is dropped
 
-pub left_of_gone : LeftLaw
+pub left_of_gone : MatchesLeftLaw
 left_of_gone before middle gone come left pending tags m tag was free names = tags m tag (goes (has_match before.pending m) (gone m) (come m) was (sym (pending m) ∙ free)) names
   where
     goes : (p g c : Bool) → p ≡ true → ((p && not g) || c) ≡ false → g ≡ true
@@ -41,7 +45,7 @@ left_of_gone before middle gone come left pending tags m tag was free names = ta
     goes true false c e f = absurd (let h : true ≡ false = f in cc)
     goes false g c e f = absurd (let h : false ≡ true = e in cc)
 
-pub drop_law : DropLaw
+pub drop_law : DropFiredLaw
 drop_law middle after old dropped lost same m = lost m ∙ by (has_match middle.fired m) (same m)
   where
     by : (f : Bool) → (f ≡ true → dropped m ≡ some_tag old m) → (f && not (dropped m)) ≡ (f && not (some_tag old m))
@@ -76,10 +80,10 @@ fired_is true true false true kv kw names fired clean next = ap (λ t. (t && fal
 fired_is true true false false kv kw names fired clean next = ap (λ t. (t && true) && not names) (sym (clean refl))
 
 -- a match of the world names no forgotten fact where it names kept facts alone
-clean_kept : (lives : Lives) (w : Sight) → IsLawful w → (m : Match) → w.matches m ≡ true → is_clean lives w m ≡ each_tag (is_kept lives w) m
-clean_kept lives w lawful m is = clean_is (λ tag. is_some (w.facts tag)) (is_kept lives w) m.row.facts (lawful.names m is)
+clean_kept : (lives : Lives) (w : TagWorld) → IsSoundSight w → (m : Match) → w.matches m ≡ true → is_clean lives w m ≡ each_tag (is_kept_tag lives w) m
+clean_kept lives w lawful m is = clean_is (λ tag. is_some (w.facts tag)) (is_kept_tag lives w) m.row.facts (lawful.names m is)
 
-pub step_law : StepLaw
+pub step_law : TwoPhaseLaw
 step_law lives new out was is before middle after gone come left old lawful lawful_now step clean holds takes leaves forgets =
     let pend : (m : Match) → has_match middle.agenda.pending m ≡ has_match is.pending m = λ m.
     let vm = was.matches m in let vf = was.fired m in let wm = is.matches m in let c = is_clean lives was m in
@@ -105,7 +109,7 @@ step_law lives new out was is before middle after gone come left old lawful lawf
     } in
     holds_kept phase (λ m.
     let vm = was.matches m in let vf = was.fired m in let wm = is.matches m in let c = is_clean lives was m in
-    let kv = each_tag (is_kept lives was) m in let kw = each_tag (is_kept lives is) m in
+    let kv = each_tag (is_kept_tag lives was) m in let kw = each_tag (is_kept_tag lives is) m in
     ap (λ t. t && not (some_tag old m)) (takes.fired m)
     ∙ ap (λ t. (t && not (gone m)) && not (some_tag old m)) (holds.fired m)
     ∙ ap (λ t. ((vf && kv) && not t) && not (some_tag old m)) (takes.goes m)

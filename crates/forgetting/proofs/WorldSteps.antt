@@ -1,12 +1,18 @@
 -- A step of a world is one of the sights.
-use Rattle.forgetting.proofs.Common.{◌≡◌, ◌<◌, ℕ, ℤ, ◌==◌, ◌&&◌, ◌≤ℤ◌, ◌+ℤ◌, Bool, true, false, cond, not, List, refl, sym, ◌∙◌, ap, arith, Option, Some, None, is_some, option_map, Fact, Value, Program, Step, is_present, HaveDistinctTags, matches, has_match, one_fact, IsOrdered, World, snapshot, present, only_present, found, revised, has_id, AllBelow, below_of, and_both, and_parts, kept_ordered, only, brought, changed, IsStep, fact_at, sight_of, comes, goes, settled, modify_fault, new_fact, with_new, with_revised, with_retracted, at_clock, with_promise, with_begin, moved_forward, found_in, has_number, others, kept_new, kept_numbers, kept_revised, kept_without, kept_later, has_still, WorldStepLaw, RetractsOne}
+use Rattle.forgetting.proofs.Common.{◌≡◌, ◌<◌, ℕ, ℤ, ◌==◌, ◌&&◌, ◌≤ℤ◌, ◌+ℤ◌, Bool, true, false, cond, not, List, refl, sym, ◌∙◌, ap, arith, Option, Some, None}
+use Rattle.forgetting.proofs.Common.{is_some, option_map, Fact, Value, Program, Step, is_present, HaveDistinctTags, matches, has_match, one_fact, IsOrdered}
+use Rattle.forgetting.proofs.Common.{World, snapshot, present, only_present, found, revised, has_id, AllBelow, below_of, kept_ordered, only, brought, changed}
+use Rattle.forgetting.proofs.Common.{IsStep, fact_at, sight_of, comes, goes, settled, modify_fault, new_fact, with_new, with_revised, with_retracted}
+use Rattle.forgetting.proofs.Common.{world_at_clock, with_promise, with_begin, moved_forward, found_in, has_number, others, kept_new, kept_numbers}
+use Rattle.forgetting.proofs.Common.{kept_revised, kept_without, kept_later, has_still, WorldStepLaw, RetractsOne}
+use Rattle.std.proofs.lemmas.Bool.{and_from, and_parts, eq-eqb, eqb-true}
 use Rattle.rule_model.specs.declared.step.Step.TheVariants.{Insert, Modify, Retract, Advance, At, Promise, Begin}
 use Rattle.rule_world.specs.Worlds.{moved, stepped, step_fault}
 use Rattle.rule_world.proofs.Ids.{one_id}
-use Rattle.forgetting.proofs.Firing.{stands}
 use Rattle.forgetting.proofs.Forgotten.{all_stay}
-use Rattle.forgetting.proofs.Naming.{same_bool}
-use Rattle.forgetting.proofs.Seeing.{tag_of, same_tag, is_same, fact_in, free_at, at_filter, only_same, at_end, at_revised, at_next}
+use Rattle.forgetting.proofs.Seeing.{tag_of, fact_in, free_at, at_filter, only_same, at_end, at_revised, at_next}
+use Rattle.fx_base.proofs.Orders.{≤ℤ_same}
+use Rattle.fx_base.proofs.Tests.{same_test}
 
 twice_not : (t : Bool) → t ≡ not (not t)
 twice_not true = refl
@@ -49,7 +55,7 @@ module _ (p : Program) (w : World) (o : IsOrdered p w) where
   fresh (Some f) next tag e = by (f.tag.0 == tag) refl e
     where
       by : (t : Bool) → (f.tag.0 == tag) ≡ t → is_some (cond t (Some f) None) ≡ true → fact_at there tag ≡ None
-      by true h k = none_next tag (sym (same_tag f.tag.0 tag h) ∙ next f refl)
+      by true h k = none_next tag (sym (eqb-true f.tag.0 tag h) ∙ next f refl)
       by false h k = absurd (let n : false ≡ true = k in cc)
 
   -- ---- the facts behind a step of each kind
@@ -59,7 +65,7 @@ module _ (p : Program) (w : World) (o : IsOrdered p w) where
   new_facts f tag next = by (is_present p w.clock f) refl
     where
       by : (t : Bool) → is_present p w.clock f ≡ t → fact_at (present p (with_new p w f)) tag ≡ changed (brought (cond t (Some f) None) tag) (λ g. false) (fact_at there tag)
-      by true e = ap (λ (v : World). fact_at v.facts tag) (kept_new p w f e) ∙ at_end there f tag (λ s. none_next tag (sym (same_tag f.tag.0 tag s) ∙ next))
+      by true e = ap (λ (v : World). fact_at v.facts tag) (kept_new p w f e) ∙ at_end there f tag (λ s. none_next tag (sym (eqb-true f.tag.0 tag s) ∙ next))
       by false e = ap (λ (v : World). fact_at v.facts tag) (kept_numbers p w f e) ∙ all_stay (fact_at there tag)
 
   revised_facts : (id : ℕ) (sets : List (ℕ × Value)) (tag : ℕ) (found_one : Option Fact) → found p w id ≡ found_one → modify_fault p found_one ≡ None
@@ -71,14 +77,14 @@ module _ (p : Program) (w : World) (o : IsOrdered p w) where
     where
       by : (t : Bool) → (w.next_tag == tag) ≡ t
           → fact_at (with_revised (only_present p w) id sets).facts tag ≡ changed (cond t (Some (revised w.next_tag sets g)) None) (has_id id) (fact_at there tag)
-      by true s = ap (fact_at (with_revised (only_present p w) id sets).facts) (sym (same_tag w.next_tag tag s)) ∙ at_next id w.next_tag sets there g below e
+      by true s = ap (fact_at (with_revised (only_present p w) id sets).facts) (sym (eqb-true w.next_tag tag s)) ∙ at_next id w.next_tag sets there g below e
       by false s = at_revised id w.next_tag sets there tag distinct s
 
   fewer_facts : (ty id tag : ℕ) → fact_at (present p (with_retracted p w ty id)) tag ≡ changed None (λ f. f.ty.0 == ty && has_id id f) (fact_at there tag)
   fewer_facts ty id tag =
       ap (λ (v : World). fact_at v.facts tag) (kept_without p w ty id) ∙ at_filter (others ty id) there tag distinct
 
-  later_facts : (clock : ℤ) (tag : ℕ) → w.clock ≤ℤ clock → fact_at (present p (at_clock w clock)) tag ≡ changed None (λ f. not (is_present p clock f)) (fact_at there tag)
+  later_facts : (clock : ℤ) (tag : ℕ) → w.clock ≤ℤ clock → fact_at (present p (world_at_clock w clock)) tag ≡ changed None (λ f. not (is_present p clock f)) (fact_at there tag)
   later_facts clock tag le =
       ap (λ (v : World). fact_at v.facts tag) (kept_later p w clock le) ∙ at_filter (is_present p clock) there tag distinct
       ∙ only_same (is_present p clock) (λ f. not (not (is_present p clock f))) (fact_at there tag) (λ f. twice_not (is_present p clock f))
@@ -98,29 +104,29 @@ pub world_step_law : WorldStepLaw
 unfolding stepped moved step_fault
 world_step_law p w (Insert ty entry fields) o none =
     let f = new_fact p w ty.0 entry.0 fields in
-    is_step p w o (with_new p w f) (Insert ty entry fields) (λ tag. new_facts p w o f tag refl) (stands w.clock w.clock refl) refl
+    is_step p w o (with_new p w f) (Insert ty entry fields) (λ tag. new_facts p w o f tag refl) (≤ℤ_same w.clock w.clock refl) refl
 world_step_law p w (Modify id sets) o none =
-    is_step p w o (with_revised w id.0 sets) (Modify id sets) (λ tag. revised_facts p w o id.0 sets tag (found p w id.0) refl none) (stands w.clock w.clock refl) refl
-world_step_law p w (Retract ty id) o none = is_step p w o (with_retracted p w ty.0 id.0) (Retract ty id) (fewer_facts p w o ty.0 id.0) (stands w.clock w.clock refl) refl
+    is_step p w o (with_revised w id.0 sets) (Modify id sets) (λ tag. revised_facts p w o id.0 sets tag (found p w id.0) refl none) (≤ℤ_same w.clock w.clock refl) refl
+world_step_law p w (Retract ty id) o none = is_step p w o (with_retracted p w ty.0 id.0) (Retract ty id) (fewer_facts p w o ty.0 id.0) (≤ℤ_same w.clock w.clock refl) refl
 world_step_law p w (Advance by) o none =
     let le = (moved_forward w.clock (w.clock +ℤ by) none).0 in
-    is_step p w o (at_clock w (w.clock +ℤ by)) (Advance by) (λ tag. later_facts p w o (w.clock +ℤ by) tag le) le refl
+    is_step p w o (world_at_clock w (w.clock +ℤ by)) (Advance by) (λ tag. later_facts p w o (w.clock +ℤ by) tag le) le refl
 world_step_law p w (At moment) o none =
     let le = (moved_forward w.clock moment none).0 in
-    is_step p w o (at_clock w moment) (At moment) (λ tag. later_facts p w o moment tag le) le refl
+    is_step p w o (world_at_clock w moment) (At moment) (λ tag. later_facts p w o moment tag le) le refl
 world_step_law p w (Promise entry from) o none =
-    is_step p w o (with_promise w entry.0 from) (Promise entry from) (λ tag. all_stay (fact_at (present p w) tag)) (stands w.clock w.clock refl) refl
-world_step_law p w Begin o none = is_step p w o (with_begin w) Begin (λ tag. all_stay (fact_at (present p w) tag)) (stands w.clock w.clock refl) refl
+    is_step p w o (with_promise w entry.0 from) (Promise entry from) (λ tag. all_stay (fact_at (present p w) tag)) (≤ℤ_same w.clock w.clock refl) refl
+world_step_law p w Begin o none = is_step p w o (with_begin w) Begin (λ tag. all_stay (fact_at (present p w) tag)) (≤ℤ_same w.clock w.clock refl) refl
 
 pub retracts_one : RetractsOne
 retracts_one p w ty id g o found_one typed tag f at =
     let own = fact_in (present p w) tag f at in
     let there_g = found_in (present p w) id.0 g found_one in
-    same_bool (f.ty.0 == ty.0 && has_id id.0 f) (tag == g.tag.0)
+    same_test (f.ty.0 == ty.0 && has_id id.0 f) (tag == g.tag.0)
     (λ e.
     let named = has_number id.0 f (and_parts (f.ty.0 == ty.0) (has_id id.0 f) e).1 in
     let same = one_id (present p w) f g (kept_ordered p w o).ids own.0 there_g.0 (named ∙ sym there_g.1) in
-    is_same tag g.tag.0 (sym own.1 ∙ ap (λ (x : Fact). x.tag.0) same))
+    eq-eqb tag g.tag.0 (sym own.1 ∙ ap (λ (x : Fact). x.tag.0) same))
     (λ e.
-    let same = one_fact (present p w) (distinct p w o) f g own.0 there_g.0 (ap tag_of (own.1 ∙ same_tag tag g.tag.0 e)) in
-    and_both (f.ty.0 == ty.0) (has_id id.0 f) (is_same f.ty.0 ty.0 (ap (λ (x : Fact). x.ty.0) same ∙ typed)) (is_same f.id.0 id.0 (ap (λ (x : Fact). x.id.0) same ∙ there_g.1)))
+    let same = one_fact (present p w) (distinct p w o) f g own.0 there_g.0 (ap tag_of (own.1 ∙ eqb-true tag g.tag.0 e)) in
+    and_from (f.ty.0 == ty.0) (has_id id.0 f) (eq-eqb f.ty.0 ty.0 (ap (λ (x : Fact). x.ty.0) same ∙ typed)) (eq-eqb f.id.0 id.0 (ap (λ (x : Fact). x.id.0) same ∙ there_g.1)))

@@ -4,7 +4,7 @@ use Rattle.std.specs.FinMap as map
 use Rattle.fx_base.specs.declared.fact.Fact.{Fact}
 use Rattle.retention.specs.Retentions.{lingers}
 use Rattle.retention.specs.Watching.{Covers}
-use Rattle.forgetting.specs.Sights.{Lives, Sight, Holding, HoldsKept, ends_of}
+use Rattle.forgetting.specs.Sights.{Lives, TagWorld, Holding, HoldsKept, ends_of}
 use Rattle.forgetting.specs.Steps.{brought, changed}
 
 -- the retention of a session covers the ends of the lives of the facts that it has, at this clock
@@ -13,7 +13,7 @@ CoversStore lives now s = Covers (ends_of lives s.store) now s.retention
 
 -- when a call begins, at a clock that does not go back
 abbrev pub LaterCovers : Type 0
-LaterCovers = (lives : Lives) (w : Sight) (now : ℤ) (s : Holding) → HoldsKept lives w s → w.clock ≤ℤ now → CoversStore lives now s
+LaterCovers = (lives : Lives) (w : TagWorld) (now : ℤ) (s : Holding) → HoldsKept lives w s → w.clock ≤ℤ now → CoversStore lives now s
 
 -- a tag that no fact of the store has waits for nothing
 abbrev pub FreeCovers : Type 0

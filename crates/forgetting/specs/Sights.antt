@@ -1,5 +1,6 @@
 -- A world as forgetting sees it, by the tags of its facts, and which of these facts are kept.
-use Rattle.std.specs.Prelude.{◌≡◌, ◌↔◌, ℕ, ℤ, pos, ◌+ℤ◌, ◌≤ℤ◌, ◌&&◌, ◌||◌, Bool, true, false, cond, not, List, Option, Some, None, option_and_then, is_some, slice_get}
+use Rattle.std.specs.Prelude.{◌≡◌, ◌↔◌, ℕ, ℤ, pos, ◌+ℤ◌, ◌≤ℤ◌, ◌&&◌, ◌||◌, Bool, true, false, cond, not, List, Option, Some, None, option_and_then, is_some}
+use Rattle.std.specs.Prelude.{slice_get}
 use Rattle.std.specs.List.{list_any, list_all}
 use Rattle.fx_base.specs.declared.fact.Fact.{Fact}
 use Rattle.row_delta.specs.declared.row.Named.{Named}
@@ -37,7 +38,7 @@ EndLaw = (table : LifeTable) (f : Fact) (n : ℤ) (now : ℤ) → slice_get tabl
 -- ---- worlds
 
 -- a world: its facts by their tags, the clock, its matches, and which of these were fired and which are pending
-pub record Sight : Type 0 where
+pub record TagWorld : Type 0 where
   pub facts : ℕ → Option Fact
   pub clock : ℤ
   pub matches : Match → Bool
@@ -52,7 +53,7 @@ abbrev pub some_tag : (ℕ → Bool) → Match → Bool
 some_tag test m = list_any (λ (n : Named). test n.tag.0) m.row.facts
 
 -- matches name facts of the world, fired ones are matches, and the others are pending
-pub record IsLawful (w : Sight) : Type 0 where
+pub record IsSoundSight (w : TagWorld) : Type 0 where
   pub names : (m : Match) → w.matches m ≡ true → each_tag (λ tag. is_some (w.facts tag)) m ≡ true
   pub fired : (m : Match) → w.fired m ≡ true → w.matches m ≡ true
   pub pending : (m : Match) → has_match w.pending m ≡ (w.matches m && not (w.fired m))
@@ -65,27 +66,27 @@ only test None = None
 only test (Some f) = cond (test f) (Some f) None
 
 -- whether a pending match names the tag
-abbrev pub is_needed : Sight → ℕ → Bool
+abbrev pub is_needed : TagWorld → ℕ → Bool
 is_needed w tag = list_any (names_tag tag) w.pending
 
 -- a fact is kept until it is past its life, and then while a pending match names it
-abbrev pub is_kept_fact : Lives → Sight → ℕ → Fact → Bool
+abbrev pub is_kept_fact : Lives → TagWorld → ℕ → Fact → Bool
 is_kept_fact lives w tag f = not (has_come w.clock (lives f)) || is_needed w tag
 
 -- the facts that are kept, by their tags
-abbrev pub kept : Lives → Sight → ℕ → Option Fact
+abbrev pub kept : Lives → TagWorld → ℕ → Option Fact
 kept lives w tag = only (is_kept_fact lives w tag) (w.facts tag)
 
-abbrev pub is_kept : Lives → Sight → ℕ → Bool
-is_kept lives w tag = is_some (kept lives w tag)
+abbrev pub is_kept_tag : Lives → TagWorld → ℕ → Bool
+is_kept_tag lives w tag = is_some (kept lives w tag)
 
 -- a fact of the world that is not kept is forgotten
-abbrev pub is_forgotten : Lives → Sight → ℕ → Bool
-is_forgotten lives w tag = is_some (w.facts tag) && not (is_kept lives w tag)
+abbrev pub is_forgotten_tag : Lives → TagWorld → ℕ → Bool
+is_forgotten_tag lives w tag = is_some (w.facts tag) && not (is_kept_tag lives w tag)
 
 -- the match names no forgotten fact
-abbrev pub is_clean : Lives → Sight → Match → Bool
-is_clean lives w m = not (some_tag (is_forgotten lives w) m)
+abbrev pub is_clean : Lives → TagWorld → Match → Bool
+is_clean lives w m = not (some_tag (is_forgotten_tag lives w) m)
 
 -- ---- what a session holds
 
@@ -100,8 +101,8 @@ abbrev pub ends_of : Lives → (ℕ → Option Fact) → Ends
 ends_of lives store tag = option_and_then lives (store tag)
 
 -- It holds exactly what is kept: the facts that are kept, all pending matches, and of the fired ones those that name kept facts alone.
-pub record HoldsKept (lives : Lives) (w : Sight) (s : Holding) : Type 0 where
+pub record HoldsKept (lives : Lives) (w : TagWorld) (s : Holding) : Type 0 where
   pub store : (tag : ℕ) → s.store tag ≡ kept lives w tag
   pub watched : Watches (ends_of lives s.store) w.clock (is_needed w) s.retention
   pub pending : (m : Match) → has_match s.agenda.pending m ≡ has_match w.pending m
-  pub fired : (m : Match) → has_match s.agenda.fired m ≡ (w.fired m && each_tag (is_kept lives w) m)
+  pub fired : (m : Match) → has_match s.agenda.fired m ≡ (w.fired m && each_tag (is_kept_tag lives w) m)

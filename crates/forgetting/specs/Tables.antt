@@ -20,8 +20,8 @@ use Rattle.pair_memory.specs.Standing.{clean}
 use Rattle.keeping.specs.Kept.{is_kept, is_forgotten}
 use Rattle.keeping.specs.Steps.{IsLawfulStep}
 use Rattle.forgetting.specs.Sights.{Holding, HoldsKept, ends_by, only, kept, is_clean}
-use Rattle.forgetting.specs.Steps.{ComeClean, Takes, HasLeft, Forgets}
-use Rattle.forgetting.specs.Firings.{Fires}
+use Rattle.forgetting.specs.Steps.{ComeClean, TakesChanges, HasLeft, Forgets}
+use Rattle.forgetting.specs.Firings.{FiresMatch}
 use Rattle.forgetting.specs.WorldSights.{fact_at, sight_of, comes, goes}
 
 -- ---- what is kept
@@ -63,7 +63,7 @@ NextClean = (p : Program) (table : LifeTable) (w : World) (step : Step) → IsLa
 abbrev pub WorldStepKept : Type 0
 WorldStepKept = (p : Program) (table : LifeTable) (w : World) (step : Step) (before middle after : Holding) (gone come : Match → Bool) (left old : ℕ → Bool)
     → IsLawfulStep p table w step → HoldsKept (ends_by table) (sight_of p w) before
-    → Takes (ends_by table) (comes p w step) (goes p w step) (sight_of p w) (sight_of p (stepped p w step)) before middle gone come
+    → TakesChanges (ends_by table) (comes p w step) (goes p w step) (sight_of p w) (sight_of p (stepped p w step)) before middle gone come
     → HasLeft before.agenda middle.agenda left → Forgets (stepped p w step).clock left middle after old
     → HoldsKept (ends_by table) (sight_of p (stepped p w step)) after
 
@@ -71,5 +71,5 @@ WorldStepKept = (p : Program) (table : LifeTable) (w : World) (step : Step) (bef
 abbrev pub WorldFireKept : Type 0
 WorldFireKept = (p : Program) (table : LifeTable) (w : World) (m : Match) (before middle after : Holding) (left old : ℕ → Bool)
     → IsOrdered p w → has_match (pending p w) m ≡ true → HoldsKept (ends_by table) (sight_of p w) before
-    → Fires m before middle → ((tag : ℕ) → names_tag tag m ≡ true → left tag ≡ true) → Forgets w.clock left middle after old
+    → FiresMatch m before middle → ((tag : ℕ) → names_tag tag m ≡ true → left tag ≡ true) → Forgets w.clock left middle after old
     → HoldsKept (ends_by table) (sight_of p (marked w m)) after

@@ -11,7 +11,7 @@ use Rattle.rule_model.specs.Candidates.{is_present}
 use Rattle.rule_model.specs.Matches.{matches, has_match}
 use Rattle.rule_world.specs.Lawful.{IsOrdered}
 use Rattle.rule_world.specs.Worlds.{World, snapshot, present, found, pending, new_fact, revised, has_id, stepped, step_fault, marked}
-use Rattle.forgetting.specs.Sights.{Sight, IsLawful, only}
+use Rattle.forgetting.specs.Sights.{TagWorld, IsSoundSight, only}
 use Rattle.forgetting.specs.Steps.{IsStep}
 use Rattle.forgetting.specs.Firings.{IsMarked}
 
@@ -21,7 +21,7 @@ fact_at [] tag = None
 fact_at (f ∷ facts) tag = if f.tag.0 == tag then Some f else fact_at facts tag
 
 -- the present facts of a world, its clock and its marks
-abbrev pub sight_of : Program → World → Sight
+abbrev pub sight_of : Program → World → TagWorld
 sight_of p w = record {
   facts = fact_at (present p w);
   clock = w.clock;
@@ -52,7 +52,7 @@ goes p w Begin f = false
 
 -- the sight of a world whose numbers and marks are in order is lawful
 abbrev pub SightLaw : Type 0
-SightLaw = (p : Program) (w : World) → IsOrdered p w → IsLawful (sight_of p w)
+SightLaw = (p : Program) (w : World) → IsOrdered p w → IsSoundSight (sight_of p w)
 
 -- a step without a fault is one of the sights
 abbrev pub WorldStepLaw : Type 0

@@ -2,7 +2,7 @@
 ghost use Rattle.forgetting.specs.Sights.{EndLaw};
 ghost use Rattle.forgetting.specs.Covering.{LaterCovers, FreeCovers, InsertCovers, RetractCovers, EndlessCovers};
 ghost use Rattle.forgetting.specs.Firings.{FireLaw};
-ghost use Rattle.forgetting.specs.Steps.{StartLaw, KeptBeforeLaw, LeftLaw, DropLaw, StepLaw};
+ghost use Rattle.forgetting.specs.Steps.{EmptySessionLaw, KeptBeforeLaw, MatchesLeftLaw, DropFiredLaw, TwoPhaseLaw};
 ghost use Rattle.forgetting.specs.Tables.{SameKept, SameClean, PlainEndless, ExpiredEndless, ModifyEndless, StepComesClean, NextClean, WorldStepKept, WorldFireKept};
 ghost use Rattle.forgetting.specs.WorldSights.{SightLaw, WorldStepLaw, RetractsOne, WorldFireLaw};
 
@@ -13,7 +13,7 @@ pub fn lives_end_as_said()
 
 /// A session begins with what is kept.
 pub fn a_session_begins_with_what_is_kept()
-    ensures { StartLaw }
+    ensures { EmptySessionLaw }
 {}
 
 /// What was there and is kept behind a step was kept before it, where the matches that come name nothing forgotten.
@@ -23,13 +23,13 @@ pub fn what_is_kept_was_kept()
 
 /// What a step has to look at: of what has left, the tags of the matches that go; of what is dropped, the fired matches.
 pub fn differences_tell_what_left_and_what_to_drop()
-    ensures left { LeftLaw }
-    ensures dropped { DropLaw }
+    ensures left { MatchesLeftLaw }
+    ensures dropped { DropFiredLaw }
 {}
 
 /// A step in two phases, the change and then the forgetting, leaves exactly what is kept behind the step.
 pub fn a_step_leaves_what_is_kept()
-    ensures { StepLaw }
+    ensures { TwoPhaseLaw }
 {}
 
 /// So does a firing.

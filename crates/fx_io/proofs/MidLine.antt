@@ -1,5 +1,7 @@
 -- A reader in the middle of a line.
-use Rattle.fx_io.proofs.Common.{◌≡◌, ◌≤◌, ◌+◌, ◌++◌, ℕ, List, [], ◌∷◌, length, take, drop, Option, Some, None, Ok, refl, sym, ap, ◌∙◌, arith, inl, inr, append_assoc, append-nil, length-append, take-append-drop, prepend, count_after, IsExhausted, HasNoEnd, IsFirstEnd, IsPart, IsAnswer, IsLastAnswer, TakesLine, Takes, Gives, Reads, Line, Whole, Long, End}
+use Rattle.fx_io.proofs.Common.{◌≡◌, ◌≤◌, ◌+◌, ◌++◌, ℕ, List, [], ◌∷◌, length, take, drop, Option, Some, None, Ok, refl, sym, ap, ◌∙◌, arith, inl, inr}
+use Rattle.fx_io.proofs.Common.{append_assoc, append-nil, length-append, take-append-drop, prepend, count_after, IsExhausted, HasNoEnd, IsFirstEnd, IsLinePart}
+use Rattle.fx_io.proofs.Common.{IsAnswer, IsLastAnswer, TakesLine, TakesFromBytes, GivesLine, ReadsBytes, Line, Whole, Long, End}
 use Rattle.fx_io.specs.declared.part.PartLine.{PartLine}
 use Rattle.fx_io.proofs.Ends.{HasNoEnd-append}
 use Rattle.fx_io.proofs.Told.{prepend-prepend}
@@ -8,14 +10,14 @@ use Rattle.fx_io.proofs.Told.{prepend-prepend}
 pub record Reading (most : ℕ) (before window : List ℕ) (front : PartLine) (taken_before taken_now given_before given_now : ℕ) (left_before left_now : Option (List ℕ)) : Type 0 where
   pub text : List ℕ
   pub read : List ℕ
-  pub part : IsPart most text front
+  pub part : IsLinePart most text front
   pub no_end : HasNoEnd text
   pub bytes : before ++ read ≡ text ++ window
-  pub reads : Reads read taken_before taken_now given_before given_now left_before left_now
+  pub reads : ReadsBytes read taken_before taken_now given_before given_now left_before left_now
 
 module _ (most : ℕ) (before window : List ℕ) (front : PartLine) (taken_before taken_now given_before given_now : ℕ) (left_before left_now : Option (List ℕ)) (so_far : Reading most before window front taken_before taken_now given_before given_now left_before left_now) where
   -- the window went into the part, and new bytes came from the source
-  pub read_on : (front_next : PartLine) (new : List ℕ) (n taken_next given_next : ℕ) (left_next : Option (List ℕ)) → ((text : List ℕ) → IsPart most text front → IsPart most (text ++ window) front_next) → HasNoEnd window
+  pub read_on : (front_next : PartLine) (new : List ℕ) (n taken_next given_next : ℕ) (left_next : Option (List ℕ)) → ((text : List ℕ) → IsLinePart most text front → IsLinePart most (text ++ window) front_next) → HasNoEnd window
       → length new ≡ n → taken_next ≡ taken_now + n → given_next ≡ count_after given_now n → left_now ≡ prepend new left_next
       → Reading most before new front_next taken_before taken_next given_before given_next left_before left_next
   read_on front_next new n taken_next given_next left_next part no_end len taken given left = record {
@@ -32,13 +34,13 @@ module _ (most : ℕ) (before window : List ℕ) (front : PartLine) (taken_befor
   }
 
 -- what an answer for a line takes
-takes_line : (most : ℕ) (text : List ℕ) (line : Line) (bytes kept : List ℕ) (ends : Type 0) → IsAnswer most text line → TakesLine text bytes kept ends → Takes most line bytes kept ends
+takes_line : (most : ℕ) (text : List ℕ) (line : Line) (bytes kept : List ℕ) (ends : Type 0) → IsAnswer most text line → TakesLine text bytes kept ends → TakesFromBytes most line bytes kept ends
 takes_line most text (Whole line) bytes kept ends h takes = rw h.0 (h.1, takes)
 takes_line most text Long bytes kept ends h takes = (text, h, takes)
 takes_line most text End bytes kept ends h takes = absurd h
 
 -- what the answer at the end of the input takes
-takes_last : (most : ℕ) (text : List ℕ) (line : Line) (bytes kept : List ℕ) (ends : Type 0) → IsLastAnswer most text line → HasNoEnd text → bytes ≡ text → kept ≡ [] → ends → Takes most line bytes kept ends
+takes_last : (most : ℕ) (text : List ℕ) (line : Line) (bytes kept : List ℕ) (ends : Type 0) → IsLastAnswer most text line → HasNoEnd text → bytes ≡ text → kept ≡ [] → ends → TakesFromBytes most line bytes kept ends
 takes_last most text (Whole line) bytes kept ends h no_end same none e = rw h.0 (h.1, (no_end, inr (same, h.2, none, e)))
 takes_last most text Long bytes kept ends h no_end same none e = (text, h, (no_end, inr (same, (λ no_text. absurd (omega (arith, h, ap length no_text))), none, e)))
 takes_last most text End bytes kept ends h no_end same none e = (same ∙ h, none, e)
@@ -50,7 +52,7 @@ empty (x ∷ xs) e = absurd (omega arith)
 module _ (most total_max : ℕ) (before window : List ℕ) (front : PartLine) (taken_before taken_now given_before given_now : ℕ) (left_before left_now : Option (List ℕ)) (so_far : Reading most before window front taken_before taken_now given_before given_now left_before left_now) where
   -- the line ends in the window
   pub gives_line : (place : ℕ) (line : Line) → IsFirstEnd window (Some place) → IsAnswer most (so_far.text ++ take place window) line
-      → Gives most total_max (Ok line) (before ++ so_far.read) (drop (place + 1) window) taken_now left_now
+      → GivesLine most total_max (Ok line) (before ++ so_far.read) (drop (place + 1) window) taken_now left_now
   gives_line place line first answer =
       let parts : window ≡ take place window ++ 10 ∷ drop (place + 1) window = sym (take-append-drop place window) ∙ ap (λ (b : List ℕ). take place window ++ b) first.2 in
       let bytes : before ++ so_far.read ≡ (so_far.text ++ take place window) ++ 10 ∷ drop (place + 1) window = so_far.bytes ∙ ap (λ (b : List ℕ). so_far.text ++ b) parts ∙ sym (append_assoc so_far.text (take place window) (10 ∷ drop (place + 1) window)) in
@@ -58,7 +60,7 @@ module _ (most total_max : ℕ) (before window : List ℕ) (front : PartLine) (t
 
   -- the input has ended, and nothing is in the window
   pub gives_last : (line : Line) → length window ≡ 0 → taken_now ≤ total_max → IsExhausted left_now → IsLastAnswer most so_far.text line
-      → Gives most total_max (Ok line) (before ++ so_far.read) window taken_now left_now
+      → GivesLine most total_max (Ok line) (before ++ so_far.read) window taken_now left_now
   gives_last line len few end answer =
       let none = empty window len in
       takes_last most so_far.text line _ _ _ answer so_far.no_end (so_far.bytes ∙ ap (λ (b : List ℕ). so_far.text ++ b) none ∙ append-nil so_far.text) none (few, end)

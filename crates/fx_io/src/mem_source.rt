@@ -1,5 +1,5 @@
 ghost use Rattle.std.specs.Prelude.{◌≡◌, Some, IfOk, OnErr, is_err, length, min, take};
-ghost use Rattle.fx_io.specs.Memory.{is_listed, source_failed, source_gave};
+ghost use Rattle.fx_io.specs.Memory.{is_call_listed, source_failed, source_gave};
 
 use crate::serving::copy_front;
 use crate::{Failed, Source};
@@ -63,7 +63,7 @@ impl Source for MemSource {
     #[tactic(auto, using(crate::proofs::Told::read_more, std::proofs::lemmas::List::take_rest))]
     fn read(&mut self, buf: &mut [u8]) -> Result<usize, Failed>
         // Exact; what every source ensures follows from these clauses.
-        ensures fails { is_err result ≡ is_listed self.old.failing self.old.calls }
+        ensures fails { is_err result ≡ is_call_listed self.old.failing self.old.calls }
         ensures failed { OnErr result (self.new ≡ source_failed self.old) }
         ensures fits { IfOk result (λ n. n ≡ min (length self.old.left) (length buf.old)) }
         ensures bytes { IfOk result (λ n. take n buf.new ≡ take n self.old.left) }

@@ -1,5 +1,5 @@
 ghost use Rattle.std.specs.Prelude.{◌≡◌, ◌<◌, ◌≤◌, ℕ, List, length, take, drop, Option, IfOk, IfSome, OnErr, IsErrOf, Ok};
-ghost use Rattle.fx_io.specs.Outside.{Rose, count_after, prepend, append, IsExhausted, file_told, IsMissing, IsFound};
+ghost use Rattle.fx_io.specs.Outside.{Rose, count_after, prepend, append, IsExhausted, file_told, IsMissing, IsOnShelf};
 
 /// The outside refused a call.
 #[derive(Clone, Copy, Debug, PartialEq, Eq)]
@@ -82,8 +82,8 @@ pub trait Shelf {
 
         // Where the files are told, `Missing` is answered exactly where the name is not among them.
         ensures missing { IsErrOf result ShelfFault.Missing → IsMissing (files self.old) name.now }
-        ensures found { IfOk result (λ _. IsFound (files self.old) name.now) }
-        ensures failed_found { IsErrOf result ShelfFault.Failed → IsFound (files self.old) name.now }
+        ensures found { IfOk result (λ _. IsOnShelf (files self.old) name.now) }
+        ensures failed_found { IsErrOf result ShelfFault.Failed → IsOnShelf (files self.old) name.now }
 
         ensures files { files self.new ≡ files self.old }
 

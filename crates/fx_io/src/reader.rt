@@ -1,7 +1,7 @@
 ghost use Rattle.std.specs.Prelude.{◌≡◌, ◌⊎◌, ◌<◌, ◌≤◌, ◌^◌, ◌+◌, ◌-◌, ◌++◌, ℕ, List, true, false, [], Some, None, Ok, Err, IfOk, IfErr, IfSome, IsErrOf};
 ghost use Rattle.fx_io.specs.Outside.{Rose, prepend, count_after};
 ghost use Rattle.fx_io.specs.Lines.{lines_ahead, has_end, total_told, to_come};
-ghost use Rattle.fx_io.specs.Answers.{Answers, LeavesNoEnd, Reads, Gives, GoesOn};
+ghost use Rattle.fx_io.specs.Answers.{Answers, LeavesNoEnd, ReadsBytes, GivesLine, UsesBytesUp};
 
 use crate::reading::line_from;
 use crate::window::Window;
@@ -80,16 +80,16 @@ impl LineReader {
 
         // Of any source: the answer is that for the bytes kept before the call and those read in it.
         ensures gives { self.old.fault ≡ None → (read : List ℕ)
-            × Reads read self.old.taken self.new.taken (S.given source.old) (S.given source.new)
+            × ReadsBytes read self.old.taken self.new.taken (S.given source.old) (S.given source.new)
             (S.left source.old) (S.left source.new)
-            × Gives self.old.line_max self.old.total_max result (self.old.kept ++ read)
+            × GivesLine self.old.line_max self.old.total_max result (self.old.kept ++ read)
             self.new.kept self.new.taken (S.left source.new) }
 
         // How many bytes were taken.
         ensures together { S.given source.new ≡ count_after (S.given source.old) (self.new.taken - self.old.taken) }
         ensures taken { self.old.taken ≤ self.new.taken }
         ensures at_most { self.new.taken ≤ self.old.total_max + 1 }
-        ensures goes_on { IfOk result (λ line. GoesOn line
+        ensures goes_on { IfOk result (λ line. UsesBytesUp line
             (to_come self.old.total_max self.old.taken self.old.kept)
             (to_come self.new.total_max self.new.taken self.new.kept)) }
 

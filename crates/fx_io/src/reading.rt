@@ -1,7 +1,7 @@
 ghost use Rattle.std.specs.Prelude.{◌≡◌, ◌<◌, ◌≤◌, ◌+◌, ◌^◌, ◌++◌, List, ℕ, true, IsErrOf};
 ghost use Rattle.fx_io.specs.Outside.{Rose};
 ghost use Rattle.fx_io.specs.Lines.{has_end};
-ghost use Rattle.fx_io.specs.Answers.{Reads, Gives};
+ghost use Rattle.fx_io.specs.Answers.{ReadsBytes, GivesLine};
 
 use crate::part::PartLine;
 use crate::window::Window;
@@ -20,9 +20,9 @@ pub(crate) fn line_from<S: Source>(
     requires small { total_max < 2 ^ 62 }
     requires few { taken.old ≤ total_max + 1 }
     ensures gives { (read : List ℕ)
-        × Reads read taken.old taken.new (S.given source.old) (S.given source.new)
+        × ReadsBytes read taken.old taken.new (S.given source.old) (S.given source.new)
         (S.left source.old) (S.left source.new)
-        × Gives line_max total_max result (window.old ++ read) window.new taken.new (S.left source.new) }
+        × GivesLine line_max total_max result (window.old ++ read) window.new taken.new (S.left source.new) }
     ensures few { taken.new ≤ total_max + 1 }
     ensures ready { has_end window.old ≡ true → source.new ≡ source.old }
     ensures ready_taken { has_end window.old ≡ true → taken.new ≡ taken.old }

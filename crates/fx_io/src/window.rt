@@ -23,11 +23,11 @@ impl Model for Window {
 
     ghost Value = { List ℕ };
 
-    ghost use Rattle.fx_io.specs.Window.{filled, IsWindow};
+    ghost use Rattle.fx_io.specs.Window.{filled, IsReaderWindow};
 
     ghost view = { filled };
 
-    ghost invariant = { IsWindow };
+    ghost invariant = { IsReaderWindow };
 }
 
 /// How many bytes a read of the source may take at most.

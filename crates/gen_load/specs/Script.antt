@@ -34,11 +34,11 @@ insert_line account (Some amount) =
 insert_line account None =
     codes "{\"do\":\"insert\",\"type\":\"Ping\",\"fields\":{\"acct\":" ++ (decimal account ++ codes "}}\n")
 
-abbrev pub fire_line : List ℕ
-fire_line = codes "{\"do\":\"fire\"}\n"
+abbrev pub load_fire_line : List ℕ
+load_fire_line = codes "{\"do\":\"fire\"}\n"
 
 abbrev pub turn_text : Turn → List ℕ
-turn_text turn = advance_line turn.by ++ (insert_line turn.account turn.amount ++ fire_line)
+turn_text turn = advance_line turn.by ++ (insert_line turn.account turn.amount ++ load_fire_line)
 
 -- so many turns, drawn after the number x
 unfoldable pub turns_text : ℕ → ℕ → List ℕ

@@ -1,6 +1,8 @@
 -- The first rules that have first conditions of a rule are the same however they are found, and so are laden rows by them.
-use Rattle.image_fitting.proofs.Common.{◌≡◌, ◌∙◌, ℕ, zero, suc, ◌<◌, Bool, List, length, Option, Some, None, refl, ap, slice_get, slice_get_within, Fact, Extra, Row, Image, Condition, LifeTable, Program, Rule, Snapshot, IsNeeded, snapshot_of, extra_at, AreOwners, laden_with, IsLaden, IsLadenMatch}
-use Rattle.image_laws.specs.Laden.{laden}
+use Rattle.image_fitting.proofs.Common.{◌≡◌, ◌∙◌, ℕ, zero, suc, ◌<◌, Bool, List, length, Option, Some, None, refl, ap, slice_get, slice_get_within, Fact, Extra}
+use Rattle.image_fitting.proofs.Common.{Row, Image, Condition, LifeTable, Program, Rule, Snapshot, IsNeeded, snapshot_of, extra_at, AreOwners, laden_with}
+use Rattle.image_fitting.proofs.Common.{IsLadenRow, IsLadenMatch}
+use Rattle.laden_rows.specs.Laden.{laden}
 use Rattle.image_fitting.proofs.Placing.{one_first}
 
 laden_same : (p : Program) (s : Snapshot) (extras : List Extra) (a b : ℕ → ℕ) (conditions : List Condition) → ((k : ℕ) → k < length conditions → a k ≡ b k)
@@ -21,7 +23,7 @@ module _ (p : Program) (image : Image) (a b : ℕ → ℕ → ℕ) (of_a : AreOw
       laden_same p (snapshot_of image) image.extras (b place) (a place) rule.conditions
       (λ k less. one_first p (suc k) rule.conditions (b place k) (a place k) (of_b place k rule stands less) (of_a place k rule stands less)) n
 
-  pub laden_by : (place : ℕ) (row : Row) (n : ℕ) → IsLaden p image a place row n → IsLaden p image b place row n
+  pub laden_by : (place : ℕ) (row : Row) (n : ℕ) → IsLadenRow p image a place row n → IsLadenRow p image b place row n
   laden_by place row n x = record {
     rule = x.rule;
     stands = x.stands;

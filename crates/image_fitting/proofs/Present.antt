@@ -1,5 +1,10 @@
 -- The facts that laden rows name are present, and so are those of an image that fits.
-use Rattle.image_fitting.proofs.Common.{◌≡◌, ◌∙◌, ◌&&◌, ◌||◌, ◌==◌, not, ℕ, zero, suc, ◌<◌, ℤ, ◌-ℤ◌, get_or, Bool, true, false, List, [], ◌∷◌, length, inl, inr, Option, Some, None, refl, sym, ap, subst, slice_get, none-some, slice_get_within, slice_get-get_or, In, Fact, Value, Extra, Row, Image, Condition, Life, Plain, Explicit, Finite, Infinite, LifeTable, Program, Snapshot, is_event, both_of, values_fit, IsLawful, AreSafe, world_of, IsNeeded, snapshot_of, laden_with, extra_at, is_within, is_inside, is_candidate, fits, HaveDistinctTags, expiry_of, of_append, values_of, laden_gives, laden_line}
+use Rattle.image_fitting.proofs.Common.{◌≡◌, ◌∙◌, ◌&&◌, ◌||◌, ◌==◌, not, ℕ, zero, suc, ◌<◌, ℤ, ◌-ℤ◌, get_or, Bool, true, false, List, [], ◌∷◌, length, inl, inr}
+use Rattle.image_fitting.proofs.Common.{Option, Some, None, refl, sym, ap, subst, slice_get, none-some, slice_get_within, slice_get-get_or, In, Fact, Value}
+use Rattle.image_fitting.proofs.Common.{Extra, Row, Image, Condition, Life, Plain, Explicit, Finite, Infinite, LifeTable, Program, Snapshot, is_event}
+use Rattle.image_fitting.proofs.Common.{values_fit, IsLawful, AreSafe, world_of, IsNeeded, snapshot_of, laden_with, extra_at, is_within, is_inside}
+use Rattle.image_fitting.proofs.Common.{is_candidate, fits, HaveDistinctTags, expiry_of, extra_values_of, laden_gives, laden_line}
+use Rattle.std.proofs.lemmas.Bool.{and_parts, or_right}
 use Rattle.std.specs.Option.{is_some}
 use Rattle.std.proofs.lemmas.Map.Views.{tells_apart}
 use Rattle.row_delta.specs.declared.row.Named.{Named}
@@ -10,7 +15,6 @@ use Rattle.rule_model.specs.declared.program.TypeInfo.{TypeInfo}
 use Rattle.rule_model.specs.Candidates.{is_present}
 use Rattle.rule_model.specs.Tests.{tests_hold}
 use Rattle.rule_model.specs.Tuples.{name_of, unbound}
-use Rattle.rule_model.proofs.Firsts.{or_right}
 use Rattle.rule_model.proofs.Named.{of_filter}
 use Rattle.rule_model.proofs.Once.{one_fact}
 use Rattle.rule_model.proofs.Order.{passed}
@@ -22,7 +26,8 @@ use Rattle.condition_rows.specs.Lines.{is_ripe, empty_row, is_empty_row}
 use Rattle.condition_rows.specs.Sets.{held, candidates_of, has_partner}
 use Rattle.condition_rows.proofs.Joined.{candidate_of}
 use Rattle.keeping.specs.Kept.{is_alive}
-use Rattle.image_laws.specs.Laden.{laden}
+use Rattle.laden_rows.specs.Laden.{laden}
+use Rattle.fx_base.proofs.Sequences.{In-append}
 
 -- ---- what laden rows name
 
@@ -34,25 +39,25 @@ module _ (p : Program) (s : Snapshot) (d : HaveDistinctTags s.facts) where
   candidate_present : (q : Pattern) (who : Named) → candidates_of p q s who ≡ true → (f : Fact) × In f s.facts × (name_of f ≡ who) × (is_present p s.clock f ≡ true)
   candidate_present q who e =
       let f = candidate_of p s d q who e in
-      let fitting = (both_of (fits p q s.clock f.0) (is_inside p q q.window s.clock s.facts f.0) (passed (is_candidate p q s) f.0 s.facts f.1)).0 in
-      (f.0, of_filter (is_candidate p q s) f.0 s.facts f.1, f.2, (both_of (is_present p s.clock f.0) (f.0.ty.0 == q.ty.0 && (f.0.entry.0 == q.entry.0 && tests_hold unbound f.0 q.alone)) fitting).0)
+      let fitting = (and_parts (fits p q s.clock f.0) (is_inside p q q.window s.clock s.facts f.0) (passed (is_candidate p q s) f.0 s.facts f.1)).0 in
+      (f.0, of_filter (is_candidate p q s) f.0 s.facts f.1, f.2, (and_parts (is_present p s.clock f.0) (f.0.ty.0 == q.ty.0 && (f.0.entry.0 == q.entry.0 && tests_hold unbound f.0 q.alone)) fitting).0)
 
   line_present : (beyond : Row → Option Extra) (c : Condition) (left : Row → Bool) → NamePresent left → NamePresent (laden_line p s beyond c left)
   line_present beyond (plain_condition q) left h row e who i =
       let r = joined_from (joins q (held s)) left (candidates_of p q s) row e in
       let holds = sym (joined_with (joins q (held s)) left (candidates_of p q s) r.0 r.1) ∙ ap (joined (joins q (held s)) left (candidates_of p q s)) (sym r.2) ∙ e in
-      let a = both_of (left r.0) (candidates_of p q s r.1 && joins q (held s) r.0 r.1) holds in
-      let b = both_of (candidates_of p q s r.1) (joins q (held s) r.0 r.1) a.1 in
-      elim (of_append who r.0.facts (r.1 ∷ []) (subst (λ (z : Row). In who z.facts) r.2 i)) [
+      let a = and_parts (left r.0) (candidates_of p q s r.1 && joins q (held s) r.0 r.1) holds in
+      let b = and_parts (candidates_of p q s r.1) (joins q (held s) r.0 r.1) a.1 in
+      elim (In-append who r.0.facts (r.1 ∷ []) (subst (λ (z : Row). In who z.facts) r.2 i)) [
         | inl j ↦ h r.0 a.0 who j
         | inr (inl same) ↦ candidate_present q who (ap (candidates_of p q s) same ∙ b.0)
         | inr (inr j) ↦ absurd j
       ]
-  line_present beyond (Negated q) left h row e who i = h row (both_of (left row) (not (has_partner p q s row || is_some (beyond row)) && is_ripe p q s row) e).0 who i
-  line_present beyond (Existing q) left h row e who i = h row (both_of (left row) (has_partner p q s row || is_some (beyond row)) e).0 who i
+  line_present beyond (Negated q) left h row e who i = h row (and_parts (left row) (not (has_partner p q s row || is_some (beyond row)) && is_ripe p q s row) e).0 who i
+  line_present beyond (Existing q) left h row e who i = h row (and_parts (left row) (has_partner p q s row || is_some (beyond row)) e).0 who i
   line_present beyond (Folded a) left h row e who i =
-      let r = valued_from (λ without v. left without && laden_gives p a s (values_of (beyond without)) without v) row e in
-      h r.0 (both_of (left r.0) (laden_gives p a s (values_of (beyond r.0)) r.0 r.1) r.3).0 who (subst (λ (z : Row). In who z.facts) r.2 i)
+      let r = valued_from (λ without v. left without && laden_gives p a s (extra_values_of (beyond without)) without v) row e in
+      h r.0 (and_parts (left r.0) (laden_gives p a s (extra_values_of (beyond r.0)) r.0 r.1) r.3).0 who (subst (λ (z : Row). In who z.facts) r.2 i)
 
   empty_present : NamePresent is_empty_row
   empty_present row e who i = absurd (subst (λ (z : Row). In who z.facts) (tells_apart row_exact row empty_row e) i)
@@ -102,7 +107,7 @@ module _ (p : Program) (table : LifeTable) (image : Image) (owners : ℕ → ℕ
 
       by : (o : Option Life) → slice_get table.lives f.ty.0 ≡ o → is_present p image.clock f ≡ true
       by None at =
-          let fitting = (both_of (values_fit (slice_get p.types f.ty.0) f.fields) _ (l.sound f i).fits).0 in
+          let fitting = (and_parts (values_fit (slice_get p.types f.ty.0) f.fields) _ (l.sound f i).fits).0 in
           let type_there : f.ty.0 < length p.types = typed p.types f.ty.0 f.fields (slice_get p.types f.ty.0) refl fitting in
           let life_there : f.ty.0 < length table.lives = subst (λ n. f.ty.0 < n) (sym safe.as_many) type_there in
           absurd (none-some (get_or table.lives f.ty.0 Plain) (sym at ∙ slice_get-get_or table.lives f.ty.0 Plain life_there))

@@ -1,5 +1,8 @@
 -- The first rules with the conditions of a rule up to each of them, as the rules are gone through.
-use Rattle.image_fitting.proofs.Common.{◌≡◌, ◌∙◌, ℕ, zero, suc, ◌+◌, ◌-◌, ◌<◌, ◌≤◌, List, [], ◌∷◌, ◌++◌, length, take, replicate, Option, Some, None, refl, sym, ap, subst, arith, inl, inr, ◌⊎◌, slice_get, length-replicate, slice_get_within, same_Some, Condition, Program, Rule, IsFirstWith, AreFirsts, IsTable, option_map, length-append, length_push, take-take}
+use Rattle.image_fitting.proofs.Common.{◌≡◌, ◌∙◌, ℕ, zero, suc, ◌+◌, ◌-◌, ◌<◌, ◌≤◌, List, [], ◌∷◌, ◌++◌, length, take, replicate, Option, Some, None, refl, sym}
+use Rattle.image_fitting.proofs.Common.{ap, subst, arith, inl, inr, ◌⊎◌, slice_get, length-replicate, slice_get_within, same_Some, Condition, Program, Rule}
+use Rattle.image_fitting.proofs.Common.{IsFirstWith, AreFirsts, IsPlaceTable, option_map, length-append, length_push, take-take}
+use Rattle.fx_base.proofs.Orders.{below_or_last}
 
 -- ---- lists that begin alike
 
@@ -35,12 +38,6 @@ module _ {A : Type 0} where
   at_push [] x (suc n) e = absurd (omega arith)
   at_push (y ∷ xs) x zero e = absurd (omega arith)
   at_push (y ∷ xs) x (suc n) e = at_push xs x n (omega arith)
-
-below_or_last : (i j : ℕ) → i < j + 1 → (i < j) ⊎ (i ≡ j)
-below_or_last zero zero h = inr refl
-below_or_last zero (suc j) h = inl (omega arith)
-below_or_last (suc i) zero h = absurd (omega arith)
-below_or_last (suc i) (suc j) h = elim (below_or_last i j (omega arith)) [ inl l ↦ inl (omega arith) | inr q ↦ inr (ap suc q) ]
 
 mapped : {A B : Type 0} (f : A → B) (o : Option A) (y : B) → option_map f o ≡ Some y → (x : A) × (o ≡ Some x) × (f x ≡ y)
 mapped f None y e = absurd cc
@@ -136,7 +133,7 @@ one_rule_more p table n firsts are so_far = record {
     by place rule stands (inr q) =
         (firsts, ap (slice_get (table ++ firsts ∷ [])) q ∙ at_push table firsts n so_far.as_many, are rule (ap (slice_get p.rules) (sym q) ∙ stands))
 
-pub whole_table : (p : Program) (table : List (List ℕ)) (n : ℕ) → length p.rules ≤ n → IsTableOf p table n → IsTable p table
+pub whole_table : (p : Program) (table : List (List ℕ)) (n : ℕ) → length p.rules ≤ n → IsTableOf p table n → IsPlaceTable p table
 whole_table p table n over so_far = record {
   each = λ place rule stands. (let less : place < length p.rules = slice_get_within p.rules place rule stands in so_far.each place rule (omega arith) stands);
 }

@@ -1,14 +1,21 @@
 -- What single tests tell: orders, ids, values that rise, and kinds.
-use Rattle.image_fitting.proofs.Common.{◌≡◌, ◌↔◌, ◌∙◌, ◌&&◌, ◌==◌, not, ℕ, suc, ◌+◌, ◌<◌, ◌≤◌, ℤ, pos, Bool, true, false, cond, List, [], ◌∷◌, map, length, get_or, drop, Some, IsTrue, refl, sym, ap, subst, arith, inl, inr, Less, Equal, AllAdjacentBelow, nat_cmp, nat_tests, ints, In, Fact, Value, HaveDistinctIds, int_lt, Greater, AllByRecursion, IsAllAdjacentAnswer, IsPermutation, IsSorted, int_cmp, is_le, is_lt, is_some_and, eq_by_cmp, ordering_index, nat_cmp_total, eq_by_cmp_equiv, drop_more, drop_all, get_or_default, in_map, of_map, has_kind}
+use Rattle.image_fitting.proofs.Common.{◌≡◌, ◌↔◌, ◌∙◌, ◌&&◌, ◌==◌, not, ℕ, suc, ◌+◌, ◌<◌, ◌≤◌, ℤ, pos, Bool, true, false, cond, List, [], ◌∷◌, map, length}
+use Rattle.image_fitting.proofs.Common.{get_or, drop, Some, IsTrue, refl, sym, ap, subst, arith, inl, inr, Less, Equal, AllAdjacentBelow, nat_cmp, ints, In}
+use Rattle.image_fitting.proofs.Common.{Fact, Value, HaveDistinctIds, int_lt, Greater, AllByRecursion, IsAllAdjacentAnswer, IsPermutation, IsSorted, int_cmp}
+use Rattle.image_fitting.proofs.Common.{is_le, is_lt, is_some_and, eq_by_cmp, ordering_index, drop_more, drop_all, get_or_default, in_map, of_map, has_kind}
+use Rattle.std.proofs.lemmas.Bool.{ne_eqb}
+use Rattle.std.proofs.Math.Bool.{and-false}
 use Rattle.std.specs.declared.cmp.Ordering.{Ordering}
 use Rattle.std.specs.Cmp.{IsTotalOrder}
 use Rattle.std.specs.List.{IsDistinct}
 use Rattle.std.specs.List.Sorted.{IsStrictlySortedBy}
 use Rattle.std.proofs.lemmas.List.Sorted.{IsPermutation-sym, IsNonDecreasingBy-from_sort}
-use Rattle.std.proofs.lemmas.Map.Keys.{IsDistinct-from_sorted, IsDistinct-IsPermutation, IsStrictlyIncreasing-from_distinct, Less-from_sorted, sorted_from_all_adjacent, sorted_from_strictly_increasing}
+use Rattle.std.proofs.lemmas.Map.Keys.{IsDistinct-from_sorted, IsDistinct-IsPermutation, IsStrictlyIncreasing-from_distinct, Less-from_sorted}
+use Rattle.std.proofs.lemmas.Map.Keys.{sorted_from_all_adjacent, sorted_from_strictly_increasing}
 use Rattle.fx_base.specs.declared.ids.FactId.{FactId}
 use Rattle.fx_base.specs.declared.kind.Kind.{Kind}
 use Rattle.rule_world.specs.Kinds.{have_kinds}
+use Rattle.fx_base.proofs.Orders.{eq_by_nat_cmp-flip, eq_by_nat_cmp-self, eqb-flip}
 
 pub always : {P : Type 0} → P → IsTrue true ↔ P
 always x = (λ e. x, λ y. refl)
@@ -76,9 +83,6 @@ number f = f.id.0
 abbrev numbered : ℕ → FactId
 numbered n = record { 0 = n }
 
-same_tie : (n : ℕ) → eq_by_cmp nat_cmp n n ≡ true
-same_tie n = (eq_by_cmp_equiv nat_cmp_total).refl n
-
 once_by_number : (facts : List Fact) → IsDistinct (eq_by_cmp nat_cmp) (map number facts) → HaveDistinctIds facts
 unfolding IsDistinct
 once_by_number [] d = tt
@@ -86,13 +90,10 @@ once_by_number (f ∷ facts) d = (
   λ i.
       let g = of_map (λ (g : Fact). g.id) f.id facts i in
       let apart = all_of (λ n. eq_by_cmp nat_cmp f.id.0 n ≡ false) (map number facts) g.0.id.0 d.0 (in_map number g.0 facts g.1) in
-      let same : eq_by_cmp nat_cmp f.id.0 g.0.id.0 ≡ true = ap (λ (id : FactId). eq_by_cmp nat_cmp f.id.0 id.0) g.2 ∙ same_tie f.id.0 in
+      let same : eq_by_cmp nat_cmp f.id.0 g.0.id.0 ≡ true = ap (λ (id : FactId). eq_by_cmp nat_cmp f.id.0 id.0) g.2 ∙ eq_by_nat_cmp-self f.id.0 in
       absurd (let n : true ≡ false = sym same ∙ apart in cc),
   once_by_number facts d.1,
 )
-
-differs : (m n : ℕ) → (m ≡ n → ⊥) → (m == n) ≡ false
-differs m n h = grind (arith, nat_tests)
 
 number_once : (facts : List Fact) → HaveDistinctIds facts → IsDistinct ◌==◌ (map number facts)
 unfolding IsDistinct
@@ -100,36 +101,26 @@ number_once [] d = tt
 number_once (f ∷ facts) d = (
   of_all (λ n. (f.id.0 == n) ≡ false) (map number facts) (λ n i.
       let g = of_map number n facts i in
-      differs f.id.0 n (λ e. d.0 (subst (λ (id : FactId). In id (map (λ (h : Fact). h.id) facts)) (ap numbered (g.2 ∙ sym e)) (in_map (λ (h : Fact). h.id) g.0 facts g.1)))),
+      ne_eqb f.id.0 n (λ e. d.0 (subst (λ (id : FactId). In id (map (λ (h : Fact). h.id) facts)) (ap numbered (g.2 ∙ sym e)) (in_map (λ (h : Fact). h.id) g.0 facts g.1)))),
   number_once facts d.1,
 )
-
-tie_flips : (m n : ℕ) → eq_by_cmp nat_cmp m n ≡ eq_by_cmp nat_cmp n m
-tie_flips m n = (eq_by_cmp_equiv nat_cmp_total).symm m n
-
-same_flips : (m n : ℕ) → (m == n) ≡ (n == m)
-same_flips m n = grind (arith, nat_tests)
 
 pub distinct_is : (facts : List Fact) (ids sorted : List ℕ) (r : Bool) → ids ≡ map number facts → IsPermutation ids sorted → IsSorted nat_cmp sorted → IsTrue r ↔ IsStrictlySortedBy nat_cmp sorted → IsTrue r ↔ HaveDistinctIds facts
 distinct_is facts ids sorted r are permuted rising is = (
   λ e. once_by_number facts (subst (IsDistinct (eq_by_cmp nat_cmp)) are
-      (IsDistinct-IsPermutation (eq_by_cmp nat_cmp) tie_flips sorted ids (IsPermutation-sym ids sorted permuted) (IsDistinct-from_sorted nat_cmp sorted (is.0 e)))),
+      (IsDistinct-IsPermutation (eq_by_cmp nat_cmp) eq_by_nat_cmp-flip sorted ids (IsPermutation-sym ids sorted permuted) (IsDistinct-from_sorted nat_cmp sorted (is.0 e)))),
   λ d. is.1 (sorted_from_strictly_increasing sorted (IsStrictlyIncreasing-from_distinct sorted (IsNonDecreasingBy-from_sort (λ n. n) sorted rising)
-      (IsDistinct-IsPermutation ◌==◌ same_flips ids sorted permuted (subst (IsDistinct ◌==◌) (sym are) (number_once facts d))))),
+      (IsDistinct-IsPermutation ◌==◌ eqb-flip ids sorted permuted (subst (IsDistinct ◌==◌) (sym are) (number_once facts d))))),
 )
 
 -- ---- kinds
-
-and_false : (b : Bool) → (b && false) ≡ false
-and_false true = refl
-and_false false = refl
 
 pub unlike_kinds : (fields : List (List ℕ × Kind)) (vs : List Value) → (length fields ≡ length vs → ⊥) → have_kinds fields vs ≡ false
 unfolding have_kinds
 unlike_kinds [] [] h = absurd (h refl)
 unlike_kinds [] (v ∷ vs) h = refl
 unlike_kinds (field ∷ fields) [] h = refl
-unlike_kinds (field ∷ fields) (v ∷ vs) h = ap (λ b. has_kind field.1 v && b) (unlike_kinds fields vs (λ e. h (ap suc e))) ∙ and_false (has_kind field.1 v)
+unlike_kinds (field ∷ fields) (v ∷ vs) h = ap (λ b. has_kind field.1 v && b) (unlike_kinds fields vs (λ e. h (ap suc e))) ∙ and-false (has_kind field.1 v)
 
 pub kinds_at : (fields : List (List ℕ × Kind)) (vs : List Value) (k : ℕ) (field : List ℕ × Kind) (v : Value) → k < length fields → k < length vs → field ≡ get_or fields k field → v ≡ get_or vs k v
     → have_kinds (drop k fields) (drop k vs) ≡ (has_kind field.1 v && have_kinds (drop (k + 1) fields) (drop (k + 1) vs))

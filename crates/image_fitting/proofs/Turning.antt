@@ -1,17 +1,9 @@
 -- Events that come in turn: one turn of the loop, and what the test says.
-use Rattle.image_fitting.proofs.Common.{◌≡◌, ◌∙◌, ◌&&◌, ◌==◌, ℕ, ◌<◌, ℤ, pos, ◌≤ℤ◌, Bool, true, false, List, [], ◌∷◌, length, get_or, set, inl, inr, refl, sym, ap, subst, arith, nat_lt, int_le, slice_index_or, nat_tests, ints, In, Fact, Program, is_event, both_of, come_in_turn, slice_set, length-set, get_or-set_same, get_or-set_other}
-
-below_is : (m n : ℕ) → m < n → nat_lt m n ≡ true
-below_is m n h = grind (arith, nat_tests)
-
-is_below : (m n : ℕ) → nat_lt m n ≡ true → m < n
-is_below m n e = grind (arith, nat_tests)
-
-most_is : (a b : ℤ) → a ≤ℤ b → int_le a b ≡ true
-most_is a b h = grind (arith, ints)
-
-is_most : (a b : ℤ) → int_le a b ≡ true → a ≤ℤ b
-is_most a b e = grind (arith, ints)
+use Rattle.image_fitting.proofs.Common.{◌≡◌, ◌∙◌, ◌&&◌, ◌==◌, ℕ, ◌<◌, ℤ, pos, ◌≤ℤ◌, Bool, true, false, List, [], ◌∷◌, length, get_or, set, inl, inr, refl, sym}
+use Rattle.image_fitting.proofs.Common.{ap, subst, nat_lt, int_le, slice_index_or, In, Fact, Program, is_event, come_in_turn, slice_set, length-set}
+use Rattle.image_fitting.proofs.Common.{get_or-set_same, get_or-set_other}
+use Rattle.std.proofs.lemmas.Bool.{and_parts, eqb-false, eqb-true, lt-ltb, ltb-true}
+use Rattle.fx_base.proofs.Orders.{int_le-true, le-int_le, ≤ℤ_trans}
 
 -- ---- one turn
 
@@ -21,14 +13,14 @@ module _ (p : Program) (latest : List ℤ) (f : Fact) (facts : List Fact) where
 
   event_turn : is_event p f.ty.0 ≡ true → f.entry.0 < length latest → slice_index_or latest f.entry.0 (pos 0) ≤ℤ f.times.start
       → come_in_turn p latest (f ∷ facts) ≡ come_in_turn p (slice_set latest f.entry.0 f.times.start) facts
-  event_turn e h k = rw (e, below_is f.entry.0 (length latest) h, most_is (slice_index_or latest f.entry.0 (pos 0)) f.times.start k) refl
+  event_turn e h k = rw (e, lt-ltb f.entry.0 (length latest) h, le-int_le (slice_index_or latest f.entry.0 (pos 0)) f.times.start k) refl
 
   event_parts : is_event p f.ty.0 ≡ true → come_in_turn p latest (f ∷ facts) ≡ true
       → (f.entry.0 < length latest) × (slice_index_or latest f.entry.0 (pos 0) ≤ℤ f.times.start) × (come_in_turn p (slice_set latest f.entry.0 f.times.start) facts ≡ true)
   event_parts e h =
-      let all = both_of (nat_lt f.entry.0 (length latest)) (int_le (slice_index_or latest f.entry.0 (pos 0)) f.times.start && come_in_turn p (slice_set latest f.entry.0 f.times.start) facts) (rw e at h) in
-      let more = both_of (int_le (slice_index_or latest f.entry.0 (pos 0)) f.times.start) (come_in_turn p (slice_set latest f.entry.0 f.times.start) facts) all.1 in
-      (is_below f.entry.0 (length latest) all.0, is_most (slice_index_or latest f.entry.0 (pos 0)) f.times.start more.0, more.1)
+      let all = and_parts (nat_lt f.entry.0 (length latest)) (int_le (slice_index_or latest f.entry.0 (pos 0)) f.times.start && come_in_turn p (slice_set latest f.entry.0 f.times.start) facts) (rw e at h) in
+      let more = and_parts (int_le (slice_index_or latest f.entry.0 (pos 0)) f.times.start) (come_in_turn p (slice_set latest f.entry.0 f.times.start) facts) all.1 in
+      (ltb-true f.entry.0 (length latest) all.0, int_le-true (slice_index_or latest f.entry.0 (pos 0)) f.times.start more.0, more.1)
 
 -- ---- what the test says
 
@@ -50,30 +42,21 @@ same_entry latest e n start q h = ap (λ m. get_or (set latest e start) m (pos 0
 other_entry : (latest : List ℤ) (e n : ℕ) (start : ℤ) → (n ≡ e → ⊥) → slice_index_or (slice_set latest e start) n (pos 0) ≡ slice_index_or latest n (pos 0)
 other_entry latest e n start q = get_or-set_other latest e n start (pos 0) q
 
-through : (a b c : ℤ) → a ≤ℤ b → b ≤ℤ c → a ≤ℤ c
-through a b c h k = omega (arith, ints)
-
-number_is : (m n : ℕ) → (m == n) ≡ true → m ≡ n
-number_is m n e = grind (arith, nat_tests)
-
-number_is_not : (m n : ℕ) → (m == n) ≡ false → m ≡ n → ⊥
-number_is_not m n e h = grind (arith, nat_tests)
-
 module _ (p : Program) where
   before_too : (latest : List ℤ) (f g : Fact) (b : Bool) → (g.entry.0 == f.entry.0) ≡ b → f.entry.0 < length latest → slice_index_or latest f.entry.0 (pos 0) ≤ℤ f.times.start
       → slice_index_or (slice_set latest f.entry.0 f.times.start) g.entry.0 (pos 0) ≤ℤ g.times.start → slice_index_or latest g.entry.0 (pos 0) ≤ℤ g.times.start
   before_too latest f g true e inside h k =
-      let same = number_is g.entry.0 f.entry.0 e in
+      let same = eqb-true g.entry.0 f.entry.0 e in
       subst (λ n. slice_index_or latest n (pos 0) ≤ℤ g.times.start) (sym same)
-      (through (slice_index_or latest f.entry.0 (pos 0)) f.times.start g.times.start h (subst (λ z. z ≤ℤ g.times.start) (same_entry latest f.entry.0 g.entry.0 f.times.start same inside) k))
-  before_too latest f g false e inside h k = subst (λ z. z ≤ℤ g.times.start) (other_entry latest f.entry.0 g.entry.0 f.times.start (number_is_not g.entry.0 f.entry.0 e)) k
+      (≤ℤ_trans (slice_index_or latest f.entry.0 (pos 0)) f.times.start g.times.start h (subst (λ z. z ≤ℤ g.times.start) (same_entry latest f.entry.0 g.entry.0 f.times.start same inside) k))
+  before_too latest f g false e inside h k = subst (λ z. z ≤ℤ g.times.start) (other_entry latest f.entry.0 g.entry.0 f.times.start (eqb-false g.entry.0 f.entry.0 e)) k
 
   after_too : (latest : List ℤ) (f g : Fact) (b : Bool) → (g.entry.0 == f.entry.0) ≡ b → f.entry.0 < length latest → (f.entry.0 ≡ g.entry.0 → f.times.start ≤ℤ g.times.start)
       → slice_index_or latest g.entry.0 (pos 0) ≤ℤ g.times.start → slice_index_or (slice_set latest f.entry.0 f.times.start) g.entry.0 (pos 0) ≤ℤ g.times.start
   after_too latest f g true e inside h k =
-      let same = number_is g.entry.0 f.entry.0 e in
+      let same = eqb-true g.entry.0 f.entry.0 e in
       subst (λ z. z ≤ℤ g.times.start) (sym (same_entry latest f.entry.0 g.entry.0 f.times.start same inside)) (h (sym same))
-  after_too latest f g false e inside h k = subst (λ z. z ≤ℤ g.times.start) (sym (other_entry latest f.entry.0 g.entry.0 f.times.start (number_is_not g.entry.0 f.entry.0 e))) k
+  after_too latest f g false e inside h k = subst (λ z. z ≤ℤ g.times.start) (sym (other_entry latest f.entry.0 g.entry.0 f.times.start (eqb-false g.entry.0 f.entry.0 e))) k
 
   abbrev TurnSays : List ℤ → List Fact → Type 0
   TurnSays latest facts = come_in_turn p latest facts ≡ true → StartInTurn p facts × StartFrom p latest facts

@@ -5,8 +5,9 @@ use Rattle.fx_base.specs.declared.fact.Fact.{Fact}
 use Rattle.row_delta.specs.declared.extra.Extra.{Extra}
 use Rattle.row_delta.specs.RowOrder.{row_total}
 use Rattle.rule_model.specs.MatchOrders.{match_total}
-use Rattle.image_laws.specs.Extras.{extra_cmp}
-use Rattle.image_laws.specs.Images.{tag_cmp, match_fired, fired_cmp}
+use Rattle.laden_rows.specs.Extras.{extra_cmp}
+use Rattle.rule_model.specs.Distinct.{tag_cmp}
+use Rattle.image_laws.specs.Images.{match_fired, fired_cmp}
 
 pub tag_total : IsTotalOrder tag_cmp
 tag_total = on_total (λ (f : Fact). f.tag.0) nat_cmp_total

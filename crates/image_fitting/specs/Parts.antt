@@ -5,10 +5,10 @@ use Rattle.std.specs.List.Sorted.{IsStrictlySortedBy}
 use Rattle.checkpoint.specs.declared.image.Image.{Image}
 use Rattle.rule_model.specs.declared.life.LifeTable.{LifeTable}
 use Rattle.rule_model.specs.declared.program.Program.{Program}
-use Rattle.rule_model.specs.Distinct.{HaveDistinctIds}
-use Rattle.image_laws.specs.Extras.{extra_cmp}
-use Rattle.image_laws.specs.Fitting.{IsPlaced}
-use Rattle.image_laws.specs.Images.{tag_cmp, fired_cmp}
+use Rattle.rule_model.specs.Distinct.{HaveDistinctIds, tag_cmp}
+use Rattle.laden_rows.specs.Extras.{extra_cmp}
+use Rattle.image_laws.specs.Fitting.{IsForgettable}
+use Rattle.image_laws.specs.Images.{fired_cmp}
 use Rattle.image_fitting.specs.Tests.{counts_fit, moments_fit, is_at_hand, come_in_turn}
 
 -- the numbers and the moments, and what is asked of each fact alone
@@ -26,7 +26,7 @@ pub record OrdersFit (image : Image) : Type 0 where
 pub record FitsAlone (p : Program) (table : LifeTable) (image : Image) : Type 0 where
   pub numbers : NumbersFit p image
   pub orders : OrdersFit image
-  pub placed : All (IsPlaced p table) image.extras
+  pub placed : All (IsForgettable p table) image.extras
 
 pub record FitByParts (p : Program) (table : LifeTable) (image : Image) : Type 0 where
   pub alone : FitsAlone p table image

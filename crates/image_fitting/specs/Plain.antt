@@ -11,10 +11,12 @@ use Rattle.rule_model.specs.declared.program.Program.{Program}
 use Rattle.rule_model.specs.Candidates.{is_present}
 use Rattle.rule_world.specs.Lawful.{IsLawful}
 use Rattle.rule_lives.specs.Keeping.{AreSafe}
-use Rattle.image_laws.specs.Extras.{extra_cmp}
-use Rattle.image_laws.specs.Fitting.{world_of, IsNextNumber, IsSmall, IsPlaced, IsLaden, IsLadenMatch, IsNeeded, Fits}
-use Rattle.image_laws.specs.Images.{tag_cmp, fired_cmp}
-use Rattle.image_laws.specs.Laden.{AreOwners}
+use Rattle.laden_rows.specs.Extras.{extra_cmp}
+use Rattle.image_laws.specs.Fitting.{world_of, IsNextNumber, IsForgettable, IsLadenRow, IsLadenMatch, IsNeeded, Fits}
+use Rattle.laden_rows.specs.Placed.{IsSmall}
+use Rattle.rule_model.specs.Distinct.{tag_cmp}
+use Rattle.image_laws.specs.Images.{fired_cmp}
+use Rattle.laden_rows.specs.Laden.{AreOwners}
 
 -- An image fits a program with a table of lives, but for what asks the rows over its facts: its numbers, its facts, which are present, its
 -- orders, and the places of its extras.
@@ -30,11 +32,11 @@ pub record FitsPlainly (p : Program) (table : LifeTable) (image : Image) : Type 
   pub facts_in_order : IsStrictlySortedBy tag_cmp image.facts
   pub fired_in_order : IsStrictlySortedBy fired_cmp image.fired
   pub extras_in_order : IsStrictlySortedBy extra_cmp image.extras
-  pub placed : (e : Extra) → In e image.extras → IsPlaced p table e
+  pub placed : (e : Extra) → In e image.extras → IsForgettable p table e
 
 -- What asks the rows over the facts of an image: those of extras and the fired matches are there, and the facts are those that are kept.
 pub record FitsByRows (p : Program) (table : LifeTable) (image : Image) (owners : ℕ → ℕ → ℕ) : Type 0 where
-  pub rows : (e : Extra) → In e image.extras → IsLaden p image owners e.rule.0 e.row e.condition
+  pub rows : (e : Extra) → In e image.extras → IsLadenRow p image owners e.rule.0 e.row e.condition
   pub fired : (m : FiredMatch) → In m image.fired → IsLadenMatch p image owners m.rule.0 m.row
   pub needed : (f : Fact) → In f image.facts → IsNeeded p table image owners f
 

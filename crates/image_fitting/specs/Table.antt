@@ -7,10 +7,9 @@ use Rattle.rule_model.specs.declared.life.Life.TheVariants.{Finite}
 use Rattle.rule_model.specs.declared.life.LifeTable.{LifeTable}
 use Rattle.rule_model.specs.declared.program.Program.{Program}
 use Rattle.rule_model.specs.declared.program.Rule.{Rule}
-use Rattle.rule_model.specs.Rows.{pattern_of}
-use Rattle.rule_lives.specs.Networks.{binds}
-use Rattle.image_laws.specs.Extras.{IsFirstWith}
-use Rattle.image_laws.specs.Fitting.{IsSmall, CanGather}
+use Rattle.rule_model.specs.Rows.{pattern_of, binds}
+use Rattle.laden_rows.specs.Extras.{IsFirstWith}
+use Rattle.laden_rows.specs.Placed.{IsSmall, CanGather}
 
 -- for each of these conditions the first rule that has them up to that one
 pub record AreFirsts (p : Program) (conditions : List Condition) (firsts : List ℕ) : Type 0 where
@@ -18,7 +17,7 @@ pub record AreFirsts (p : Program) (conditions : List Condition) (firsts : List 
   pub each : (k place : ℕ) → slice_get firsts k ≡ Some place → IsFirstWith p (suc k) conditions place
 
 -- those of each rule, by its place
-pub record IsTable (p : Program) (table : List (List ℕ)) : Type 0 where
+pub record IsPlaceTable (p : Program) (table : List (List ℕ)) : Type 0 where
   pub each : (place : ℕ) (rule : Rule) → slice_get p.rules place ≡ Some rule → (firsts : List ℕ) × (slice_get table place ≡ Some firsts) × AreFirsts p rule.conditions firsts
 
 abbrev pub first_at : Option (List ℕ) → ℕ → Option ℕ

@@ -1,5 +1,6 @@
 -- The tests by which the code tells whether an image fits plainly.
-use Rattle.std.specs.Prelude.{ℕ, ◌^◌, ◌==◌, ◌&&◌, ◌||◌, not, Bool, true, nat_lt, nat_le, ℤ, pos, ◌+ℤ◌, int_le, List, [], ◌∷◌, length, slice_index_or, slice_set, if◌then◌else◌}
+use Rattle.std.specs.Prelude.{ℕ, ◌^◌, ◌==◌, ◌&&◌, ◌||◌, not, Bool, true, nat_lt, nat_le, ℤ, pos, ◌+ℤ◌, int_le, List, [], ◌∷◌, length, slice_index_or, slice_set}
+use Rattle.std.specs.Prelude.{if◌then◌else◌}
 use Rattle.std.specs.List.{list_all}
 use Rattle.std.specs.Ordering.{int_eq}
 use Rattle.fx_base.specs.declared.fact.Fact.{Fact}
@@ -41,12 +42,12 @@ abbrev pub ends_as_its_type : Bool → Times → Bool
 ends_as_its_type point times = not point || int_eq times.end times.start
 
 -- an event lasts at most 2^53 ms
-abbrev pub is_short : Times → Bool
-is_short times = int_le times.end (times.start +ℤ most_millis)
+abbrev pub is_event_short : Times → Bool
+is_event_short times = int_le times.end (times.start +ℤ most_millis)
 
 -- an event ends behind its start or there, as its type has it, and not too late
 abbrev pub is_lasting : Bool → Times → Bool
-is_lasting point times = int_le times.start times.end && (ends_as_its_type point times && is_short times)
+is_lasting point times = int_le times.start times.end && (ends_as_its_type point times && is_event_short times)
 
 -- the times of an event of a type of points or not, by the clock and the last start of its entry point
 abbrev pub is_timed : Bool → ℤ → ℤ → Times → Bool

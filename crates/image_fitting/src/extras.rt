@@ -3,9 +3,10 @@ ghost use Rattle.std.specs.Prelude.{◌≡◌, ◌↔◌, true, false, slice_get
 ghost use Rattle.std.specs.List.{All};
 ghost use Rattle.std.specs.List.Sorted.{IsSorted};
 ghost use Rattle.std.specs.Ordering.{int_cmp};
-ghost use Rattle.rule_lives.specs.Networks.{binds};
-ghost use Rattle.image_laws.specs.Fitting.{CanGather, IsPlaced};
-ghost use Rattle.image_fitting.specs.Table.{IsTable, is_finite, is_first as is_first_in, CanCount};
+ghost use Rattle.rule_model.specs.Rows.{binds};
+ghost use Rattle.laden_rows.specs.Placed.{CanGather};
+ghost use Rattle.image_laws.specs.Fitting.{IsForgettable};
+ghost use Rattle.image_fitting.specs.Table.{IsPlaceTable, is_finite, is_first as is_first_in, CanCount};
 
 use crate::numbers::is_small;
 use crate::table::is_first;
@@ -78,7 +79,7 @@ fn condition_at(rule: &Rule, place: usize) -> Option<&Condition>
 
 // Whether an extra has its place, by a table of the first rules with their conditions.
 fn is_placed(program: &Program, lives: &LifeTable, table: &[Seq<usize>], extra: &Extra) -> bool
-    ensures { IsTable program.now table.now → (IsTrue result ↔ IsPlaced program.now lives.now extra.now) }
+    ensures { IsPlaceTable program.now table.now → (IsTrue result ↔ IsForgettable program.now lives.now extra.now) }
 {
     match rule_at(program, extra.rule.0 as usize) {
         Some(rule) => match condition_at(rule, extra.condition as usize) {
@@ -96,7 +97,7 @@ pub(crate) fn are_placed(
     table: &[Seq<usize>],
     extras: &[Extra],
 ) -> bool
-    ensures { IsTable program.now table.now → (IsTrue result ↔ All (IsPlaced program.now lives.now) extras.now) }
+    ensures { IsPlaceTable program.now table.now → (IsTrue result ↔ All (IsForgettable program.now lives.now) extras.now) }
 {
     for extra in extras {
         if !is_placed(program, lives, table, extra) {

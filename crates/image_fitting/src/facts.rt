@@ -4,7 +4,7 @@ ghost use Rattle.std.specs.List.{list_all};
 ghost use Rattle.rule_model.specs.Distinct.{HaveDistinctIds};
 ghost use Rattle.rule_model.specs.Moments.{moment_in};
 ghost use Rattle.rule_world.specs.Kinds.{has_kind as is_of_kind, have_kinds as are_of_kinds, fact_fits};
-ghost use Rattle.image_fitting.specs.Tests.{ends_as_its_type as does_end, is_short as is_short_event, is_lasting as does_last, is_timed as is_timed_event, times_fit as do_times_fit, is_at_hand as is_at_hand_in, come_in_turn as do_come_in_turn};
+ghost use Rattle.image_fitting.specs.Tests.{ends_as_its_type as does_end, is_event_short as is_short_event, is_lasting as does_last, is_timed as is_timed_event, times_fit as do_times_fit, is_at_hand as is_at_hand_in, come_in_turn as do_come_in_turn};
 
 use crate::numbers::is_reached;
 use crate::orders::are_in_order;

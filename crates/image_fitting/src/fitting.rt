@@ -1,8 +1,8 @@
 ghost use Rattle.std.specs.Prelude.{◌↔◌, ℕ, IfOk, OnOk, IsTrue};
-ghost use Rattle.image_laws.specs.Laden.{AreOwners};
+ghost use Rattle.laden_rows.specs.Laden.{AreOwners};
 ghost use Rattle.image_fitting.specs.Parts.{NumbersFit, OrdersFit, FitsAlone, FitByParts};
 ghost use Rattle.image_fitting.specs.Plain.{FitsPlainly};
-ghost use Rattle.image_fitting.specs.Table.{IsTable};
+ghost use Rattle.image_fitting.specs.Table.{IsPlaceTable};
 
 use crate::extras::are_placed;
 use crate::facts::{are_at_hand, come_in_turn, have_distinct_ids};
@@ -30,7 +30,7 @@ fn orders_fit(image: &Image) -> bool
 
 // What can be told without memory.
 fn fits_alone(program: &Program, lives: &LifeTable, table: &[Seq<usize>], image: &Image) -> bool
-    ensures { IsTable program.now table.now → (IsTrue result ↔ FitsAlone program.now lives.now image.now) }
+    ensures { IsPlaceTable program.now table.now → (IsTrue result ↔ FitsAlone program.now lives.now image.now) }
 {
     numbers_fit(program, image)
         && orders_fit(image)
@@ -45,7 +45,7 @@ fn fits_by_table(
     table: &[Seq<usize>],
     image: &Image,
 ) -> Result<bool, NoMemory>
-    ensures { IfOk result (λ yes. IsTable program.now table.now → (IsTrue yes ↔ FitByParts program.now lives.now image.now)) }
+    ensures { IfOk result (λ yes. IsPlaceTable program.now table.now → (IsTrue yes ↔ FitByParts program.now lives.now image.now)) }
 {
     if !fits_alone(program, lives, table, image) {
         return Ok(false);

@@ -34,7 +34,7 @@ impl Ranked for u64 {
 }
 
 impl Ranked for Fact {
-    ghost use Rattle.image_laws.specs.Images.{tag_cmp};
+    ghost use Rattle.rule_model.specs.Distinct.{tag_cmp};
     ghost use Rattle.image_fitting.specs.Orders.{tag_total};
 
     ghost order = { tag_cmp };
@@ -63,7 +63,7 @@ impl Ranked for FiredMatch {
 }
 
 impl Ranked for Extra {
-    ghost use Rattle.image_laws.specs.Extras.{extra_cmp};
+    ghost use Rattle.laden_rows.specs.Extras.{extra_cmp};
     ghost use Rattle.image_fitting.specs.Orders.{extra_total};
 
     ghost order = { extra_cmp };

@@ -1,11 +1,10 @@
 //! The table of the first rules that have the conditions of each rule up to each of them.
 ghost use Rattle.std.specs.Prelude.{◌≡◌, ◌≤◌, ◌<◌, ◌-◌, ◌++◌, ℕ, IfOk, OnOk, take, length, replicate, slice_get, Some, option_map};
 ghost use Rattle.rule_model.specs.declared.program.Rule.{Rule};
-ghost use Rattle.image_fitting.specs.Table.{AreFirsts, IsTable, is_first as is_first_in};
+ghost use Rattle.image_fitting.specs.Table.{AreFirsts, IsPlaceTable, is_first as is_first_in};
 
 use fx_base::{NoMemory, Seq};
 use rule_model::{Condition, Program};
-use same_condition::Same;
 use std::alloc::Global;
 
 // How many of their first conditions two rules share.
@@ -59,7 +58,7 @@ fn firsts(alloc: Global, program: &Program, place: usize) -> Result<Seq<usize>, 
 /// The table: for each condition of each rule, by their places, the first rule that has its conditions up to that one. It compares the
 /// conditions of each rule with those of the rules before it.
 pub(crate) fn first_rules(alloc: Global, program: &Program) -> Result<Vec<Seq<usize>>, NoMemory>
-    ensures { IfOk result (λ table. IsTable program.now table.items) }
+    ensures { IfOk result (λ table. IsPlaceTable program.now table.items) }
 {
     let mut table = Vec::new(alloc);
     for place in 0..program.rules.as_slice().len() {

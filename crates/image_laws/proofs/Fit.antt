@@ -1,34 +1,53 @@
 -- The image of a lawful world fits, where its numbers are small.
-use Rattle.image_laws.proofs.Common.{◌≡◌, ◌∙◌, ◌&&◌, ◌||◌, ◌==◌, not, ℕ, ℤ, pos, ◌<◌, ◌≤◌, ◌^◌, ◌≤ℤ◌, inl, inr, Bool, true, false, List, [], ◌∷◌, map, length, Option, Some, None, refl, sym, ap, subst, arith, slice_get, take, Less, AllByRecursion, nat_cmp, nat_tests, slice_get_within, In, EachOnce, Tag, Fact, Extra, Named, Row, FiredMatch, Image, Condition, Negated, Existing, Folded, Pattern, Life, Plain, Explicit, Finite, Infinite, LifeTable, Match, Program, Rule, is_present, is_inside, is_candidate, candidates, fits, argument, pattern_of, tests_hold, name_of, unbound, in_map, of_map, both, both_of, of_filter, once_filter, once_facts, passed, has_in, IsLawful, World, snapshot, AreSafe, not_true, clean, cleaned, rows_of, is_alive, is_forgotten, is_tested, passing_one, not_alive, lost_partners, values_gathered, tag_cmp, match_fired, snapshot_of, IsImageOf, AreOwners, IsSorted, list_any, int_cmp, length-rising, named_of, once_map, one_fact, rule_of, FollowedBy, EventsInOrder, pending, IsKept, named, has_name, name_in, is_named, none_passes, IsExtraIn, laden}
-use Rattle.std.specs.List.{IsDistinct}
+use Rattle.image_laws.proofs.Common.{◌≡◌, ◌∙◌, ◌&&◌, ◌||◌, ◌==◌, not, ℕ, ℤ, pos, ◌<◌, ◌≤◌, ◌^◌, ◌≤ℤ◌, inl, inr, Bool, true, false, List, [], ◌∷◌, map, length}
+use Rattle.image_laws.proofs.Common.{Option, Some, None, refl, sym, ap, subst, arith, slice_get, take, IsSorted, In, EachOnce, Tag, Fact, Extra, FiredMatch}
+use Rattle.image_laws.proofs.Common.{Image, Condition, Life, Plain, Explicit, Finite, Infinite, LifeTable, Match, Program, Rule, is_present, is_inside}
+use Rattle.image_laws.proofs.Common.{is_candidate, candidates, fits, argument, pattern_of, tests_hold, name_of, unbound, in_map, of_map, passed, has_in}
+use Rattle.image_laws.proofs.Common.{rule_of, IsLawful, FollowedBy, EventsInOrder, World, snapshot, pending, AreSafe, IsKept, named, is_alive, is_forgotten}
+use Rattle.image_laws.proofs.Common.{is_pending_named, is_tested, not_alive, tag_cmp, match_fired, snapshot_of, IsImageOf, AreOwners, laden, int_cmp, IsExtraIn}
+use Rattle.image_laws.proofs.Common.{and_from, and_parts, false_from_ne_true, tag_total, below_each, sorted_once, in_lost, laden_rows}
+use Rattle.std.specs.List.{AllByRecursion, list_any, IsDistinct}
+use Rattle.std.proofs.lemmas.Bool.Decides.{nat_tests}
+use Rattle.std.proofs.lemmas.Option.{slice_get_within}
+use Rattle.row_delta.specs.declared.row.Named.{Named}
+use Rattle.row_delta.specs.declared.row.Row.{Row}
+use Rattle.rule_model.specs.declared.condition.Condition.TheVariants.{Negated, Existing, Folded, Plain as plain_condition}
+use Rattle.rule_model.specs.declared.condition.Pattern.{Pattern}
+use Rattle.rule_model.specs.Rows.{rows}
+use Rattle.rule_model.proofs.Named.{of_filter, named_of}
+use Rattle.rule_model.proofs.Once.{once_filter, once_facts, once_map, one_fact}
+use Rattle.pair_memory.specs.Standing.{clean, cleaned}
+use Rattle.condition_rows.specs.Sets.{rows_of, partners}
+use Rattle.keeping.specs.Kept.{is_kept}
+use Rattle.fx_base.proofs.Sequences.{list_any-In, list_any-none}
+use Rattle.laden_rows.specs.Extras.{lost_partners, values_gathered}
+use Rattle.fold_fn.proofs.ResultLemmas.{length-rising}
+use Rattle.pair_memory.specs.Joined.{has_name}
+use Rattle.condition_rows.proofs.Ends.{name_in, in_has as row_in_has}
+use Rattle.std.specs.Int.Signed.{≤ℤ_refl}
 use Rattle.std.specs.List.Sorted.{IsStrictlySortedBy}
 use Rattle.std.proofs.lemmas.List.{take_all, length-map}
 use Rattle.std.proofs.lemmas.Map.Steps.{length-le_from_distinct_below}
 use Rattle.fx_base.specs.declared.ids.FactId.{FactId}
 use Rattle.fold_fn.proofs.Sorting.{sorted-rising}
-use Rattle.rule_model.specs.declared.condition.Condition.TheVariants.{Plain as plain_condition}
 use Rattle.rule_model.specs.Matches.{matches, has_match}
-use Rattle.rule_model.specs.Rows.{rows}
 use Rattle.rule_model.specs.Types.{is_event}
 use Rattle.rule_world.specs.Events.{most_millis}
 use Rattle.rule_world.proofs.Fresh.{below_of, below_all}
 use Rattle.rule_world.proofs.Ids.{under_all, id_number, id_below, one_id}
 use Rattle.rule_world.proofs.Pending.{has_pending}
-use Rattle.rule_world.proofs.Sound.{itself, sound_on}
-use Rattle.condition_rows.specs.Sets.{partners}
-use Rattle.condition_rows.proofs.Ends.{in_has as row_in_has}
-use Rattle.keeping.specs.Kept.{is_kept}
-use Rattle.image_laws.specs.Fitting.{world_of, IsNextNumber, IsSmall, CanGather, IsPlaced, IsLaden, IsLadenMatch, IsNeeded, Fits}
-use Rattle.image_laws.proofs.Extras.{first_of_some}
-use Rattle.image_laws.proofs.Imaged.{tag_total, image_tags, image_facts, image_kept, forgotten_is}
-use Rattle.image_laws.proofs.Rows.{in_lost, laden_rows}
-use Rattle.image_laws.proofs.Sorted.{below_each, sorted_once}
+use Rattle.rule_world.proofs.Sound.{sound_on}
+use Rattle.image_laws.specs.Fitting.{world_of, IsNextNumber, IsForgettable, IsLadenRow, IsLadenMatch, IsNeeded, Fits}
+use Rattle.laden_rows.specs.Placed.{IsSmall, CanGather}
+use Rattle.laden_rows.proofs.Extras.{first_of_some}
+use Rattle.image_laws.proofs.Imaged.{image_tags, image_facts, image_kept, forgotten_is}
+use Rattle.fx_base.proofs.Orders.{nat_cmp-Less}
 
 -- ---- numbers that are few
 
 differ : (x : ℕ) (xs : List ℕ) → (In x xs → ⊥) → AllByRecursion (λ y. (x == y) ≡ false) xs
 differ x [] h = tt
-differ x (y ∷ xs) h = (not_true (x == y) (λ e. h (inl (number_is x y e))), differ x xs (λ i. h (inr i)))
+differ x (y ∷ xs) h = (false_from_ne_true (x == y) (λ e. h (inl (number_is x y e))), differ x xs (λ i. h (inr i)))
   where
     number_is : (m n : ℕ) → (m == n) ≡ true → m ≡ n
     number_is m n e = grind (arith, nat_tests)
@@ -40,7 +59,7 @@ are_distinct (x ∷ xs) once = (differ x xs once.0, are_distinct xs once.1)
 
 all_below : (n : ℕ) (xs : List ℕ) → ((x : ℕ) → In x xs → x < n) → (q : ℕ) → list_any (λ y. q == y) xs ≡ true → q < n
 all_below n xs h q e =
-    let r = passing_one (λ y. q == y) xs e in
+    let r = list_any-In (λ y. q == y) xs e in
     subst (λ z. z < n) (sym (number_is q r.0 r.2)) (h r.0 r.1)
   where
     number_is : (m n : ℕ) → (m == n) ≡ true → m ≡ n
@@ -50,9 +69,6 @@ few : (xs : List ℕ) (n : ℕ) → EachOnce xs → ((x : ℕ) → In x xs → x
 few xs n once h = length-le_from_distinct_below xs n (are_distinct xs once) (all_below n xs h)
 
 -- ---- events in the order of their tags
-
-is_less : (m n : ℕ) → nat_cmp m n ≡ Less → m < n
-is_less m n e = grind (arith, nat_tests)
 
 -- of two events in order the one with the lesser tag comes first
 in_turn : (p : Program) (facts : List Fact) → EventsInOrder p facts → (f g : Fact) → In f facts → In g facts → is_event p f.ty.0 ≡ true → is_event p g.ty.0 ≡ true → f.tag.0 < g.tag.0
@@ -74,7 +90,7 @@ module _ (p : Program) (w : World) (o : EventsInOrder p w.facts) where
   unfolding IsStrictlySortedBy
   sorted_events [] s there = tt
   sorted_events (f ∷ fs) s there = (
-    λ g i. followed f g (there f (inl refl)) (there g (inr i)) (is_less f.tag.0 g.tag.0 (below_each tag_cmp tag_total f fs s.0 g i)),
+    λ g i. followed f g (there f (inl refl)) (there g (inr i)) (nat_cmp-Less f.tag.0 g.tag.0 (below_each tag_cmp tag_total f fs s.0 g i)),
     sorted_events fs s.1 (λ g i. there g (inr i)),
   )
 
@@ -115,8 +131,8 @@ module _ (p : Program) (table : LifeTable) (w : World) (image : Image) (safe : A
     promise_low = λ entry. subst (λ z. pos 0 ≤ℤ z) (sym (is.promises.each entry)) (l.promise_low entry);
     promise_high = λ entry. subst (λ z. z ≤ℤ most_millis) (sym (is.promises.each entry)) (l.promise_high entry);
     sound = λ f i. sound_on p w (world_of image) f (record {
-      clock = subst (λ z. w.clock ≤ℤ z) (sym is.clock) (itself w.clock);
-      last = λ entry. subst (λ z. w.reached.last_start entry ≤ℤ z) (sym (is.last_starts.each entry)) (itself (w.reached.last_start entry));
+      clock = subst (λ z. w.clock ≤ℤ z) (sym is.clock) (≤ℤ_refl w.clock);
+      last = λ entry. subst (λ z. w.reached.last_start entry ≤ℤ z) (sym (is.last_starts.each entry)) (≤ℤ_refl (w.reached.last_start entry));
     }) (l.sound f (there f i));
     events = sorted_events p w l.events image.facts is.facts_in_order there;
     unbegun = λ b f i. l.unbegun (sym is.begun ∙ b) f (there f i);
@@ -155,9 +171,9 @@ module _ (p : Program) (table : LifeTable) (w : World) (image : Image) (safe : A
     has_life =
         let f = some_lost.0 in
         let i = in_lost p q (snapshot w) (is_forgotten p table w) e.row f some_lost.1 in
-        let fitting = (both_of (fits p q w.clock f) (is_inside p q q.window w.clock w.facts f) (passed (is_candidate p q (snapshot w)) f w.facts i.0)).0 in
-        let parts = both_of (is_present p w.clock f) (f.ty.0 == q.ty.0 && (f.entry.0 == q.entry.0 && tests_hold unbound f q.alone)) fitting in
-        let ty : f.ty.0 ≡ q.ty.0 = number_is f.ty.0 q.ty.0 (both_of (f.ty.0 == q.ty.0) (f.entry.0 == q.entry.0 && tests_hold unbound f q.alone) parts.1).0 in
+        let fitting = (and_parts (fits p q w.clock f) (is_inside p q q.window w.clock w.facts f) (passed (is_candidate p q (snapshot w)) f w.facts i.0)).0 in
+        let parts = and_parts (is_present p w.clock f) (f.ty.0 == q.ty.0 && (f.entry.0 == q.entry.0 && tests_hold unbound f q.alone)) fitting in
+        let ty : f.ty.0 ≡ q.ty.0 = number_is f.ty.0 q.ty.0 (and_parts (f.ty.0 == q.ty.0) (f.entry.0 == q.entry.0 && tests_hold unbound f q.alone) parts.1).0 in
         let gone : is_forgotten p table w (name_of f) ≡ true = passed (λ (g : Fact). is_forgotten p table w (name_of g)) f (partners p q (snapshot w) e.row) some_lost.1 in
         let unkept : is_kept p table w f ≡ false = not_so (is_kept p table w f) (sym (forgotten_is p table w image safe l is f (lost_there f some_lost.1)) ∙ gone) in
         let life = finite_by f parts.0 (slice_get table.lives f.ty.0) refl (not_alive p table w safe f unkept) in
@@ -181,19 +197,21 @@ module _ (p : Program) (table : LifeTable) (w : World) (image : Image) (safe : A
         tag_of : ℕ → Tag
         tag_of n = record { 0 = n }
 
-    is_placed : IsSmall image.next_tag → IsPlaced p table e
+    is_placed : IsSmall image.next_tag → IsForgettable p table e
     is_placed small = record {
-      rule = x.rule;
-      stands = x.stands;
-      condition = x.condition;
-      placed = x.placed;
-      aside = x.aside;
-      first = x.first;
+      place = record {
+        rule = x.rule;
+        stands = x.stands;
+        condition = x.condition;
+        placed = x.placed;
+        aside = x.aside;
+        first = x.first;
+        some = (let h : 0 < e.count = x.some in omega arith);
+        small = (let a : e.count ≡ length lost = x.counted in let b : length lost ≤ w.next_tag = few_lost in let c : image.next_tag ≤ 2 ^ 61 = small in let d : image.next_tag ≡ w.next_tag = is.next_tag in omega (arith, a, b, c, d));
+        gathered = can_gather x.condition e lost x.counted x.gathered;
+      };
       life = has_life.0;
       finite = has_life.1;
-      some = (let h : 0 < e.count = x.some in omega arith);
-      small = (let a : e.count ≡ length lost = x.counted in let b : length lost ≤ w.next_tag = few_lost in let c : image.next_tag ≤ 2 ^ 61 = small in let d : image.next_tag ≡ w.next_tag = is.next_tag in omega (arith, a, b, c, d));
-      gathered = can_gather x.condition e lost x.counted x.gathered;
     }
 
   -- ---- its rows are there
@@ -204,12 +222,12 @@ module _ (p : Program) (table : LifeTable) (w : World) (image : Image) (safe : A
     laden_is place rule stands n row =
         laden_rows p (snapshot w) (snapshot_of image) (is_forgotten p table w) image.extras owners l.ordered.tags (image_kept p table w image safe l is) is.extras own place rule stands n row
 
-    extra_laden : (e : Extra) → IsExtraIn p (snapshot w) (is_forgotten p table w) e → IsLaden p image owners e.rule.0 e.row e.condition
+    extra_laden : (e : Extra) → IsExtraIn p (snapshot w) (is_forgotten p table w) e → IsLadenRow p image owners e.rule.0 e.row e.condition
     extra_laden e x = record {
       rule = x.rule;
       stands = x.stands;
       conditions = (let h : e.condition < length x.rule.conditions = slice_get_within x.rule.conditions e.condition x.condition x.placed in omega arith);
-      there = laden_is e.rule.0 x.rule x.stands e.condition e.row ∙ both (rows_of p (snapshot w) (take e.condition x.rule.conditions) e.row) (clean (is_forgotten p table w) e.row) x.there x.kept;
+      there = laden_is e.rule.0 x.rule x.stands e.condition e.row ∙ and_from (rows_of p (snapshot w) (take e.condition x.rule.conditions) e.row) (clean (is_forgotten p table w) e.row) x.there x.kept;
     }
 
     match_laden : (m : Match) → has_match (matches p (snapshot w)) m ≡ true → clean (is_forgotten p table w) m.row ≡ true → IsLadenMatch p image owners m.rule.0 m.row
@@ -221,13 +239,13 @@ module _ (p : Program) (table : LifeTable) (w : World) (image : Image) (safe : A
           r.there,
           laden_is m.rule.0 r.rule r.there (length r.rule.conditions) m.row
               ∙ ap (λ cs. cleaned (rows_of p (snapshot w) cs) (is_forgotten p table w) m.row) (take_all (length r.rule.conditions) r.rule.conditions n)
-              ∙ both (rows_of p (snapshot w) r.rule.conditions m.row) (clean (is_forgotten p table w) m.row) (row_in_has m.row _ r.row) kept,
+              ∙ and_from (rows_of p (snapshot w) r.rule.conditions m.row) (clean (is_forgotten p table w) m.row) (row_in_has m.row _ r.row) kept,
         )
 
     fired_laden : (m : FiredMatch) → In m image.fired → IsLadenMatch p image owners m.rule.0 m.row
     fired_laden m i =
         let h = sym (is.fired (match_fired m)) ∙ has_in (match_fired m) (map match_fired image.fired) (in_map match_fired m image.fired i) in
-        let parts = both_of (has_match w.fired (match_fired m)) (clean (is_forgotten p table w) m.row) h in
+        let parts = and_parts (has_match w.fired (match_fired m)) (clean (is_forgotten p table w) m.row) h in
         match_laden (match_fired m) (l.ordered.fired (match_fired m) parts.0) parts.1
 
     -- ---- its facts are kept
@@ -235,7 +253,7 @@ module _ (p : Program) (table : LifeTable) (w : World) (image : Image) (safe : A
     -- a pending match names kept facts alone
     pending_clean : (m : Match) → has_match (pending p w) m ≡ true → has_match (matches p (snapshot w)) m ≡ true → clean (is_forgotten p table w) m.row ≡ true
     pending_clean m pends e =
-        ap not (none_passes (is_forgotten p table w) m.row.facts (λ who own.
+        ap not (list_any-none (is_forgotten p table w) m.row.facts (λ who own.
         let r = rule_of p (snapshot w) m e in
         let f = named_of p (snapshot w) r.rule.conditions m.row r.row who own in
         let kept : IsKept p table w f.0 = named m f.1 pends (subst (λ (n : Named). In n m.row.facts) (sym f.2) own) in
@@ -245,10 +263,10 @@ module _ (p : Program) (table : LifeTable) (w : World) (image : Image) (safe : A
     unfolding is_kept
     fact_needed f i dead =
         let kept = is_tested p table w safe f ((is.facts f).0 i) in
-        let own : is_named p w f ≡ true = from_second (is_alive p (slice_get table.lives f.ty.0) w.clock f) (is_named p w f) kept (ap (λ clock. is_alive p (slice_get table.lives f.ty.0) clock f) (sym is.clock) ∙ dead) in
-        let m = passing_one (λ (n : Match). has_name n.row.facts (name_of f)) (pending p w) own in
+        let own : is_pending_named p w f ≡ true = from_second (is_alive p (slice_get table.lives f.ty.0) w.clock f) (is_pending_named p w f) kept (ap (λ clock. is_alive p (slice_get table.lives f.ty.0) clock f) (sym is.clock) ∙ dead) in
+        let m = list_any-In (λ (n : Match). has_name n.row.facts (name_of f)) (pending p w) own in
         let pends = has_in m.0 (pending p w) m.1 in
-        let parts = both_of (has_match (matches p (snapshot w)) m.0) (not (has_match w.fired m.0)) (sym (has_pending p w m.0) ∙ pends) in
+        let parts = and_parts (has_match (matches p (snapshot w)) m.0) (not (has_match w.fired m.0)) (sym (has_pending p w m.0) ∙ pends) in
         let unfired : has_match w.fired m.0 ≡ false = not_so (has_match w.fired m.0) parts.1 in (
           m.0,
           match_laden m.0 parts.0 (pending_clean m.0 pends parts.0),

@@ -1,9 +1,4 @@
 mod Common
-pub mod Kept
-pub mod Extras
-pub mod Gathered
-pub mod Rows
-pub mod Sorted
 pub mod Imaged
 pub mod One
 pub mod Fit

@@ -1,9 +1,10 @@
 -- A world has one image: two images of it that say the same of the run so far are equal.
-use Rattle.image_laws.proofs.Common.{◌≡◌, ◌∙◌, ℕ, suc, ℤ, Bool, List, [], ◌∷◌, map, length, refl, sym, ap, subst, arith, IsTotalOrder, on_total, nat_cmp_total, In, Fact, Extra, FiredMatch, Image, LifeTable, Match, Program, moment_in, in_map, of_map, Same, has_in, World, tag_cmp, match_fired, IsImageOf, then_total, row_total, in_has, extra_cmp, AreMoments, fired_cmp, has_fired}
+use Rattle.image_laws.proofs.Common.{◌≡◌, ◌∙◌, ℕ, suc, ℤ, Bool, List, [], ◌∷◌, map, length, refl, sym, ap, subst, arith, IsTotalOrder, on_total, nat_cmp_total}
+use Rattle.image_laws.proofs.Common.{then_total, In, Fact, Extra, FiredMatch, Image, LifeTable, Match, Program, moment_in, in_map, of_map, Same, has_in, in_has}
+use Rattle.image_laws.proofs.Common.{World, tag_cmp, match_fired, IsImageOf, AreMoments, fired_cmp, has_fired, extra_cmp, tag_total, sorted_same}
+use Rattle.row_delta.specs.RowOrder.{row_total}
 use Rattle.checkpoint.specs.declared.image.RunPart.{RunPart}
 use Rattle.rule_model.specs.MatchOrders.{match_total}
-use Rattle.image_laws.proofs.Imaged.{tag_total}
-use Rattle.image_laws.proofs.Sorted.{sorted_same}
 
 pub fired_total : IsTotalOrder fired_cmp
 fired_total = on_total match_fired match_total

@@ -1,14 +1,11 @@
 -- Which images fit a program with its lives, so that a session can be resumed from them.
-use Rattle.std.specs.Prelude.{◌≡◌, ◌≤◌, ◌^◌, ℕ, suc, ℤ, true, false, [], length, IsSorted, Some, slice_get}
+use Rattle.std.specs.Prelude.{◌≡◌, ◌≤◌, ℕ, ℤ, true, false, [], length, Some, slice_get}
 use Rattle.std.specs.List.Sorted.{IsStrictlySortedBy}
-use Rattle.std.specs.Ordering.{int_cmp}
 use Rattle.fx_base.specs.Lists.{In}
 use Rattle.fx_base.specs.declared.fact.Fact.{Fact}
 use Rattle.row_delta.specs.declared.extra.Extra.{Extra}
 use Rattle.checkpoint.specs.declared.image.FiredMatch.{FiredMatch}
 use Rattle.checkpoint.specs.declared.image.Image.{Image}
-use Rattle.rule_model.specs.declared.condition.Condition.{Condition}
-use Rattle.rule_model.specs.declared.condition.Condition.TheVariants.{Folded}
 use Rattle.rule_model.specs.declared.life.Life.TheVariants.{Finite}
 use Rattle.rule_model.specs.declared.life.LifeTable.{LifeTable}
 use Rattle.rule_model.specs.declared.matched.Match.{Match}
@@ -20,11 +17,12 @@ use Rattle.rule_model.specs.Tuples.{name_of}
 use Rattle.row_delta.specs.declared.row.Row.{Row}
 use Rattle.rule_world.specs.Lawful.{IsLawful}
 use Rattle.rule_world.specs.Worlds.{World}
-use Rattle.rule_lives.specs.Networks.{binds}
 use Rattle.keeping.specs.Kept.{is_alive}
-use Rattle.image_laws.specs.Extras.{IsFirstWith, extra_cmp}
-use Rattle.image_laws.specs.Images.{tag_cmp, fired_cmp, has_fired, snapshot_of}
-use Rattle.image_laws.specs.Laden.{AreOwners, laden}
+use Rattle.laden_rows.specs.Extras.{extra_cmp}
+use Rattle.rule_model.specs.Distinct.{tag_cmp}
+use Rattle.image_laws.specs.Images.{fired_cmp, has_fired, snapshot_of}
+use Rattle.laden_rows.specs.Laden.{AreOwners, laden}
+use Rattle.laden_rows.specs.Placed.{IsPlaced, IsSmall}
 
 -- the world of what an image has at hand, where nothing was fired
 abbrev pub world_of : Image → World
@@ -38,35 +36,18 @@ world_of image = record {
   fired = [];
 }
 
--- a number that counts on: at most 2^61
-abbrev pub IsSmall : ℕ → Type 0
-IsSmall n = n ≤ 2 ^ 61
-
 -- the number of a next fact or version: from 1 to 2^61
 abbrev pub IsNextNumber : ℕ → Type 0
 IsNextNumber n = (1 ≤ n) × IsSmall n
 
--- what a condition may gather: an accumulate as many values as it counts facts, rising, and another none
-abbrev pub CanGather : Condition → Extra → Type 0
-CanGather (Folded a) e = (length e.values ≡ e.count) × IsSorted int_cmp e.values
-CanGather c e = e.values ≡ []
-
--- An extra has its place: a condition that binds no fact, on events of a finite life, of the first rule that has the conditions up to it.
-pub record IsPlaced (p : Program) (table : LifeTable) (e : Extra) : Type 0 where
-  pub rule : Rule
-  pub stands : slice_get p.rules e.rule.0 ≡ Some rule
-  pub condition : Condition
-  pub placed : slice_get rule.conditions e.condition ≡ Some condition
-  pub aside : binds condition ≡ false
-  pub first : IsFirstWith p (suc e.condition) rule.conditions e.rule.0
+-- what an extra counts can have been forgotten: it has its place, at a condition on events of a finite life
+pub record IsForgettable (p : Program) (table : LifeTable) (e : Extra) : Type 0 where
+  pub place : IsPlaced p e
   pub life : ℤ
-  pub finite : slice_get table.lives (pattern_of condition).ty.0 ≡ Some (Finite life)
-  pub some : 1 ≤ e.count
-  pub small : IsSmall e.count
-  pub gathered : CanGather condition e
+  pub finite : slice_get table.lives (pattern_of place.condition).ty.0 ≡ Some (Finite life)
 
 -- the row is one of the first conditions of the rule in a place, over the facts of an image with its extras
-pub record IsLaden (p : Program) (image : Image) (owners : ℕ → ℕ → ℕ) (place : ℕ) (row : Row) (n : ℕ) : Type 0 where
+pub record IsLadenRow (p : Program) (image : Image) (owners : ℕ → ℕ → ℕ) (place : ℕ) (row : Row) (n : ℕ) : Type 0 where
   pub rule : Rule
   pub stands : slice_get p.rules place ≡ Some rule
   pub conditions : n ≤ length rule.conditions
@@ -95,9 +76,9 @@ pub record Fits (p : Program) (table : LifeTable) (image : Image) : Type 0 where
   pub facts_in_order : IsStrictlySortedBy tag_cmp image.facts
   pub fired_in_order : IsStrictlySortedBy fired_cmp image.fired
   pub extras_in_order : IsStrictlySortedBy extra_cmp image.extras
-  pub placed : (e : Extra) → In e image.extras → IsPlaced p table e
+  pub placed : (e : Extra) → In e image.extras → IsForgettable p table e
   -- the rows of extras and the fired matches are there
-  pub rows : (owners : ℕ → ℕ → ℕ) → AreOwners p owners → (e : Extra) → In e image.extras → IsLaden p image owners e.rule.0 e.row e.condition
+  pub rows : (owners : ℕ → ℕ → ℕ) → AreOwners p owners → (e : Extra) → In e image.extras → IsLadenRow p image owners e.rule.0 e.row e.condition
   pub fired : (owners : ℕ → ℕ → ℕ) → AreOwners p owners → (m : FiredMatch) → In m image.fired → IsLadenMatch p image owners m.rule.0 m.row
   -- the facts are those that are kept
   pub needed : (owners : ℕ → ℕ → ℕ) → AreOwners p owners → (f : Fact) → In f image.facts → IsNeeded p table image owners f

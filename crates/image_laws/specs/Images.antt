@@ -1,7 +1,6 @@
 -- What the image of a session says of a world.
 use Rattle.std.specs.Prelude.{◌≡◌, ◌↔◌, ◌&&◌, ℕ, ℤ, Bool, List, map, length}
 use Rattle.std.specs.declared.cmp.Ordering.{Ordering}
-use Rattle.std.specs.Ordering.{nat_cmp}
 use Rattle.std.specs.List.Sorted.{IsStrictlySortedBy}
 use Rattle.fx_base.specs.Lists.{In}
 use Rattle.fx_base.specs.declared.fact.Fact.{Fact}
@@ -10,6 +9,7 @@ use Rattle.checkpoint.specs.declared.image.Image.{Image}
 use Rattle.rule_model.specs.declared.life.LifeTable.{LifeTable}
 use Rattle.rule_model.specs.declared.matched.Match.{Match}
 use Rattle.rule_model.specs.declared.program.Program.{Program}
+use Rattle.rule_model.specs.Distinct.{tag_cmp}
 use Rattle.rule_model.specs.Matches.{match_cmp, has_match}
 use Rattle.rule_model.specs.Moments.{moment_in, reached_in}
 use Rattle.rule_model.specs.Snapshots.{Snapshot}
@@ -17,16 +17,12 @@ use Rattle.rule_world.specs.Worlds.{World, snapshot}
 use Rattle.rule_lives.specs.Keeping.{IsKept}
 use Rattle.pair_memory.specs.Standing.{clean}
 use Rattle.keeping.specs.Kept.{is_forgotten}
-use Rattle.image_laws.specs.Extras.{AreExtras}
+use Rattle.laden_rows.specs.Extras.{AreExtras}
 
 -- the moments of so many entry points, by their places, and of no further one
 pub record AreMoments (of : ℕ → ℤ) (entries : ℕ) (moments : List ℤ) : Type 0 where
   pub as_many : length moments ≡ entries
   pub each : (entry : ℕ) → moment_in moments entry ≡ of entry
-
--- facts are ordered by their tags
-abbrev pub tag_cmp : Fact → Fact → Ordering
-tag_cmp f g = nat_cmp f.tag.0 g.tag.0
 
 abbrev pub match_fired : FiredMatch → Match
 match_fired m = record { rule = m.rule; row = m.row }

@@ -1,4 +1,2 @@
-pub mod Extras
-pub mod Laden
 pub mod Images
 pub mod Fitting

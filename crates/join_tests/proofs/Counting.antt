@@ -1,5 +1,8 @@
 -- How equalities are counted, and fed to a hash, one after another.
-use Rattle.join_tests.proofs.Common.{◌≡◌, ◌≢◌, ◌∙◌, sym, ap, refl, ℕ, ◌+◌, ◌<◌, ◌⊎◌, inl, inr, List, [], ◌∷◌, ◌++◌, map, length, get_or, drop, Option, option_map, cast_signed, FoldHasher, Value, Int, Fact, Named, Compare, Test, field_of, JoinKey, Nothing, Look, keys_of_choices, keys_of_tests, given_or_true, candidate_part, fed_with, as_one, with_slot, and_more, part, One, Several, and_one}
+use Rattle.join_tests.proofs.Common.{◌≡◌, ◌≢◌, ◌∙◌, sym, ap, refl, ℕ, ◌+◌, ◌<◌, ◌⊎◌, inl, inr, List, [], ◌∷◌, ◌++◌, map, length, get_or, drop, Option}
+use Rattle.join_tests.proofs.Common.{option_map, cast_signed, FoldHasher, Value, Int, Fact, Named, Compare, Test, field_of, JoinKey, Nothing, Look}
+use Rattle.join_tests.proofs.Common.{keys_of_choices, keys_of_tests, given_or_true, candidate_part, fed_with, as_one, with_slot, and_more, part, One, Several}
+use Rattle.join_tests.proofs.Common.{and_one}
 use Rattle.std.specs.Borrow.{Bor}
 use Rattle.std.proofs.lemmas.List.{at_drop_more}
 use Rattle.std.specs.Int.{w64}

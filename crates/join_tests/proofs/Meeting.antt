@@ -1,5 +1,11 @@
 -- The join value of a row is among those that are sought for a candidate which joins it, and the candidate's among those for the row.
-use Rattle.join_tests.proofs.Common.{◌≡◌, ◌∙◌, sym, ap, refl, subst, arith, ℕ, ℤ, pos, ◌+ℤ◌, ◌≤ℤ◌, List, [], ◌∷◌, ◌++◌, map, Bool, true, false, ◌&&◌, ◌||◌, Option, Some, None, slice_get, option_map, ints, Value, same_value, equal_values, Fact, Named, Row, Compare, Test, Pattern, tuple_of, field_of, times_hold, Bindings, JoinKey, Look, version_at, versions_at, passes_given, keys_of_compares, keys_of_choices, keys_of_tests, given_or_true, row_part, candidate_part, as_one, TimeKey, point_of, moment_at, row_moment, candidate_moment, first_event, last_event, first_candidate, last_candidate, kept_under, is_among, bound_in, related, related_given, side_value, related_side, compare_holds, compares_hold, test_holds, tests_hold, bound_by, key_of_side, key_of_sides, key_of_compare, in_front, earlier_value}
+use Rattle.join_tests.proofs.Common.{◌≡◌, ◌∙◌, sym, ap, refl, subst, arith, ℕ, ℤ, pos, ◌+ℤ◌, ◌≤ℤ◌, List, [], ◌∷◌, ◌++◌, map, Bool, true, false, ◌||◌, Option}
+use Rattle.join_tests.proofs.Common.{Some, None, slice_get, option_map, ints, Value, same_value, equal_values, Fact, Named, Row, Compare, Test, Pattern}
+use Rattle.join_tests.proofs.Common.{tuple_of, field_of, times_hold, Bindings, JoinKey, Look, version_at, versions_at, passes_given, keys_of_compares}
+use Rattle.join_tests.proofs.Common.{keys_of_choices, keys_of_tests, given_or_true, row_part, candidate_part, as_one, TimeKey, point_of_times, moment_at_point}
+use Rattle.join_tests.proofs.Common.{row_moment, candidate_moment, first_event, last_event, first_candidate, last_candidate, kept_under, is_value_among}
+use Rattle.join_tests.proofs.Common.{bound_in, related, related_given, side_value, related_side, compare_holds, compares_hold, test_holds, tests_hold, bound_by}
+use Rattle.join_tests.proofs.Common.{key_of_side, key_of_sides, key_of_compare, in_front, earlier_value}
 use Rattle.std.specs.List.{list_any}
 use Rattle.rule_model.specs.declared.test.RelTag.{RelTag}
 use Rattle.rule_model.specs.declared.test.RelTag.TheVariants.{OneOf, Equal, NotEqual, Less, LessOrEqual, Greater, GreaterOrEqual}
@@ -13,15 +19,7 @@ use Rattle.join_tests.specs.Kept.{row_value, candidate_value, rows_sought, candi
 use Rattle.join_tests.proofs.Neighbours.{found_among}
 use Rattle.join_tests.proofs.Ranges.{Fits, fits_times}
 use Rattle.join_tests.proofs.Versions.{version_is, versions_are, row_is}
-
--- both of two that hold
-first_of : (a b : Bool) → (a && b) ≡ true → a ≡ true
-first_of true b e = refl
-first_of false b e = e
-
-rest_of : (a b : Bool) → (a && b) ≡ true → b ≡ true
-rest_of true b e = e
-rest_of false b e = let f : false ≡ true = e in cc
+use Rattle.fx_base.proofs.Tests.{and_first, and_second}
 
 one_of : (a : Bool) → (a || false) ≡ true → a ≡ true
 one_of true e = refl
@@ -75,8 +73,8 @@ module _ (bound : Bindings) (f : Fact) where
   compares_meet : (cs : List Compare) → compares_hold bound f cs ≡ true → Meet (keys_of_compares cs)
   compares_meet [] e = tt
   compares_meet (c ∷ cs) e =
-      in_front_meet (key_of_compare c.rel c.field c.against) (keys_of_compares cs) (compare_meets c.rel c.field c.against (first_of _ (compares_hold bound f cs) e))
-      (compares_meet cs (rest_of (compare_holds bound f c) _ e))
+      in_front_meet (key_of_compare c.rel c.field c.against) (keys_of_compares cs) (compare_meets c.rel c.field c.against (and_first _ (compares_hold bound f cs) e))
+      (compares_meet cs (and_second (compare_holds bound f c) _ e))
 
   choices_meet : (choices : List (List Compare)) → list_any (compares_hold bound f) choices ≡ true → Meet (keys_of_choices choices)
   choices_meet [] e = tt
@@ -86,7 +84,7 @@ module _ (bound : Bindings) (f : Fact) where
   tests_meet : (tests : List Test) → tests_hold bound f tests ≡ true → Meet (keys_of_tests tests)
   tests_meet [] e = tt
   tests_meet (test ∷ tests) e =
-      both_meet (keys_of_choices test.choices) (keys_of_tests tests) (choices_meet test.choices (first_of _ (tests_hold bound f tests) e)) (tests_meet tests (rest_of (test_holds bound f test) _ e))
+      both_meet (keys_of_choices test.choices) (keys_of_tests tests) (choices_meet test.choices (and_first _ (tests_hold bound f tests) e)) (tests_meet tests (and_second (test_holds bound f test) _ e))
 
 parts_meet : (look : Look) (row : Row) (who : Named) (f : Fact) → look who.tag ≡ Some f → (keys : List JoinKey) → Meet (bound_in look row) f keys → map (row_part look row) keys ≡ map (candidate_part look who) keys
 parts_meet look row who f is [] meet = refl
@@ -109,7 +107,7 @@ found_meet p look row who (Some facts) is None found e = let f : false ≡ true 
 found_meet p look row who (Some facts) is (Some f) found e =
     let tuple = tuple_of facts row.values in
     let bound : bound_in look row ≡ bound_by tuple = bound_named look row tuple (row_is look row facts is) (versions_are look row.facts facts is).1 in
-    let holds : tests_hold (bound_by tuple) f p.joined ≡ true = first_of _ (times_hold (bound_by tuple) f.times p.times) e in
+    let holds : tests_hold (bound_by tuple) f p.joined ≡ true = and_first _ (times_hold (bound_by tuple) f.times p.times) e in
     parts_meet look row who f (version_is look who f found).0 (keys_of_tests p.joined)
     (tests_meet (bound_in look row) f p.joined (subst (λ (b : Bindings). tests_hold b f p.joined ≡ true) (sym bound) holds))
 
@@ -122,10 +120,10 @@ found_fits p look row who key timed (Some facts) is None found e = let f : false
 found_fits p look row who key timed (Some facts) is (Some f) found e =
     let tuple = tuple_of facts row.values in
     let bound : bound_in look row ≡ bound_by tuple = bound_named look row tuple (row_is look row facts is) (versions_are look row.facts facts is).1 in
-    let holds : times_hold (bound_by tuple) f.times p.times ≡ true = rest_of (tests_hold (bound_by tuple) f p.joined) _ e in
+    let holds : times_hold (bound_by tuple) f.times p.times ≡ true = and_second (tests_hold (bound_by tuple) f p.joined) _ e in
     let fits = fits_times (bound_in look row) f.times key p.times (subst (λ (b : Bindings). times_hold b f.times p.times ≡ true) (sym bound) holds) timed in
-    subst (λ (found : Option Fact). Fits key (moment_at key.own found) (row_moment key look row)) (sym (version_is look who f found).0) (
-    subst (λ (found : Option Fact). Fits key (point_of key.own f.times) (moment_at key.event found)) (sym fits.1) fits.2
+    subst (λ (found : Option Fact). Fits key (moment_at_point key.own found) (row_moment key look row)) (sym (version_is look who f found).0) (
+    subst (λ (found : Option Fact). Fits key (point_of_times key.own f.times) (moment_at_point key.event found)) (sym fits.1) fits.2
     )
 
 -- the moments of a candidate and of a row that it joins fit
@@ -148,7 +146,7 @@ values_meet p look row who e timeless =
     ∙ ap (λ time. kept_under (map (candidate_part look who) (join_keys p)) time (λ key. candidate_moment key look who)) (sym timeless)
 
 -- the row's value is sought for the candidate
-pub row_sought : (p : Pattern) (look : Look) (row : Row) (who : Named) → joins p look row who ≡ true → is_among (rows_sought p look who) (row_value p look row) ≡ true
+pub row_sought : (p : Pattern) (look : Look) (row : Row) (who : Named) → joins p look row who ≡ true → is_value_among (rows_sought p look who) (row_value p look row) ≡ true
 unfolding row_value rows_sought
 row_sought p look row who e =
     found_among (map (row_part look row) (join_keys p)) (map (candidate_part look who) (join_keys p)) (λ key. first_event key (candidate_moment key look who))
@@ -156,7 +154,7 @@ row_sought p look row who e =
     (λ key timed. events_lie key (candidate_moment key look who) (row_moment key look row) (moments_fit p look row who e key timed))
 
 -- and the candidate's for the row
-pub candidate_sought : (p : Pattern) (look : Look) (row : Row) (who : Named) → joins p look row who ≡ true → is_among (candidates_sought p look row) (candidate_value p look who) ≡ true
+pub candidate_sought : (p : Pattern) (look : Look) (row : Row) (who : Named) → joins p look row who ≡ true → is_value_among (candidates_sought p look row) (candidate_value p look who) ≡ true
 unfolding candidate_value candidates_sought
 candidate_sought p look row who e =
     found_among (map (candidate_part look who) (join_keys p)) (map (row_part look row) (join_keys p)) (λ key. first_candidate key (row_moment key look row))

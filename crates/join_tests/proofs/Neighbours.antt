@@ -1,5 +1,10 @@
 -- What lies between the first and the last moment of a range lies in the slot of one of the two.
-use Rattle.join_tests.proofs.Common.{◌≡◌, ◌∙◌, sym, ap, refl, subst, arith, ℕ, suc, ◌+◌, ◌*◌, ◌<◌, ◌≤◌, ℤ, pos, negsuc, ◌+ℤ◌, ◌≤ℤ◌, ◌⊎◌, inl, inr, Bool, true, false, cond, ◌||◌, List, [], ◌∷◌, Option, Some, None, ints, Value, same_value, equal_values, TimeKey, given_or_true, as_one, with_slot, kept_under, sought_under, is_among, by_lt_z, int_div_euclid, same_itself, number_given, slot_of, in_64_bits}
+use Rattle.join_tests.proofs.Common.{◌≡◌, ◌∙◌, sym, ap, refl, subst, arith, ℕ, suc, ◌+◌, ◌*◌, ◌<◌, ◌≤◌, ℤ, pos, negsuc, ◌+ℤ◌, ◌≤ℤ◌, ◌⊎◌, inl, inr, Bool, true}
+use Rattle.join_tests.proofs.Common.{false, cond, ◌||◌, List, [], ◌∷◌, Option, Some, None, ints, Value, same_value, equal_values, TimeKey, given_or_true}
+use Rattle.join_tests.proofs.Common.{as_one, with_slot, kept_under, sought_under, is_value_among, by_lt_z, int_div_euclid, same_itself, number_given, slot_of}
+use Rattle.join_tests.proofs.Common.{in_64_bits}
+use Rattle.std.proofs.lemmas.Bool.{or_left}
+use Rattle.std.proofs.Math.Bool.{or-true}
 use Rattle.std.proofs.Math.Nat.{lt_of_mul-lt-mul_right}
 use borrow.Author.Differences.{up, down}
 
@@ -41,26 +46,19 @@ neighbours span first z last low high is =
 
 -- ---- what is kept under a value is among what is sought
 
-or_true : (a : Bool) → (a || true) ≡ true
-or_true true = refl
-or_true false = refl
-
 same_as : (v a : Value) → v ≡ a → same_value v a ≡ true
 same_as v a e = subst (λ w. same_value v w ≡ true) e (same_itself v)
 
-or_by : (a b : Bool) → a ≡ true → (a || b) ≡ true
-or_by a b e = ap (λ x. x || b) e
+alone : (v a : Value) → v ≡ a → is_value_among (a ∷ []) v ≡ true
+alone v a e = or_left (same_value v a) false (same_as v a e)
 
-alone : (v a : Value) → v ≡ a → is_among (a ∷ []) v ≡ true
-alone v a e = or_by (same_value v a) false (same_as v a e)
-
-first_among : (v a b : Value) → v ≡ a → (same : Bool) → is_among (cond same (a ∷ []) (a ∷ b ∷ [])) v ≡ true
+first_among : (v a b : Value) → v ≡ a → (same : Bool) → is_value_among (cond same (a ∷ []) (a ∷ b ∷ [])) v ≡ true
 first_among v a b e true = alone v a e
-first_among v a b e false = or_by (same_value v a) _ (same_as v a e)
+first_among v a b e false = or_left (same_value v a) _ (same_as v a e)
 
-last_among : (v a b : Value) → v ≡ b → (same : Bool) → same_value a b ≡ same → is_among (cond same (a ∷ []) (a ∷ b ∷ [])) v ≡ true
+last_among : (v a b : Value) → v ≡ b → (same : Bool) → same_value a b ≡ same → is_value_among (cond same (a ∷ []) (a ∷ b ∷ [])) v ≡ true
 last_among v a b e true is = alone v a (e ∙ sym (equal_values a b is))
-last_among v a b e false is = ap (λ x. same_value v a || x) (alone v b e) ∙ or_true (same_value v a)
+last_among v a b e false is = ap (λ x. same_value v a || x) (alone v b e) ∙ or-true (same_value v a)
 
 abbrev slot_as_value : ℤ → Value
 slot_as_value slot = given_or_true (number_given (in_64_bits slot))
@@ -70,18 +68,18 @@ abbrev pub LiesBetween : (TimeKey → ℤ) → (TimeKey → ℤ) → (TimeKey �
 LiesBetween first last moment key = (first key ≤ℤ moment key) × (moment key ≤ℤ last key) × (last key ≡ (first key +ℤ pos key.span))
 
 slotted_among : (values : List Value) (first last moment : TimeKey → ℤ) (key : TimeKey) → (slot_of key.span (moment key) ≡ slot_of key.span (first key)) ⊎ (slot_of key.span (moment key) ≡ slot_of key.span (last key))
-    → is_among (sought_under values (Some key) first last) (kept_under values (Some key) moment) ≡ true
+    → is_value_among (sought_under values (Some key) first last) (kept_under values (Some key) moment) ≡ true
 slotted_among values first last moment key (inl e) = first_among _ _ _ (ap (λ slot. with_slot values (slot_as_value slot)) e) _
 slotted_among values first last moment key (inr e) = last_among _ _ _ (ap (λ slot. with_slot values (slot_as_value slot)) e) _ refl
 
 kept_among : (values : List Value) (first last moment : TimeKey → ℤ) (time : Option TimeKey) → ((key : TimeKey) → time ≡ Some key → LiesBetween first last moment key)
-    → is_among (sought_under values time first last) (kept_under values time moment) ≡ true
+    → is_value_among (sought_under values time first last) (kept_under values time moment) ≡ true
 kept_among values first last moment None h = alone (as_one values) (as_one values) refl
 kept_among values first last moment (Some key) h =
     let lies = h key refl in
     slotted_among values first last moment key (neighbours key.span (first key) (moment key) (last key) lies.0 lies.1 lies.2)
 
 pub found_among : (kept sought : List Value) (first last moment : TimeKey → ℤ) (time : Option TimeKey) → kept ≡ sought → ((key : TimeKey) → time ≡ Some key → LiesBetween first last moment key)
-    → is_among (sought_under sought time first last) (kept_under kept time moment) ≡ true
+    → is_value_among (sought_under sought time first last) (kept_under kept time moment) ≡ true
 found_among kept sought first last moment time same h =
-    ap (λ values. is_among (sought_under sought time first last) (kept_under values time moment)) same ∙ kept_among sought first last moment time h
+    ap (λ values. is_value_among (sought_under sought time first last) (kept_under values time moment)) same ∙ kept_among sought first last moment time h

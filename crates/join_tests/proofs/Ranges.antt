@@ -1,5 +1,8 @@
 -- Times that pass the temporal tests of a pattern lie in its range.
-use Rattle.join_tests.proofs.Common.{◌≡◌, ◌∙◌, sym, ap, refl, subst, arith, ℕ, ℤ, pos, negsuc, ◌+ℤ◌, ◌-ℤ◌, ◌≤ℤ◌, ◌⊎◌, inl, inr, Bool, true, false, cond, ◌&&◌, List, [], ◌∷◌, Option, Some, None, ints, Fact, times_hold, Bindings, TimeKey, most_between, key_of_times, point_of, option_or, time_holds_with, time_holds, candidate_corner, event_corner, same_corner, key_of_span, key_between, key_at, key_of_edges}
+use Rattle.join_tests.proofs.Common.{◌≡◌, ◌∙◌, sym, ap, refl, subst, arith, ℕ, ℤ, pos, negsuc, ◌+ℤ◌, ◌-ℤ◌, ◌≤ℤ◌, ◌⊎◌, inl, inr, Bool, true, false, cond, ◌&&◌}
+use Rattle.join_tests.proofs.Common.{List, [], ◌∷◌, Option, Some, None, ints, Fact, times_hold, Bindings, TimeKey, most_between, key_of_times, point_of_times}
+use Rattle.join_tests.proofs.Common.{option_or, time_holds_with, time_holds, candidate_corner, event_corner, same_corner, key_of_span, key_between, key_at}
+use Rattle.join_tests.proofs.Common.{key_of_edges}
 use Rattle.std.specs.Int.Signed.{le_z}
 use Rattle.fx_base.specs.declared.times.Times.{Times}
 use Rattle.temporal_ops.specs.declared.edge.Corner.{Corner}
@@ -9,14 +12,7 @@ use Rattle.temporal_ops.specs.Edges.{corner, edge_holds, edges_hold}
 use Rattle.rule_model.specs.declared.test.TimeTest.{TimeTest}
 use Rattle.join_tests.specs.declared.time_key.Point.{Point}
 use Rattle.join_tests.specs.declared.time_key.Point.TheVariants.{Start, End}
-
-first_of : (a b : Bool) → (a && b) ≡ true → a ≡ true
-first_of true b e = refl
-first_of false b e = e
-
-rest_of : (a b : Bool) → (a && b) ≡ true → b ≡ true
-rest_of true b e = e
-rest_of false b e = let f : false ≡ true = e in cc
+use Rattle.fx_base.proofs.Tests.{and_first, and_second}
 
 corners_are : (x y : Corner) → same_corner x y ≡ true → x ≡ y
 corners_are AStart AStart e = refl
@@ -36,11 +32,11 @@ corners_are BEnd AStart e = let f : false ≡ true = e in cc
 corners_are BEnd AEnd e = let f : false ≡ true = e in cc
 corners_are BEnd BStart e = let f : false ≡ true = e in cc
 
-candidate_point : (point : Point) (a b : Times) → corner (candidate_corner point) a b ≡ point_of point a
+candidate_point : (point : Point) (a b : Times) → corner (candidate_corner point) a b ≡ point_of_times point a
 candidate_point Start a b = refl
 candidate_point End a b = refl
 
-event_point : (point : Point) (a b : Times) → corner (event_corner point) a b ≡ point_of point b
+event_point : (point : Point) (a b : Times) → corner (event_corner point) a b ≡ point_of_times point b
 event_point Start a b = refl
 event_point End a b = refl
 
@@ -58,8 +54,8 @@ module _ (a b : Times) where
       → IsWithin (corner x a b) (corner y a b) rest → IsWithin (corner x a b) (corner y a b) (cond same (Some edge.most) rest)
   within_first x y edge rest false is e more = more
   within_first x y edge rest true is e more =
-      let at_x : edge.x ≡ x = sym (corners_are x edge.x (first_of _ (same_corner y edge.y) is)) in
-      let at_y : edge.y ≡ y = sym (corners_are y edge.y (rest_of (same_corner x edge.x) _ is)) in
+      let at_x : edge.x ≡ x = sym (corners_are x edge.x (and_first _ (same_corner y edge.y) is)) in
+      let at_y : edge.y ≡ y = sym (corners_are y edge.y (and_second (same_corner x edge.x) _ is)) in
       subst (λ (v : Corner). le_z (corner x a b -ℤ corner v a b) edge.most ≡ true) at_y (
       subst (λ (u : Corner). le_z (corner u a b -ℤ corner edge.y a b) edge.most ≡ true) at_x (edge_is edge e)
       )
@@ -68,8 +64,8 @@ module _ (a b : Times) where
   unfolding edges_hold
   all_within x y [] e = tt
   all_within x y (edge ∷ edges) e =
-      within_first x y edge (most_between x y edges) (same_corner x edge.x && same_corner y edge.y) refl (first_of (edge_holds a b edge) _ e)
-      (all_within x y edges (rest_of (edge_holds a b edge) _ e))
+      within_first x y edge (most_between x y edges) (same_corner x edge.x && same_corner y edge.y) refl (and_first (edge_holds a b edge) _ e)
+      (all_within x y edges (and_second (edge_holds a b edge) _ e))
 
 -- a candidate of the one moment fits to an event of the other
 abbrev pub Fits : TimeKey → ℤ → ℤ → Type 0
@@ -77,10 +73,10 @@ Fits key x y = (y ≤ℤ (x +ℤ key.back)) × (x ≤ℤ ((y -ℤ key.back) +ℤ
 
 -- the key is of this event, and these times fit
 abbrev FitsOf : ℕ → Times → Times → TimeKey → Type 0
-FitsOf fact a b key = (key.fact ≡ fact) × Fits key (point_of key.own a) (point_of key.event b)
+FitsOf fact a b key = (key.fact ≡ fact) × Fits key (point_of_times key.own a) (point_of_times key.event b)
 
 module _ (fact : ℕ) (a b : Times) (key : TimeKey) where
-  fits_span : (own event : Point) (most back total : ℤ) → (most +ℤ back) ≡ total → le_z (point_of own a -ℤ point_of event b) most ≡ true → le_z (point_of event b -ℤ point_of own a) back ≡ true
+  fits_span : (own event : Point) (most back total : ℤ) → (most +ℤ back) ≡ total → le_z (point_of_times own a -ℤ point_of_times event b) most ≡ true → le_z (point_of_times event b -ℤ point_of_times own a) back ≡ true
       → key_of_span fact own event back total ≡ Some key → FitsOf fact a b key
   fits_span own event most back (negsuc n) is p q e = cc
   fits_span own event most back (pos span) is p q e =
@@ -88,7 +84,7 @@ module _ (fact : ℕ) (a b : Times) (key : TimeKey) where
       let same : made ≡ key = cc in
       subst (FitsOf fact a b) same (refl, (grind (arith, ints), grind (arith, ints)))
 
-  fits_between : (own event : Point) (most back : Option ℤ) → IsWithin (point_of own a) (point_of event b) most → IsWithin (point_of event b) (point_of own a) back
+  fits_between : (own event : Point) (most back : Option ℤ) → IsWithin (point_of_times own a) (point_of_times event b) most → IsWithin (point_of_times event b) (point_of_times own a) back
       → key_between fact own event most back ≡ Some key → FitsOf fact a b key
   fits_between own event None back p q e = cc
   fits_between own event (Some most) None p q e = cc
@@ -98,10 +94,10 @@ module _ (fact : ℕ) (a b : Times) (key : TimeKey) where
   fits_at edges holds own event e =
       let x = candidate_corner own in
       let y = event_corner event in
-      let p : IsWithin (point_of own a) (point_of event b) (most_between x y edges) =
-      subst (λ v. IsWithin (point_of own a) v (most_between x y edges)) (event_point event a b) (subst (λ u. IsWithin u (corner y a b) (most_between x y edges)) (candidate_point own a b) (all_within a b x y edges holds)) in
-      let q : IsWithin (point_of event b) (point_of own a) (most_between y x edges) =
-      subst (λ v. IsWithin (point_of event b) v (most_between y x edges)) (candidate_point own a b) (subst (λ u. IsWithin u (corner x a b) (most_between y x edges)) (event_point event a b) (all_within a b y x edges holds)) in
+      let p : IsWithin (point_of_times own a) (point_of_times event b) (most_between x y edges) =
+      subst (λ v. IsWithin (point_of_times own a) v (most_between x y edges)) (event_point event a b) (subst (λ u. IsWithin u (corner y a b) (most_between x y edges)) (candidate_point own a b) (all_within a b x y edges holds)) in
+      let q : IsWithin (point_of_times event b) (point_of_times own a) (most_between y x edges) =
+      subst (λ v. IsWithin (point_of_times event b) v (most_between y x edges)) (candidate_point own a b) (subst (λ u. IsWithin u (corner x a b) (most_between y x edges)) (event_point event a b) (all_within a b y x edges holds)) in
       fits_between own event (most_between x y edges) (most_between y x edges) p q e
 
 either_key : (o p : Option TimeKey) (key : TimeKey) → option_or o p ≡ Some key → (o ≡ Some key) ⊎ (p ≡ Some key)
@@ -122,7 +118,7 @@ module _ (fact : ℕ) (a b : Times) (key : TimeKey) (edges : List OpEdge) (holds
 
 -- the event that a key names is there, and the times fit to it
 abbrev pub FitsBound : Bindings → Times → TimeKey → Type 0
-FitsBound bound times key = (f : Fact) × (bound.fact key.fact ≡ Some f) × Fits key (point_of key.own times) (point_of key.event f.times)
+FitsBound bound times key = (f : Fact) × (bound.fact key.fact ≡ Some f) × Fits key (point_of_times key.own times) (point_of_times key.event f.times)
 
 module _ (bound : Bindings) (times : Times) (key : TimeKey) where
   fits_test : (test : TimeTest) (o : Option Fact) → bound.fact test.fact ≡ o → time_holds_with test.op times o ≡ true → key_of_edges test.fact test.op ≡ Some key → FitsBound bound times key
@@ -135,6 +131,6 @@ module _ (bound : Bindings) (times : Times) (key : TimeKey) where
   fits_times [] holds e = cc
   fits_times (test ∷ tests) holds e =
       elim (either_key (key_of_edges test.fact test.op) (key_of_times tests) key e) [
-        | inl f ↦ fits_test test (bound.fact test.fact) refl (first_of (time_holds bound times test) _ holds) f
-        | inr f ↦ fits_times tests (rest_of (time_holds bound times test) _ holds) f
+        | inl f ↦ fits_test test (bound.fact test.fact) refl (and_first (time_holds bound times test) _ holds) f
+        | inr f ↦ fits_times tests (and_second (time_holds bound times test) _ holds) f
       ]

@@ -1,5 +1,7 @@
 -- The value under which a row is kept, by its side of the equalities and of the range of time.
-use Rattle.join_tests.proofs.Common.{◌≡◌, ◌∙◌, ap, refl, arith, ◌≤◌, length, List, [], ◌∷◌, ◌++◌, map, Option, Some, None, option_map, cast_signed, FoldHasher, Value, Int, Row, Pattern, JoinKey, TimeKey, Look, join_keys, row_part, fed_with, as_one, time_key, row_moment, with_slot, kept_under, side_of, side_part, row_time, row_key, kept_by_time, value_by}
+use Rattle.join_tests.proofs.Common.{◌≡◌, ◌∙◌, ap, refl, arith, ◌≤◌, length, List, [], ◌∷◌, ◌++◌, map, Option, Some, None, option_map, cast_signed, FoldHasher}
+use Rattle.join_tests.proofs.Common.{Value, Int, Row, Pattern, JoinKey, TimeKey, Look, join_keys, row_part, fed_with, as_one, time_key, row_moment, with_slot}
+use Rattle.join_tests.proofs.Common.{kept_under, row_side_of, side_part, row_time, row_key, kept_by_time, value_by}
 use Rattle.std.specs.Int.{w64}
 use Rattle.std.specs.Hash.FoldHasher as hasher
 use Rattle.join_tests.specs.declared.key.JoinSide.{JoinSide}
@@ -7,11 +9,11 @@ use Rattle.join_tests.specs.Keys.{number_for}
 use Rattle.join_tests.specs.Kept.{row_value}
 use Rattle.join_tests.proofs.Counting.{number_behind}
 
-mapped_both : (keys more : List JoinKey) → map side_of (keys ++ more) ≡ map side_of keys ++ map side_of more
+mapped_both : (keys more : List JoinKey) → map row_side_of (keys ++ more) ≡ map row_side_of keys ++ map row_side_of more
 mapped_both [] more = refl
 mapped_both (key ∷ keys) more = ap (λ sides. key.side ∷ sides) (mapped_both keys more)
 
-pub sides_both : (sides : List JoinSide) (keys more : List JoinKey) → sides ++ map side_of (keys ++ more) ≡ (sides ++ map side_of keys) ++ map side_of more
+pub sides_both : (sides : List JoinSide) (keys more : List JoinKey) → sides ++ map row_side_of (keys ++ more) ≡ (sides ++ map row_side_of keys) ++ map row_side_of more
 sides_both [] keys more = mapped_both keys more
 sides_both (side ∷ sides) keys more = ap (λ rest. side ∷ rest) (sides_both sides keys more)
 
@@ -30,7 +32,7 @@ sides_with_slot f (side ∷ sides) fed slot is many =
     ap (λ state. Int (cast_signed w64 (hasher.finish (fed_with state (slot ∷ []))))) is ∙ number_behind (f side) (map f sides) slot
 
 module _ (look : Look) (row : Row) where
-  parts_by : (keys : List JoinKey) → map (row_part look row) keys ≡ map (side_part look row) (map side_of keys)
+  parts_by : (keys : List JoinKey) → map (row_part look row) keys ≡ map (side_part look row) (map row_side_of keys)
   parts_by [] = refl
   parts_by (key ∷ keys) = ap (λ values. row_part look row key ∷ values) (parts_by keys)
 
@@ -42,4 +44,4 @@ module _ (look : Look) (row : Row) where
   unfolding row_value
   kept_by p =
       ap (λ values. kept_under values (time_key p) (λ key. row_moment key look row)) (parts_by (join_keys p))
-      ∙ time_by (map (side_part look row) (map side_of (join_keys p))) (time_key p)
+      ∙ time_by (map (side_part look row) (map row_side_of (join_keys p))) (time_key p)

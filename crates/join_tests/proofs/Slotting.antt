@@ -1,5 +1,6 @@
 -- What is kept and sought where a pattern has no range of time, and where it has one.
-use Rattle.join_tests.proofs.Common.{◌≡◌, ◌∙◌, sym, ap, ℤ, List, [], ◌∷◌, Option, Some, None, Value, TimeKey, as_one, slot_value, with_slot, kept_under, once, sought_under}
+use Rattle.join_tests.proofs.Common.{◌≡◌, ◌∙◌, sym, ap, ℤ, List, [], ◌∷◌, Option, Some, None, Value, TimeKey, as_one, slot_value, with_slot, kept_under, once}
+use Rattle.join_tests.proofs.Common.{sought_under}
 
 module _ (values : List Value) (time : Option TimeKey) where
   pub kept_timeless : (moment : TimeKey → ℤ) → time ≡ None → as_one values ≡ kept_under values time moment

@@ -1,30 +1,26 @@
 -- Versions that are at hand are the facts of a tuple that the row names.
-use Rattle.join_tests.proofs.Common.{◌≡◌, ◌∙◌, sym, ap, refl, subst, List, [], ◌∷◌, map, Bool, true, false, cond, ◌&&◌, Option, Some, None, option_map, is_some, Fact, Named, Row, Pattern, tuple_of, Look, version_at, versions_at, passes_given, option_and_then, Holds, Tuple, name_of, row_of, is_version, tuple_at}
-use Rattle.std.specs.declared.cmp.Ordering.{Ordering}
-use Rattle.std.specs.declared.cmp.Ordering.TheVariants.{Less, Equal, Greater}
-use Rattle.std.specs.Ordering.{is_eq}
+use Rattle.join_tests.proofs.Common.{◌≡◌, ◌∙◌, sym, ap, refl, subst, List, [], ◌∷◌, map, Bool, true, false, cond, ◌&&◌, Option, Some, None, option_map, is_some}
+use Rattle.join_tests.proofs.Common.{Fact, Named, Row, Pattern, tuple_of, Look, version_at, versions_at, passes_given, option_and_then, Holds, Tuple, name_of}
+use Rattle.join_tests.proofs.Common.{row_of, is_named_version, tuple_at}
+use Rattle.std.proofs.Math.Bool.{and-false, and-true}
 use Rattle.row_delta.specs.NameOrder.{name_cmp, name_exact}
 use Rattle.rule_model.specs.Candidates.{passes}
 use Rattle.join_tests.specs.Joins.{joins}
+use Rattle.fx_base.proofs.Orders.{is_eq-true}
 
-equal_from : (o : Ordering) → is_eq o ≡ true → o ≡ Equal
-equal_from Less e = let f : false ≡ true = e in cc
-equal_from Equal e = refl
-equal_from Greater e = let f : false ≡ true = e in cc
+same_name : (named : Named) (f : Fact) → is_named_version named f ≡ true → name_of f ≡ named
+same_name named f e = name_exact (name_of f) named (is_eq-true (name_cmp (name_of f) named) e)
 
-same_name : (named : Named) (f : Fact) → is_version named f ≡ true → name_of f ≡ named
-same_name named f e = name_exact (name_of f) named (equal_from (name_cmp (name_of f) named) e)
-
-only_if : (named : Named) (f g : Fact) (b : Bool) → is_version named g ≡ b → cond b (Some g) None ≡ Some f → (g ≡ f) × (name_of f ≡ named)
+only_if : (named : Named) (f g : Fact) (b : Bool) → is_named_version named g ≡ b → cond b (Some g) None ≡ Some f → (g ≡ f) × (name_of f ≡ named)
 only_if named f g true is e =
     let same : g ≡ f = cc in
     (same, ap name_of (sym same) ∙ same_name named g is)
 only_if named f g false is e = cc
 
-found : (named : Named) (f : Fact) (o : Option Fact) → option_and_then (λ (f : Fact). cond (is_version named f) (Some f) None) o ≡ Some f → (o ≡ Some f) × (name_of f ≡ named)
+found : (named : Named) (f : Fact) (o : Option Fact) → option_and_then (λ (f : Fact). cond (is_named_version named f) (Some f) None) o ≡ Some f → (o ≡ Some f) × (name_of f ≡ named)
 found named f None e = cc
 found named f (Some g) e =
-    let is = only_if named f g (is_version named g) refl e in
+    let is = only_if named f g (is_named_version named g) refl e in
     (ap (λ g. Some g) is.0, is.1)
 
 -- the version at hand is the fact at its tag
@@ -62,21 +58,13 @@ row_with facts row = record { facts = facts; values = row.values }
 pub row_is : (look : Look) (row : Row) (facts : List Fact) → versions_at look row.facts ≡ Some facts → row_of (tuple_of facts row.values) ≡ row
 row_is look row facts e = ap (λ names. row_with names row) (versions_are look row.facts facts e).0
 
-and_nothing : (a : Bool) → (a && false) ≡ false
-and_nothing true = refl
-and_nothing false = refl
-
-and_true : (a : Bool) → (a && true) ≡ a
-and_true true = refl
-and_true false = refl
-
 -- what code finds: the tests hold for the row, and all that it names is at hand
 pub joins_where : (p : Pattern) (look : Look) (row : Row) (f : Fact) (passed : Bool)
     → ((tuple : Tuple) → row_of tuple ≡ row → Holds look tuple.facts → passed ≡ passes p tuple f)
     → (all : Option (List Fact)) → versions_at look row.facts ≡ all → (passed && is_some all) ≡ passes_given p (option_map (λ facts. tuple_of facts row.values) all) (Some f)
-joins_where p look row f passed h None is = and_nothing passed
+joins_where p look row f passed h None is = and-false passed
 joins_where p look row f passed h (Some facts) is =
-    and_true passed ∙ h (tuple_of facts row.values) (row_is look row facts is) (versions_are look row.facts facts is).1
+    and-true passed ∙ h (tuple_of facts row.values) (row_is look row facts is) (versions_are look row.facts facts is).1
 
 none_passes : (p : Pattern) (o : Option Tuple) → passes_given p o None ≡ false
 none_passes p None = refl

@@ -17,12 +17,12 @@ abbrev pub Look : Type 0
 Look = Tag → Option Fact
 
 -- the fact is the version that is named
-abbrev pub is_version : Named → Fact → Bool
-is_version named f = eq_by_cmp name_cmp (name_of f) named
+abbrev pub is_named_version : Named → Fact → Bool
+is_named_version named f = eq_by_cmp name_cmp (name_of f) named
 
 -- the version that is named, where it is at hand
 abbrev pub version_at : Look → Named → Option Fact
-version_at look named = option_and_then (λ (f : Fact). cond (is_version named f) (Some f) None) (look named.tag)
+version_at look named = option_and_then (λ (f : Fact). cond (is_named_version named f) (Some f) None) (look named.tag)
 
 -- the versions that are named, where all of them are at hand
 abbrev pub versions_at : Look → List Named → Option (List Fact)

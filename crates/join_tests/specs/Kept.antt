@@ -54,8 +54,8 @@ candidates_sought p look row =
     (λ key. first_candidate key (row_moment key look row)) (λ key. last_candidate key (row_moment key look row))
 
 -- whether the value is one of these
-abbrev pub is_among : List Value → Value → Bool
-is_among values v = list_any (same_value v) values
+abbrev pub is_value_among : List Value → Value → Bool
+is_value_among values v = list_any (same_value v) values
 
 -- the values behind what is sought
 abbrev pub all_sought : Sought → List Value

@@ -13,12 +13,12 @@ use Rattle.join_tests.specs.declared.time_key.TimeKey.{TimeKey}
 use Rattle.join_tests.specs.Joins.{Look}
 use Rattle.join_tests.specs.Keys.{join_keys, earlier_value, given_or_true, as_one}
 use Rattle.join_tests.specs.TimeKeys.{time_key}
-use Rattle.join_tests.specs.Slots.{moment_at, slot_value}
+use Rattle.join_tests.specs.Slots.{moment_at_point, slot_value}
 use Rattle.join_tests.specs.Kept.{with_slot}
 
 -- the row's side of an equality
-abbrev pub side_of : JoinKey → JoinSide
-side_of key = key.side
+abbrev pub row_side_of : JoinKey → JoinSide
+row_side_of key = key.side
 
 -- the row's side of a range of time
 abbrev pub row_time : TimeKey → RowTime
@@ -26,7 +26,7 @@ row_time key = record { fact = key.fact; event = key.event; span = key.span }
 
 -- the row's side of the equalities of a pattern and of its range of time
 abbrev pub row_key : Pattern → RowKey
-row_key p = record { sides = map side_of (join_keys p); time = option_map row_time (time_key p) }
+row_key p = record { sides = map row_side_of (join_keys p); time = option_map row_time (time_key p) }
 
 -- what a row has of a side
 abbrev pub side_part : Look → Row → JoinSide → Value
@@ -34,7 +34,7 @@ side_part look row side = given_or_true (earlier_value (bound_in look row) side)
 
 abbrev pub kept_by_time : List Value → Option RowTime → Look → Row → Value
 kept_by_time values None look row = as_one values
-kept_by_time values (Some time) look row = with_slot values (slot_value time.span (moment_at time.event ((bound_in look row).fact time.fact)))
+kept_by_time values (Some time) look row = with_slot values (slot_value time.span (moment_at_point time.event ((bound_in look row).fact time.fact)))
 
 -- the value under which the patterns of this key keep a row
 abbrev pub value_by : RowKey → Look → Row → Value

@@ -31,21 +31,21 @@ slot_value span moment = given_or_true (number_given (in_64_bits (slot_of span m
 
 -- ---- moments
 
-abbrev pub point_of : Point → Times → ℤ
-point_of Start times = times.start
-point_of End times = times.end
+abbrev pub point_of_times : Point → Times → ℤ
+point_of_times Start times = times.start
+point_of_times End times = times.end
 
 -- the point of a fact that may be missing; what is missing joins nothing, so any moment may stand for it
-abbrev pub moment_at : Point → Option Fact → ℤ
-moment_at point None = pos 0
-moment_at point (Some f) = point_of point f.times
+abbrev pub moment_at_point : Point → Option Fact → ℤ
+moment_at_point point None = pos 0
+moment_at_point point (Some f) = point_of_times point f.times
 
 -- the moment of a row: that of the event that it names
 abbrev pub row_moment : TimeKey → Look → Row → ℤ
-row_moment key look row = moment_at key.event ((bound_in look row).fact key.fact)
+row_moment key look row = moment_at_point key.event ((bound_in look row).fact key.fact)
 
 abbrev pub candidate_moment : TimeKey → Look → Named → ℤ
-candidate_moment key look who = moment_at key.own (look who.tag)
+candidate_moment key look who = moment_at_point key.own (look who.tag)
 
 -- ---- ranges
 

@@ -1,6 +1,6 @@
 ghost use Rattle.std.specs.Prelude.{◌≡◌, option_map, cond, Some, None};
 ghost use Rattle.std.specs.Option.{is_some};
-ghost use Rattle.join_tests.specs.Joins.{is_version, version_at, versions_at, joins};
+ghost use Rattle.join_tests.specs.Joins.{is_named_version, version_at, versions_at, joins};
 
 use fx_base::{Fact, Facts};
 use row_delta::{Named, Row};
@@ -29,7 +29,7 @@ fn version<F: Facts>(facts: &F, named: Named) -> Option<&Fact>
 }
 
 fn only_version(fact: &Fact, named: Named) -> Option<&Fact>
-    ensures { option_map (λ f. f.now) result ≡ cond (is_version named fact.now) (Some fact.now) None }
+    ensures { option_map (λ f. f.now) result ≡ cond (is_named_version named fact.now) (Some fact.now) None }
 {
     let name = Named {
         id: fact.id,

@@ -6,7 +6,7 @@ ghost use Rattle.rule_model.specs.declared.condition.Pattern.{Pattern};
 ghost use Rattle.join_tests.specs.Joins.{Look, joins};
 ghost use Rattle.join_tests.specs.Keys.{join_keys, row_part, candidate_part};
 ghost use Rattle.join_tests.specs.TimeKeys.{time_key};
-ghost use Rattle.join_tests.specs.Kept.{row_value, candidate_value, rows_sought, candidates_sought, is_among};
+ghost use Rattle.join_tests.specs.Kept.{row_value, candidate_value, rows_sought, candidates_sought, is_value_among};
 ghost use Rattle.join_tests.specs.RowKeys.{row_key, value_by};
 
 /// A candidate that joins a row has what the row has of each equality, and so, where no range of time is asked for, the row's join
@@ -17,9 +17,9 @@ pub fn what_joins_has_equal_values()
     ensures joined { (p : Pattern) (look : Look) (row : Row) (who : Named) → joins p look row who ≡ true → time_key p ≡ None
         → row_value p look row ≡ candidate_value p look who }
     ensures rows { (p : Pattern) (look : Look) (row : Row) (who : Named) → joins p look row who ≡ true
-        → is_among (rows_sought p look who) (row_value p look row) ≡ true }
+        → is_value_among (rows_sought p look who) (row_value p look row) ≡ true }
     ensures candidates { (p : Pattern) (look : Look) (row : Row) (who : Named) → joins p look row who ≡ true
-        → is_among (candidates_sought p look row) (candidate_value p look who) ≡ true }
+        → is_value_among (candidates_sought p look row) (candidate_value p look who) ≡ true }
 {}
 
 /// Under which value a row is kept its pattern's key of rows alone decides.

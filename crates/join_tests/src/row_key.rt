@@ -5,7 +5,7 @@ ghost use Rattle.std.specs.Option.{option_map};
 ghost use Rattle.join_tests.specs.JoinValues.{shown};
 ghost use Rattle.join_tests.specs.Keys.{keys_of_compares, keys_of_choices, keys_of_tests, as_one, fed_with};
 ghost use Rattle.join_tests.specs.Kept.{with_slot};
-ghost use Rattle.join_tests.specs.RowKeys.{side_of, row_time, row_key, side_part, value_by};
+ghost use Rattle.join_tests.specs.RowKeys.{row_side_of, row_time, row_key, side_part, value_by};
 
 use crate::join_value::JoinValue;
 use crate::key::{JoinSide, key_of_compare};
@@ -141,7 +141,7 @@ fn time_of(key: Option<TimeKey>) -> Option<RowTime>
 }
 
 fn put_tests(sides: &mut Vec<JoinSide>, tests: &[Test]) -> Result<(), NoMemory>
-    ensures { OnOk result (sides.new.items ≡ sides.old.items ++ map side_of (keys_of_tests tests.now)) }
+    ensures { OnOk result (sides.new.items ≡ sides.old.items ++ map row_side_of (keys_of_tests tests.now)) }
 {
     for test in tests {
         put_choices(sides, test.choices.as_slice())?;
@@ -150,7 +150,7 @@ fn put_tests(sides: &mut Vec<JoinSide>, tests: &[Test]) -> Result<(), NoMemory>
 }
 
 fn put_choices(sides: &mut Vec<JoinSide>, choices: &[Seq<Compare>]) -> Result<(), NoMemory>
-    ensures { OnOk result (sides.new.items ≡ sides.old.items ++ map side_of (keys_of_choices choices.now)) }
+    ensures { OnOk result (sides.new.items ≡ sides.old.items ++ map row_side_of (keys_of_choices choices.now)) }
 {
     match choices {
         [choice] => put_compares(sides, choice.as_slice()),
@@ -159,7 +159,7 @@ fn put_choices(sides: &mut Vec<JoinSide>, choices: &[Seq<Compare>]) -> Result<()
 }
 
 fn put_compares(sides: &mut Vec<JoinSide>, compares: &[Compare]) -> Result<(), NoMemory>
-    ensures { OnOk result (sides.new.items ≡ sides.old.items ++ map side_of (keys_of_compares compares.now)) }
+    ensures { OnOk result (sides.new.items ≡ sides.old.items ++ map row_side_of (keys_of_compares compares.now)) }
 {
     for compare in compares {
         match key_of_compare(compare) {

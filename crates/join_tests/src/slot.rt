@@ -1,6 +1,6 @@
 //! The slots of time in which rows and candidates are kept and sought.
 ghost use Rattle.std.specs.Prelude.{◌≡◌, option_map};
-ghost use Rattle.join_tests.specs.Slots.{slot_value, moment_at, first_event, last_event, first_candidate, last_candidate};
+ghost use Rattle.join_tests.specs.Slots.{slot_value, moment_at_point, first_event, last_event, first_candidate, last_candidate};
 
 use crate::part::number_or_true;
 use crate::time_key::{Point, TimeKey};
@@ -8,7 +8,7 @@ use fx_base::{Fact, Millis, Value};
 
 /// The point of a fact that may be missing. Takes no memory.
 pub(crate) fn moment_at(point: Point, fact: Option<&Fact>) -> Millis
-    ensures { result ≡ moment_at point (option_map (λ f. f.now) fact.entry) }
+    ensures { result ≡ moment_at_point point (option_map (λ f. f.now) fact.entry) }
 {
     match (fact, point) {
         (Some(fact), Point::Start) => fact.times.start,

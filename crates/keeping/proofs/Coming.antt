@@ -1,12 +1,16 @@
 -- What comes in a step names what is kept, and meets what is kept.
-use Rattle.keeping.proofs.Common.{◌≡◌, ◌∙◌, ◌&&◌, not, ℕ, zero, suc, true, false, List, [], ◌∷◌, Some, refl, sym, subst, ap, slice_get, In, Fact, Named, Condition, LifeTable, Program, Rule, Step, is_candidate, pattern_of, Snapshot, name_of, both_of, of_filter, in_filter, World, snapshot, IsKept, binds, not_true, same_fact, held, candidates_of, held_fact, candidate_of, is_kept, is_forgotten, IsLawfulStep, behind, take, candidates, passes, HaveOperators, Tuple, empty_tuple, row_of, of_map, makes_listed, listed_makes, Comes, operators_of, Look, joins, IsMade, tuple_of_row, row_of_tuple, joins_of_tuple, made_facts, RowComes}
+use Rattle.keeping.proofs.Common.{◌≡◌, ◌∙◌, ◌&&◌, not, ℕ, zero, suc, true, false, List, [], ◌∷◌, Some, refl, sym, subst, ap, slice_get, take, In, Fact, Named}
+use Rattle.keeping.proofs.Common.{Condition, LifeTable, Program, Rule, Step, is_candidate, candidates, passes, pattern_of, binds, HaveOperators, Snapshot}
+use Rattle.keeping.proofs.Common.{name_of, Tuple, empty_tuple, row_of, of_filter, in_filter, World, snapshot, IsKept, Comes, same_fact, operators_of, held}
+use Rattle.keeping.proofs.Common.{candidates_of, held_fact, joins_of_tuple, candidate_of, made_facts, is_kept, is_forgotten, IsLawfulStep, behind, RowComes}
+use Rattle.keeping.proofs.Common.{of_map, makes_listed, listed_makes, Look, joins, IsMade, tuple_of_row, row_of_tuple, and_parts, false_from_ne_true}
+use Rattle.keeping.proofs.Common.{list_any-none}
 use Rattle.row_delta.specs.declared.row.Row.{Row}
 use Rattle.rule_model.specs.Lent.{Holds}
 use Rattle.rule_lives.proofs.Keeps.{here, tuple_names_kept, tuple_meets_kept}
 use Rattle.pair_memory.specs.Standing.{clean, no_names}
 use Rattle.condition_rows.specs.Looks.{HasAllOf}
 use Rattle.keeping.proofs.Decided.{is_tested}
-use Rattle.keeping.proofs.Members.{none_passes}
 use Rattle.keeping.proofs.Versions.{IsLost, lost, tags_behind}
 
 first_operators : (cs : List Condition) (q : ℕ) → HaveOperators cs → HaveOperators (take q cs)
@@ -61,7 +65,7 @@ module _ (p : Program) (table : LifeTable) (w : World) (step : Step) (given : Is
     met : (row : Row) (t : HasTuple (take q rule.conditions) row) (who : Named) → IsLost p table w who → (candidates_of p (pattern_of c) next who && joins (pattern_of c) look row who) ≡ true → ⊥
     met row t who g h =
         let d = tags_behind p w step given.lawful.ordered in
-        let parts = both_of (candidates_of p (pattern_of c) next who) (joins (pattern_of c) look row who) h in
+        let parts = and_parts (candidates_of p (pattern_of c) next who) (joins (pattern_of c) look row who) h in
         let f = candidate_of p next d (pattern_of c) who parts.0 in
         let there = of_filter (is_candidate p (pattern_of c) next) f.0 next.facts f.1 in
         let joining : joins (pattern_of c) look (row_of t.tuple) (name_of f.0) ≡ true =
@@ -76,12 +80,12 @@ module _ (p : Program) (table : LifeTable) (w : World) (step : Step) (given : Is
         → (who : Named) → is_forgotten p table w who ≡ true → (candidates_of p (pattern_of c) next who && joins (pattern_of c) look row who) ≡ false
     row_meets_kept row comes who forgotten =
         let t = tuple_of (take q rule.conditions) (first_operators rule.conditions q operators) row comes in
-        not_true (candidates_of p (pattern_of c) next who && joins (pattern_of c) look row who) (met row t who (lost p table w who forgotten))
+        false_from_ne_true (candidates_of p (pattern_of c) next who && joins (pattern_of c) look row who) (met row t who (lost p table w who forgotten))
 
   pub row_names_kept : (row : Row) → RowComes p w step rule.conditions row → clean (is_forgotten p table w) row ≡ true
   row_names_kept row comes =
       let t = tuple_of rule.conditions operators row comes in
-      ap not (none_passes (is_forgotten p table w) row.facts (λ who own. not_true (is_forgotten p table w who) (λ forgotten.
+      ap not (list_any-none (is_forgotten p table w) row.facts (λ who own. false_from_ne_true (is_forgotten p table w who) (λ forgotten.
       let f = of_map name_of who t.tuple.facts (subst (λ (r : Row). In who r.facts) (sym t.named) own) in
       not_kept who (lost p table w who forgotten) f.0 (here p next t.tuple rule.conditions t.comes.0 f.0 f.1).0 f.2
       (tuple_names_kept p table w step given.flagged given.safe given.lawful given.faultless rule in_rules t.tuple t.comes f.0 f.1))))

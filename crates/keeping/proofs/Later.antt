@@ -1,12 +1,14 @@
 -- What is forgotten stays forgotten, by steps and by firings.
-use Rattle.keeping.proofs.Common.{◌≡◌, ◌∙◌, ◌||◌, not, Bool, true, false, inl, inr, ◌∷◌, Option, Some, None, refl, sym, ap, subst, slice_get, In, Fact, Named, LifeTable, Match, Program, Step, name_of, or_left, or_right, or_split, of_filter, in_filter, passed, IsOrdered, World, snapshot, pending, not_true, version_at, has_name, held, is_alive, is_named, is_lost, IsLawfulStep, same_fact, marked, step_in_order}
+use Rattle.keeping.proofs.Common.{◌≡◌, ◌∙◌, ◌||◌, not, Bool, true, false, inl, inr, ◌∷◌, Option, Some, None, refl, sym, ap, subst, slice_get, In, Fact, Named}
+use Rattle.keeping.proofs.Common.{LifeTable, Match, Program, Step, name_of, or_split, of_filter, in_filter, passed, IsOrdered, World, snapshot, pending, marked}
+use Rattle.keeping.proofs.Common.{version_at, has_name, held, is_alive, is_pending_named, is_lost, IsLawfulStep, same_fact, step_in_order, false_from_ne_true}
+use Rattle.keeping.proofs.Common.{or_left, or_right, list_any-from, list_any-In}
+use Rattle.rule_world.specs.Worlds.{stepped}
+use Rattle.keeping.specs.Kept.{is_kept, is_forgotten}
 use Rattle.std.specs.Ordering.{eq_by_cmp}
 use Rattle.rule_model.specs.Matches.{matches, match_cmp, has_match}
-use Rattle.rule_world.specs.Worlds.{stepped}
 use Rattle.rule_lives.proofs.Remains.{kept_before}
-use Rattle.keeping.specs.Kept.{is_kept, is_forgotten}
 use Rattle.keeping.proofs.Decided.{is_so, is_tested}
-use Rattle.keeping.proofs.Members.{some_passes, passing_one}
 use Rattle.keeping.proofs.Versions.{lost, forgotten_fact}
 
 -- what is not kept is forgotten, of a world in order
@@ -29,7 +31,7 @@ module _ (p : Program) (table : LifeTable) (w : World) (step : Step) (given : Is
       let same = same_behind f g.fact g.inside j (sym g.named) in
       let inside = subst (λ (x : Fact). In x w.facts) (sym same) g.inside in
       not_kept_is_forgotten p table (stepped p w step) (step_in_order p w step given.lawful.ordered) f j
-      (not_true (is_kept p table (stepped p w step) f) (λ e.
+      (false_from_ne_true (is_kept p table (stepped p w step) f) (λ e.
       let n : true ≡ false = sym (was_kept f inside j e) ∙ ap (is_kept p table w) same ∙ g.not_kept in
       absurd cc))
 
@@ -49,16 +51,16 @@ module _ (p : Program) (table : LifeTable) (w : World) (m : Match) where
       (unfired n (passed (λ (q : Match). not (has_match (m ∷ w.fired) q)) n (matches p (snapshot w)) i))
       (of_filter (λ (q : Match). not (has_match (m ∷ w.fired) q)) n (matches p (snapshot w)) i)
 
-  was_named : (f : Fact) → is_named p (marked w m) f ≡ true → is_named p w f ≡ true
+  was_named : (f : Fact) → is_pending_named p (marked w m) f ≡ true → is_pending_named p w f ≡ true
   was_named f e =
-      let n = passing_one (λ (q : Match). has_name q.row.facts (name_of f)) (pending p (marked w m)) e in
-      some_passes (λ (q : Match). has_name q.row.facts (name_of f)) n.0 (pending p w) (was_pending n.0 n.1) n.2
+      let n = list_any-In (λ (q : Match). has_name q.row.facts (name_of f)) (pending p (marked w m)) e in
+      list_any-from (λ (q : Match). has_name q.row.facts (name_of f)) n.0 (pending p w) (was_pending n.0 n.1) n.2
 
   pub kept_unfired : (f : Fact) → is_kept p table (marked w m) f ≡ true → is_kept p table w f ≡ true
   unfolding is_kept
-  kept_unfired f e = elim (or_split (is_alive p (slice_get table.lives f.ty.0) w.clock f) (is_named p (marked w m) f) e) [
-    | inl alive ↦ or_left (is_alive p (slice_get table.lives f.ty.0) w.clock f) (is_named p w f) alive
-    | inr own ↦ or_right (is_alive p (slice_get table.lives f.ty.0) w.clock f) (is_named p w f) (was_named f own)
+  kept_unfired f e = elim (or_split (is_alive p (slice_get table.lives f.ty.0) w.clock f) (is_pending_named p (marked w m) f) e) [
+    | inl alive ↦ or_left (is_alive p (slice_get table.lives f.ty.0) w.clock f) (is_pending_named p w f) alive
+    | inr own ↦ or_right (is_alive p (slice_get table.lives f.ty.0) w.clock f) (is_pending_named p w f) (was_named f own)
   ]
 
   flipped : (a b : Bool) → (b ≡ true → a ≡ true) → not a ≡ true → not b ≡ true

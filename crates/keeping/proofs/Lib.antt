@@ -1,5 +1,4 @@
 mod Common
-pub mod Members
 pub mod Decided
 pub mod Versions
 pub mod Coming

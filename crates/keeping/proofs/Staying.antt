@@ -1,14 +1,23 @@
 -- What is forgotten stays a candidate, or stays none.
-use Rattle.keeping.proofs.Common.{◌≡◌, ◌∙◌, ◌&&◌, ◌||◌, ◌==◌, not, ℕ, ℤ, ◌+ℤ◌, ◌-ℤ◌, ◌≤ℤ◌, ◌<ℤ◌, Bool, true, false, if◌then◌else◌, List, [], ◌∷◌, Option, Some, None, refl, sym, subst, ap, arith, slice_get, int_le, ints, In, Fact, Named, Condition, WindowTag, Time, Life, Plain, Explicit, Finite, Infinite, LifeTable, Program, Rule, Step, is_inside, is_candidate, pattern_of, Snapshot, tests_hold, unbound, name_of, is_event, expiry_of, both_of, of_filter, in_filter, IsLawful, World, snapshot, was_present, AreSafe, IsLife, binds, finite, not_true, same_number, lives_below, candidates_of, candidate_of, is_alive, is_named, is_forgotten, IsLawfulStep, behind, same_fact, int_lt, Whole, Length, is_within, is_observed, in_map, in_left, found, new_fact, has_id, revised, revised_in, stays, infinite, same_truth, candidate_named}
-use Rattle.fx_base.specs.declared.value.Value.{Value}
-use Rattle.rule_model.specs.declared.step.Step.TheVariants.{Insert, Modify, Retract, Advance, At, Promise, Begin}
+use Rattle.keeping.proofs.Common.{◌≡◌, ◌∙◌, ◌&&◌, ◌||◌, ◌==◌, not, ℕ, ℤ, ◌+ℤ◌, ◌-ℤ◌, ◌≤ℤ◌, ◌<ℤ◌, Bool, true, false, if◌then◌else◌, List, [], ◌∷◌, Option, Some}
+use Rattle.keeping.proofs.Common.{None, refl, sym, subst, ap, arith, slice_get, int_le, int_lt, In, Fact, Named, Condition, WindowTag, Time, Whole, Length}
+use Rattle.keeping.proofs.Common.{Life, Plain, Explicit, Finite, Infinite, LifeTable, Program, Rule, Step, is_inside, is_candidate, is_within, pattern_of}
+use Rattle.keeping.proofs.Common.{binds, Snapshot, tests_hold, unbound, name_of, is_event, expiry_of, is_observed, of_filter, in_filter, IsLawful, World}
+use Rattle.keeping.proofs.Common.{snapshot, found, new_fact, has_id, revised, revised_in, was_present, AreSafe, IsLife, finite, infinite, lives_below}
+use Rattle.keeping.proofs.Common.{candidates_of, candidate_of, candidate_named, is_alive, is_pending_named, is_forgotten, IsLawfulStep, behind, same_fact}
+use Rattle.keeping.proofs.Common.{in_map, in_left, stays, and_parts, eqb-true, false_from_ne_true}
+use Rattle.std.proofs.lemmas.Int.{ints}
 use Rattle.rule_model.specs.Candidates.{is_present}
 use Rattle.rule_world.specs.Worlds.{moved, step_fault}
-use Rattle.rule_world.proofs.Fresh.{revise}
 use Rattle.keeping.specs.Kept.{is_kept}
+use Rattle.std.proofs.Math.Bool.{or-true}
+use Rattle.fx_base.specs.declared.value.Value.{Value}
+use Rattle.rule_model.specs.declared.step.Step.TheVariants.{Insert, Modify, Retract, Advance, At, Promise, Begin}
+use Rattle.rule_world.proofs.Fresh.{revise}
 use Rattle.rule_lives.proofs.Laws.{observed_of}
 use Rattle.rule_lives.proofs.Moves.{plain_there, retracted_is_not_observed, clock_on}
 use Rattle.keeping.proofs.Versions.{lost, tags_behind}
+use Rattle.fx_base.proofs.Tests.{or_first_false, same_test}
 
 -- ---- no step takes away an observed event
 
@@ -21,11 +30,11 @@ pub observed_stays : (p : Program) (w : World) (step : Step) → IsLawful p w �
 unfolding moved step_fault
 observed_stays p w (Insert ty entry fields) law none f i event observed = in_left f w.facts (new_fact p w ty.0 entry.0 fields ∷ []) i
 observed_stays p w (Modify id sets) law none f i event observed =
-    let other = not_true (has_id id.0 f) (λ h. let n : true ≡ false = sym event ∙ plain_there p w id.0 law none f i h in absurd cc) in
+    let other = false_from_ne_true (has_id id.0 f) (λ h. let n : true ≡ false = sym event ∙ plain_there p w id.0 law none f i h in absurd cc) in
     subst (λ (g : Fact). In g (revised_in id.0 w.next_tag sets w.facts)) (unrevised id.0 w.next_tag sets f other) (in_map (revise id.0 w.next_tag sets) f w.facts i)
 observed_stays p w (Retract ty id) law none f i event observed =
-    in_filter (stays p w.clock ty.0 id.0) f w.facts (ap not (not_true (is_present p w.clock f && (f.ty.0 == ty.0 && has_id id.0 f)) (λ h.
-    let same = same_number f.ty.0 ty.0 (both_of (f.ty.0 == ty.0) (has_id id.0 f) (both_of (is_present p w.clock f) (f.ty.0 == ty.0 && has_id id.0 f) h).1).0 in
+    in_filter (stays p w.clock ty.0 id.0) f w.facts (ap not (false_from_ne_true (is_present p w.clock f && (f.ty.0 == ty.0 && has_id id.0 f)) (λ h.
+    let same = eqb-true f.ty.0 ty.0 (and_parts (f.ty.0 == ty.0) (has_id id.0 f) (and_parts (is_present p w.clock f) (f.ty.0 == ty.0 && has_id id.0 f) h).1).0 in
     let unseen = retracted_is_not_observed p ty.0 (found p w id.0) none (ap (is_event p) (sym same) ∙ event) in
     let n : true ≡ false = sym observed ∙ ap (is_observed p) same ∙ unseen in
     absurd cc))) i
@@ -52,13 +61,9 @@ too_old clock start end n span order past longer = omega (arith, ints)
 pub later_too : (a b c : ℤ) → a <ℤ b → b ≤ℤ c → a <ℤ c
 later_too a b c h k = omega (arith, ints)
 
-or_true : (a : Bool) → (a || true) ≡ true
-or_true true = refl
-or_true false = refl
-
 endless_present : (p : Program) (clock : ℤ) (f : Fact) → expiry_of p f.ty.0 ≡ None → is_present p clock f ≡ true
 unfolding is_present
-endless_present p clock f e = ap (λ (x : Option ℤ). not (is_event p f.ty.0) || is_within x (clock -ℤ f.times.start)) e ∙ or_true (not (is_event p f.ty.0))
+endless_present p clock f e = ap (λ (x : Option ℤ). not (is_event p f.ty.0) || is_within x (clock -ℤ f.times.start)) e ∙ or-true (not (is_event p f.ty.0))
 
 -- neither is a candidate, where it is present in neither
 absent_same : (a b r c d : Bool) → a ≡ false → b ≡ false → ((a && r) && c) ≡ ((b && r) && d)
@@ -82,7 +87,7 @@ module _ (p : Program) (s o : Snapshot) (from : s.clock ≤ℤ o.clock) (rule : 
   -- a fact that is not present comes into no pattern any more
   gone_same : is_present p s.clock f ≡ false → is_candidate p (pattern_of c) o f ≡ is_candidate p (pattern_of c) s f
   gone_same absent =
-      let absent_too = not_true (is_present p o.clock f) (λ h. let n : true ≡ false = sym (was_present p f s.clock o.clock from h) ∙ absent in absurd cc) in
+      let absent_too = false_from_ne_true (is_present p o.clock f) (λ h. let n : true ≡ false = sym (was_present p f s.clock o.clock from h) ∙ absent in absurd cc) in
       absent_same (is_present p o.clock f) (is_present p s.clock f) (f.ty.0 == (pattern_of c).ty.0 && alone)
       (is_inside p (pattern_of c) (pattern_of c).window o.clock o.facts f) (is_inside p (pattern_of c) (pattern_of c).window s.clock s.facts f) absent_too absent
 
@@ -103,18 +108,14 @@ module _ (p : Program) (s o : Snapshot) (from : s.clock ≤ℤ o.clock) (rule : 
         present_same (is_present p o.clock f) (is_present p s.clock f) (f.ty.0 == (pattern_of c).ty.0) alone
         (is_inside p (pattern_of c) (pattern_of c).window o.clock o.facts f) (is_inside p (pattern_of c) (pattern_of c).window s.clock s.facts f)
         (endless_present p o.clock f life.unexpired ∙ sym (endless_present p s.clock f life.unexpired))
-        (λ t. window_same (sym (same_number f.ty.0 (pattern_of c).ty.0 t)) (pattern_of c).window refl)
+        (λ t. window_same (sym (eqb-true f.ty.0 (pattern_of c).ty.0 t)) (pattern_of c).window refl)
 
 -- ---- what is not kept
-
-both_false : (a b : Bool) → (a || b) ≡ false → a ≡ false
-both_false true b e = e
-both_false false b e = refl
 
 module _ (p : Program) (table : LifeTable) (w : World) (are : AreSafe p table) where
   pub not_alive : (f : Fact) → is_kept p table w f ≡ false → is_alive p (slice_get table.lives f.ty.0) w.clock f ≡ false
   unfolding is_kept
-  not_alive f e = both_false (is_alive p (slice_get table.lives f.ty.0) w.clock f) (is_named p w f) e
+  not_alive f e = or_first_false (is_alive p (slice_get table.lives f.ty.0) w.clock f) (is_pending_named p w f) e
 
   -- what is not kept is an event
   event_by : (f : Fact) (life : Option Life) → slice_get table.lives f.ty.0 ≡ life → is_alive p life w.clock f ≡ false → is_event p f.ty.0 ≡ true
@@ -185,9 +186,9 @@ module _ (p : Program) (table : LifeTable) (w : World) (step : Step) (given : Is
       where
         of_type : (s : Snapshot) (f : Fact) → is_candidate p (pattern_of c) s f ≡ true → f.ty.0 ≡ (pattern_of c).ty.0
         of_type s f h =
-            let fit = both_of _ (is_inside p (pattern_of c) (pattern_of c).window s.clock s.facts f) h in
-            let typed = both_of (is_present p s.clock f) (f.ty.0 == (pattern_of c).ty.0 && (f.entry.0 == (pattern_of c).entry.0 && tests_hold unbound f (pattern_of c).alone)) fit.0 in
-            same_number f.ty.0 (pattern_of c).ty.0 (both_of (f.ty.0 == (pattern_of c).ty.0) (f.entry.0 == (pattern_of c).entry.0 && tests_hold unbound f (pattern_of c).alone) typed.1).0
+            let fit = and_parts _ (is_inside p (pattern_of c) (pattern_of c).window s.clock s.facts f) h in
+            let typed = and_parts (is_present p s.clock f) (f.ty.0 == (pattern_of c).ty.0 && (f.entry.0 == (pattern_of c).entry.0 && tests_hold unbound f (pattern_of c).alone)) fit.0 in
+            eqb-true f.ty.0 (pattern_of c).ty.0 (and_parts (f.ty.0 == (pattern_of c).ty.0) (f.entry.0 == (pattern_of c).entry.0 && tests_hold unbound f (pattern_of c).alone) typed.1).0
 
     pub side_same : candidates_of p (pattern_of c) next who ≡ candidates_of p (pattern_of c) (snapshot w) who
-    side_same = same_truth (candidates_of p (pattern_of c) next who) (candidates_of p (pattern_of c) (snapshot w) who) was_too is_too
+    side_same = same_test (candidates_of p (pattern_of c) next who) (candidates_of p (pattern_of c) (snapshot w) who) was_too is_too

@@ -1,13 +1,10 @@
 -- Versions of the facts of a world, before a step and behind it.
-use Rattle.keeping.proofs.Common.{◌≡◌, not, Bool, true, false, Option, Some, None, refl, sym, ap, In, Fact, Named, LifeTable, Program, Step, name_of, IsOrdered, World, snapshot, version_at, held, held_fact, is_kept, is_lost, moved, numbered, move_numbered, version_of, version_in}
-use Rattle.rule_model.specs.Distinct.{HaveDistinctTags}
+use Rattle.keeping.proofs.Common.{◌≡◌, not, true, false, Option, Some, None, refl, ap, In, Fact, Named, LifeTable, Program, Step, name_of, IsOrdered, World}
+use Rattle.keeping.proofs.Common.{snapshot, moved, version_at, held, held_fact, version_of, version_in, is_kept, is_lost, numbered, move_numbered, not-true}
 use Rattle.keeping.specs.Kept.{is_forgotten}
+use Rattle.rule_model.specs.Distinct.{HaveDistinctTags}
 
 -- ---- what is forgotten
-
-no_mark : (b : Bool) → not b ≡ true → b ≡ false
-no_mark true e = sym e
-no_mark false e = refl
 
 module _ (p : Program) (table : LifeTable) (w : World) where
   -- the fact that a forgotten version is
@@ -19,7 +16,7 @@ module _ (p : Program) (table : LifeTable) (w : World) where
 
   lost_by : (who : Named) (there : Option Fact) → version_at (held (snapshot w)) who ≡ there → is_lost p table w there ≡ true → IsLost who
   lost_by who None at e = absurd (let n : false ≡ true = e in cc)
-  lost_by who (Some f) at e = let v = version_in (snapshot w) who f at in record { fact = f; inside = v.0; named = v.1; not_kept = no_mark (is_kept p table w f) e }
+  lost_by who (Some f) at e = let v = version_in (snapshot w) who f at in record { fact = f; inside = v.0; named = v.1; not_kept = not-true (is_kept p table w f) e }
 
   pub lost : (who : Named) → is_forgotten p table w who ≡ true → IsLost who
   unfolding is_forgotten

@@ -1,12 +1,9 @@
 -- What is not kept is inside no window of time, then and later.
-use Rattle.keeping.proofs.Common.{◌≡◌, ◌∙◌, ◌&&◌, ◌==◌, ℕ, zero, suc, ℤ, ◌+ℤ◌, ◌-ℤ◌, ◌≤ℤ◌, ◌<ℤ◌, Bool, true, false, List, [], ◌∷◌, Option, Some, None, inl, inr, refl, sym, ap, slice_get, In, Fact, Condition, WindowTag, Time, Life, Plain, Explicit, Finite, Infinite, LifeTable, Program, Rule, is_inside, is_candidate, pattern_of, Snapshot, tests_hold, unbound, IsLawful, World, was_present, AreSafe, IsLife, finite, not_true, same_number, lives_below, is_alive, is_kept, is_present}
+use Rattle.keeping.proofs.Common.{◌≡◌, ◌∙◌, ◌&&◌, ◌==◌, ℤ, ◌+ℤ◌, ◌-ℤ◌, ◌≤ℤ◌, ◌<ℤ◌, Bool, true, false, [], Option, Some, None, refl, sym, ap, slice_get, In}
+use Rattle.keeping.proofs.Common.{Fact, Condition, WindowTag, Time, Life, Plain, Explicit, Finite, Infinite, LifeTable, Program, Rule, is_inside, is_candidate}
+use Rattle.keeping.proofs.Common.{is_present, pattern_of, Snapshot, tests_hold, unbound, IsLawful, World, was_present, AreSafe, IsLife, finite, lives_below}
+use Rattle.keeping.proofs.Common.{is_alive, is_kept, eqb-true, false_from_ne_true, In-place}
 use Rattle.keeping.proofs.Staying.{after_life, after_less, not_below, too_old, later_too, not_alive}
-
--- a member of a list has a place in it
-place_of : {A : Type 0} (x : A) (xs : List A) → In x xs → (k : ℕ) × (slice_get xs k ≡ Some x)
-place_of x [] i = absurd i
-place_of x (y ∷ xs) (inl e) = (zero, ap Some (sym e))
-place_of x (y ∷ xs) (inr i) = let r = place_of x xs i in (suc r.0, r.1)
 
 -- no candidate, where the facts of the type are not inside
 none_by : (a t r c : Bool) → (t ≡ true → c ≡ false) → ((a && (t && r)) && c) ≡ false
@@ -25,16 +22,16 @@ module _ (p : Program) (table : LifeTable) (w : World) (are : AreSafe p table) (
 
   gone : is_present p w.clock f ≡ false → is_candidate p (pattern_of c) s f ≡ false
   gone absent =
-      let absent_too = not_true (is_present p s.clock f) (λ h. let n : true ≡ false = sym (was_present p f w.clock s.clock from h) ∙ absent in absurd cc) in
+      let absent_too = false_from_ne_true (is_present p s.clock f) (λ h. let n : true ≡ false = sym (was_present p f w.clock s.clock from h) ∙ absent in absurd cc) in
       ap (λ b. (b && (f.ty.0 == (pattern_of c).ty.0 && alone)) && within) absent_too
 
   past : (n : ℤ) → IsLife p f.ty.0 (finite n) → (f.times.end +ℤ n) <ℤ w.clock → is_candidate p (pattern_of c) s f ≡ false
   past n life after =
-      let k = place_of c rule.conditions in_c in
+      let k = In-place c rule.conditions in_c in
       let order = ((law.sound f inside).timed life.event).event.ordered in
       none_by (is_present p s.clock f) (f.ty.0 == (pattern_of c).ty.0) alone within (λ t.
       let longer : span ≤ℤ n =
-      lives_below p f.ty.0 n rule (record { place = k.0; condition = c }) life in_rules k.1 (sym (same_number f.ty.0 (pattern_of c).ty.0 t)) (Time span) (finite span) at refl in
+      lives_below p f.ty.0 n rule (record { place = k.0; condition = c }) life in_rules k.1 (sym (eqb-true f.ty.0 (pattern_of c).ty.0 t)) (Time span) (finite span) at refl in
       ap (λ (v : WindowTag). is_inside p (pattern_of c) v s.clock s.facts f) at
       ∙ not_below (s.clock -ℤ f.times.start) span (too_old s.clock f.times.start f.times.end n span order (later_too (f.times.end +ℤ n) w.clock s.clock after from) longer))
 

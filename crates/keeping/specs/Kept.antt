@@ -27,12 +27,12 @@ is_alive p (Some (Finite n)) clock f = int_le clock (f.times.end +ℤ n)
 is_alive p (Some Infinite) clock f = true
 
 -- a pending match of the world names the fact
-abbrev pub is_named : Program → World → Fact → Bool
-is_named p w f = list_any (λ (m : Match). has_name m.row.facts (name_of f)) (pending p w)
+abbrev pub is_pending_named : Program → World → Fact → Bool
+is_pending_named p w f = list_any (λ (m : Match). has_name m.row.facts (name_of f)) (pending p w)
 
 -- the life that the table has for the fact's type keeps it at the clock, or a pending match names it
 unfoldable pub is_kept : Program → LifeTable → World → Fact → Bool
-is_kept p table w f = is_alive p (slice_get table.lives f.ty.0) w.clock f || is_named p w f
+is_kept p table w f = is_alive p (slice_get table.lives f.ty.0) w.clock f || is_pending_named p w f
 
 -- the facts of the world that are kept, in their order
 abbrev pub kept_facts : Program → LifeTable → World → List Fact

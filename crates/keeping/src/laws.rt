@@ -19,7 +19,7 @@ ghost use Rattle.rule_model.specs.Tuples.{name_of};
 ghost use Rattle.rule_world.specs.Lawful.{IsLawful};
 ghost use Rattle.rule_world.specs.Worlds.{World, snapshot, stepped, marked};
 ghost use Rattle.rule_lives.specs.Keeping.{AreSafe, IsKept};
-ghost use Rattle.rule_lives.specs.Networks.{binds};
+ghost use Rattle.rule_model.specs.Rows.{binds};
 ghost use Rattle.join_tests.specs.Joins.{Look, joins};
 ghost use Rattle.pair_memory.specs.Standing.{clean, no_names};
 ghost use Rattle.condition_rows.specs.Looks.{HasAllOf};

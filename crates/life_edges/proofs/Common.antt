@@ -1,5 +1,7 @@
 -- Names from modules that two proofs and more cite, passed on from one place. Declares nothing.
-pub use Rattle.std.proofs.Common.{◌≡◌, List, Some, [], arith, subst, ℕ, ◌∷◌, refl, sym, ◌<◌, ap, false, true, ℤ, Bool, drop, length, suc, zero, ◌++◌, ◌≤ℤ◌, ◌≤◌, pos, ◌+◌, ◌∙◌, None, Option, if◌then◌else◌, inl, inr, map, take, ◌-ℤ◌, ◌||◌, cond, nat_le, negsuc, ◌%◌, ◌&&◌, ◌*◌, ◌/◌, ◌<ℤ◌, ◌==◌, ◌^◌, ◌⊎◌}
+pub use Rattle.std.proofs.Common.{◌≡◌, List, Some, [], arith, subst, ℕ, ◌∷◌, refl, sym, ◌<◌, ap, false, true, ℤ, Bool, drop, length, suc, zero, ◌++◌, ◌≤ℤ◌, ◌≤◌}
+pub use Rattle.std.proofs.Common.{pos, ◌+◌, ◌∙◌, None, Option, if◌then◌else◌, inl, inr, map, take, ◌-ℤ◌, ◌||◌, cond, nat_le, negsuc, ◌%◌, ◌&&◌, ◌*◌, ◌/◌, ◌<ℤ◌}
+pub use Rattle.std.proofs.Common.{◌==◌, ◌^◌, ◌⊎◌}
 pub use Rattle.std.proofs.lemmas.Int.{ints, clamps}
 pub use Rattle.std.proofs.lemmas.List.Elements.{All-append, All-head, All-nil, All-tail, All-cons, All-weaker, All-map}
 pub use Rattle.std.proofs.lemmas.Option.{slice_get_read, slice_get_within}
@@ -7,11 +9,12 @@ pub use Rattle.std.specs.List.{All, flat_map, list_all, list_any}
 pub use Rattle.std.specs.Prelude.{slice_get, IfSome, int_le}
 pub use Rattle.fx_base.specs.Lists.{In}
 pub use Rattle.fx_base.specs.declared.times.Times.{Times}
-pub use Rattle.life_edges.specs.Edges.{edges_of, end_of, pattern_edges, place_of, start_of, net_edge, test_edges, event_edges, point_of, stands_in, HaveNetwork, RulesHaveNetworks, condition_edges}
-pub use Rattle.life_edges.specs.Tails.{HaveLives, HasShortWindow, IsShort, IsSpan, limit_of}
+pub use Rattle.life_edges.specs.Edges.{edges_of_conditions, end_of, pattern_edges, place_of, start_point_of, net_edge, test_edges, event_edges, point_of}
+pub use Rattle.life_edges.specs.Edges.{stands_in_network, HaveNetwork, RulesHaveNetworks, condition_edges}
+pub use Rattle.life_edges.specs.Tails.{HaveLives, HasShortWindow, IsShortLimit, IsShortSpan, limit_of}
 pub use Rattle.rule_lives.specs.Lifetimes.{scope, tail_by}
-pub use Rattle.rule_lives.specs.Networks.{bindings, Occurrence, Meets, Solves, bound, occurrence, IsMember, aside, is_met}
-pub use Rattle.rule_lives.specs.Reach.{Placed, infinite, IsGreatest, IsReach, distance, occurrence_of}
+pub use Rattle.rule_lives.specs.Networks.{bindings, Occurrence, MeetsTests, SolvesConditions, bound, occurrence, IsMember, aside, is_test_met}
+pub use Rattle.rule_lives.specs.Reach.{Placed, infinite, IsGreatestReach, IsReach, distance, occurrence_of}
 pub use Rattle.rule_model.specs.Rows.{pattern_of, HaveOperators}
 pub use Rattle.rule_model.specs.Types.{is_point, expiry_in, is_event, lateness_in}
 pub use Rattle.rule_model.specs.declared.condition.Condition.{Condition}

@@ -1,14 +1,18 @@
 -- The edges of a network are such as a network of 16 points takes.
-use Rattle.life_edges.proofs.Common.{◌≡◌, ◌+◌, ◌^◌, ◌<◌, ◌≤◌, ℕ, zero, suc, ℤ, pos, negsuc, ◌≤ℤ◌, Bool, true, false, List, [], ◌∷◌, length, Some, subst, arith, slice_get, All, flat_map, ints, All-nil, All-cons, All-head, All-tail, All-append, All-weaker, Corner, AStart, AEnd, BStart, BEnd, OpEdge, NetEdge, Condition, Program, TimeTest, pattern_of, HaveOperators, is_point, NameEarlier, start_of, end_of, point_of, place_of, net_edge, test_edges, event_edges, pattern_edges, stands_in, edges_of, All-map, slice_get_within, IsOpEdge, IsWithin}
-use Rattle.temporal_net.specs.Networks.{IsAmong, IsSmall}
+use Rattle.life_edges.proofs.Common.{◌≡◌, ◌+◌, ◌^◌, ◌<◌, ◌≤◌, ℕ, zero, suc, ℤ, pos, negsuc, ◌≤ℤ◌, Bool, true, false, List, [], ◌∷◌, length, Some, subst, arith}
+use Rattle.life_edges.proofs.Common.{slice_get, All, flat_map, ints, All-nil, All-cons, All-head, All-tail, All-append, All-weaker, Corner, AStart, AEnd}
+use Rattle.life_edges.proofs.Common.{BStart, BEnd, OpEdge, NetEdge, Condition, Program, TimeTest, pattern_of, HaveOperators, is_point, NameEarlier}
+use Rattle.life_edges.proofs.Common.{start_point_of, end_of, point_of, place_of, net_edge, test_edges, event_edges, pattern_edges, stands_in_network}
+use Rattle.life_edges.proofs.Common.{edges_of_conditions, All-map, slice_get_within, IsOpEdge, IsWithin}
+use Rattle.temporal_net.specs.Networks.{HasItsPoints, IsSmallEdge}
 use Rattle.rule_model.specs.Maturity.{AreOperators}
 use Rattle.life_edges.proofs.Places.{the_same, place_below, named_here}
 use Rattle.life_edges.proofs.Solutions.{Named}
 use Rattle.life_edges.proofs.Solved.{held, each_from}
 
 record Fits (e : NetEdge) : Type 0 where
-  among : IsAmong 16 e
-  small : IsSmall e
+  among : HasItsPoints 16 e
+  small : IsSmallEdge e
 
 point_below : (k m : ℕ) → k < 8 → m < 8 → (x : Corner) → point_of k m x < 16
 point_below k m h j AStart = omega arith
@@ -37,14 +41,14 @@ no_length x y h j = record { among = (h, j); small = (omega (arith, ints), omega
 
 event_fits : (k : ℕ) (point : Bool) → k < 8 → All Fits (event_edges point k)
 event_fits k false h =
-    let start : start_of k < 16 = omega arith in
+    let start : start_point_of k < 16 = omega arith in
     let end : end_of k < 16 = omega arith in
-    All-cons Fits (record { x = start_of k; y = end_of k; most = pos 0 }) [] (no_length (start_of k) (end_of k) start end) (All-nil Fits)
+    All-cons Fits (record { x = start_point_of k; y = end_of k; most = pos 0 }) [] (no_length (start_point_of k) (end_of k) start end) (All-nil Fits)
 event_fits k true h =
-    let start : start_of k < 16 = omega arith in
+    let start : start_point_of k < 16 = omega arith in
     let end : end_of k < 16 = omega arith in
-    All-cons Fits (record { x = start_of k; y = end_of k; most = pos 0 }) (record { x = end_of k; y = start_of k; most = pos 0 } ∷ []) (no_length (start_of k) (end_of k) start end)
-    (All-cons Fits (record { x = end_of k; y = start_of k; most = pos 0 }) [] (no_length (end_of k) (start_of k) end start) (All-nil Fits))
+    All-cons Fits (record { x = start_point_of k; y = end_of k; most = pos 0 }) (record { x = end_of k; y = start_point_of k; most = pos 0 } ∷ []) (no_length (start_point_of k) (end_of k) start end)
+    (All-cons Fits (record { x = end_of k; y = start_point_of k; most = pos 0 }) [] (no_length (end_of k) (start_point_of k) end start) (All-nil Fits))
 
 operators_at : (conditions : List Condition) (k : ℕ) (c : Condition) → HaveOperators conditions → slice_get conditions k ≡ Some c → AreOperators (pattern_of c).times
 operators_at [] k c h at = absurd cc
@@ -52,19 +56,19 @@ operators_at (d ∷ conditions) zero c h at = subst (λ (x : Condition). AreOper
 operators_at (d ∷ conditions) (suc k) c h at = operators_at conditions k c h.1 at
 
 all_fit : (p : Program) (conditions : List Condition) (places : List ℕ) → length conditions ≤ 8 → HaveOperators conditions → NameEarlier conditions
-    → All Fits (edges_of p conditions places 0 conditions)
+    → All Fits (edges_of_conditions p conditions places 0 conditions)
 all_fit p conditions places few ops named = each_from Fits p conditions places 0 conditions (λ k c at.
     let within : k < length conditions = slice_get_within conditions k c at in
     let below : 0 + k < 8 = omega arith in
-    held Fits (stands_in p places (0 + k) c) (pattern_edges p conditions (0 + k) (pattern_of c)) (λ e.
+    held Fits (stands_in_network p places (0 + k) c) (pattern_edges p conditions (0 + k) (pattern_of c)) (λ e.
     All-append Fits (event_edges (is_point p (pattern_of c).ty.0) (0 + k)) (flat_map (test_edges conditions (0 + k)) (pattern_of c).times)
     (event_fits (0 + k) (is_point p (pattern_of c).ty.0) below)
     (tests_fit conditions (0 + k) (pattern_of c).times few below (operators_at conditions k c ops at) (named_here conditions k c named at))))
 
 pub all_among : (p : Program) (conditions : List Condition) (places : List ℕ) → length conditions ≤ 8 → HaveOperators conditions → NameEarlier conditions
-    → All (IsAmong 16) (edges_of p conditions places 0 conditions)
-all_among p conditions places few ops named = All-weaker Fits (IsAmong 16) (λ e h. h.among) (edges_of p conditions places 0 conditions) (all_fit p conditions places few ops named)
+    → All (HasItsPoints 16) (edges_of_conditions p conditions places 0 conditions)
+all_among p conditions places few ops named = All-weaker Fits (HasItsPoints 16) (λ e h. h.among) (edges_of_conditions p conditions places 0 conditions) (all_fit p conditions places few ops named)
 
 pub all_small : (p : Program) (conditions : List Condition) (places : List ℕ) → length conditions ≤ 8 → HaveOperators conditions → NameEarlier conditions
-    → All IsSmall (edges_of p conditions places 0 conditions)
-all_small p conditions places few ops named = All-weaker Fits IsSmall (λ e h. h.small) (edges_of p conditions places 0 conditions) (all_fit p conditions places few ops named)
+    → All IsSmallEdge (edges_of_conditions p conditions places 0 conditions)
+all_small p conditions places few ops named = All-weaker Fits IsSmallEdge (λ e h. h.small) (edges_of_conditions p conditions places 0 conditions) (all_fit p conditions places few ops named)

@@ -1,5 +1,6 @@
 -- Places of the conditions that bind facts.
-use Rattle.life_edges.proofs.Common.{◌≡◌, ◌<◌, ◌≤◌, ℕ, zero, suc, List, [], ◌∷◌, length, take, Some, true, false, refl, ap, arith, slice_get, All, All-weaker, Condition, Plain, Negated, Existing, Folded, Pattern, TimeTest, pattern_of, bindings, NameEarlier, place_of}
+use Rattle.life_edges.proofs.Common.{◌≡◌, ◌<◌, ◌≤◌, ℕ, zero, suc, List, [], ◌∷◌, length, take, Some, true, false, refl, ap, arith, slice_get, All, All-weaker}
+use Rattle.life_edges.proofs.Common.{Condition, Plain, Negated, Existing, Folded, Pattern, TimeTest, pattern_of, bindings, NameEarlier, place_of}
 
 pub the_same : {A : Type 0} {x y : A} → Some x ≡ Some y → x ≡ y
 the_same e = cc

@@ -1,5 +1,10 @@
 -- What the rules of a program have that engines run.
-use Rattle.life_edges.proofs.Common.{◌≡◌, inl, inr, ◌&&◌, ◌||◌, ◌≤◌, ℕ, ℤ, pos, ◌≤ℤ◌, Bool, true, false, nat_le, List, [], ◌∷◌, length, Option, Some, None, if◌then◌else◌, refl, subst, sym, arith, slice_get, All, list_all, ints, All-head, All-tail, In, Condition, Pattern, Program, pattern_of, HaveOperators, NameEarlier, infinite, HaveLives, int_le, IfSome, clamps, expiry_in, lateness_in, is_event, has_conditions, has_lateness, has_expiry, is_window, has_window, has_windows, UseOperators, IsRunnable, tail_by, RulesHaveNetworks, IsSpan, IsShort, HasShortWindow}
+use Rattle.life_edges.proofs.Common.{◌≡◌, inl, inr, ◌&&◌, ◌||◌, ◌≤◌, ℕ, ℤ, pos, ◌≤ℤ◌, Bool, true, false, nat_le, List, [], ◌∷◌, length, Option, Some, None}
+use Rattle.life_edges.proofs.Common.{if◌then◌else◌, refl, subst, sym, arith, slice_get, All, list_all, ints, All-head, All-tail, In, Condition, Pattern}
+use Rattle.life_edges.proofs.Common.{Program, pattern_of, HaveOperators, NameEarlier, infinite, HaveLives, int_le, IfSome, clamps, expiry_in, lateness_in}
+use Rattle.life_edges.proofs.Common.{is_event, has_conditions, has_lateness, has_expiry, is_window, has_window, has_windows, UseOperators, IsRunnable, tail_by}
+use Rattle.life_edges.proofs.Common.{RulesHaveNetworks, IsShortSpan, IsShortLimit, HasShortWindow}
+use Rattle.std.proofs.lemmas.Bool.{and_parts}
 use Rattle.std.specs.Int.{int_max}
 use Rattle.std.proofs.lemmas.Bool.Decides.{nat_tests}
 use Rattle.rule_model.specs.declared.condition.WindowTag.{WindowTag}
@@ -12,8 +17,8 @@ use Rattle.rule_model.specs.Types.{expiry_of, lateness_of}
 use Rattle.rule_model.proofs.RuleOf.{in_place}
 use Rattle.rule_world.specs.Events.{most_millis}
 use Rattle.rule_world.proofs.Acting.{all_of}
-use Rattle.rule_world.proofs.Fresh.{and_parts}
 use Rattle.rule_lives.specs.Lifetimes.{tail}
+use Rattle.fx_base.proofs.Orders.{int_le-true}
 
 few : (rule : Rule) → has_conditions rule ≡ true → length rule.conditions ≤ 8
 few rule h = let e = (and_parts (nat_le 1 (length rule.conditions)) (nat_le (length rule.conditions) 8) h).1 in grind (arith, nat_tests)
@@ -37,45 +42,42 @@ rules_have_networks p runnable rule stands = record {
 
 -- ---- tails
 
-at_most : (a b : ℤ) → int_le a b ≡ true → a ≤ℤ b
-at_most a b e = grind (arith, ints)
-
-span : (low n : ℤ) → pos 0 ≤ℤ low → (int_le low n && int_le n most_millis) ≡ true → IsSpan n
+span : (low n : ℤ) → pos 0 ≤ℤ low → (int_le low n && int_le n most_millis) ≡ true → IsShortSpan n
 span low n least e =
     let q = and_parts (int_le low n) (int_le n most_millis) e in
-    let above = at_most low n q.0 in (omega (arith, ints), at_most n most_millis q.1)
+    let above = int_le-true low n q.0 in (omega (arith, ints), int_le-true n most_millis q.1)
 
-no_span : IsSpan (pos 0)
+no_span : IsShortSpan (pos 0)
 unfolding most_millis
 no_span = (omega (arith, ints), omega (arith, ints))
 
-longer : (a b : ℤ) → IsSpan a → IsSpan b → IsSpan (int_max a b)
+longer : (a b : ℤ) → IsShortSpan a → IsShortSpan b → IsShortSpan (int_max a b)
 longer a b h k =
     let (a_least, a_most) = h in
     let (b_least, b_most) = k in (omega (arith, ints, clamps), omega (arith, ints, clamps))
 
-late : (p : Program) (entry : ℕ) → list_all has_lateness p.entries ≡ true → IsSpan (lateness_of p entry)
+late : (p : Program) (entry : ℕ) → list_all has_lateness p.entries ≡ true → IsShortSpan (lateness_of p entry)
 unfolding lateness_of
 late p entry h = by (slice_get p.entries entry) refl
   where
-    by : (found : Option EntryInfo) → slice_get p.entries entry ≡ found → IsSpan (lateness_in found)
+    by : (found : Option EntryInfo) → slice_get p.entries entry ≡ found → IsShortSpan (lateness_in found)
     by None e = no_span
     by (Some info) e = span (pos 0) info.lateness (omega (arith, ints)) (all_of has_lateness p.entries info h (in_place p.entries entry info e))
 
-expires : (p : Program) (ty : ℕ) → list_all has_expiry p.types ≡ true → IfSome (expiry_of p ty) IsSpan
+expires : (p : Program) (ty : ℕ) → list_all has_expiry p.types ≡ true → IfSome (expiry_of p ty) IsShortSpan
 unfolding expiry_of
 expires p ty h = by (slice_get p.types ty) refl
   where
-    of_type : (info : TypeInfo) (expiry : Option ℤ) → info.expires ≡ expiry → has_expiry info ≡ true → IfSome expiry IsSpan
+    of_type : (info : TypeInfo) (expiry : Option ℤ) → info.expires ≡ expiry → has_expiry info ≡ true → IfSome expiry IsShortSpan
     of_type info None e g = tt
     of_type info (Some expiry) e g = span (pos 1) expiry (omega (arith, ints)) (and_parts info.event _ (rw e at g)).1
 
-    by : (found : Option TypeInfo) → slice_get p.types ty ≡ found → IfSome (expiry_in found) IsSpan
+    by : (found : Option TypeInfo) → slice_get p.types ty ≡ found → IfSome (expiry_in found) IsShortSpan
     by None e = tt
     by (Some info) e = of_type info info.expires refl (all_of has_expiry p.types info h (in_place p.types ty info e))
 
 tail_by_short : (window : WindowTag) (event : Bool) (expiry : Option ℤ) (lateness : ℤ) → (is_whole window || event && is_window window) ≡ true
-    → IfSome expiry IsSpan → IsSpan lateness → IsShort (tail_by window expiry lateness)
+    → IfSome expiry IsShortSpan → IsShortSpan lateness → IsShortLimit (tail_by window expiry lateness)
 tail_by_short Whole event None lateness w h k = k
 tail_by_short Whole event (Some expiry) lateness w h k = longer expiry lateness h k
 tail_by_short (Time time) event None lateness w h k = longer time lateness (span (pos 1) time (omega (arith, ints)) (and_parts event _ w).1) k
@@ -88,14 +90,14 @@ window_short Whole event w = tt
 window_short (Time time) event w = span (pos 1) time (omega (arith, ints)) (and_parts event _ w).1
 window_short (Length count) event w = tt
 
-tail_short : (p : Program) (c : Condition) → IsRunnable p → has_window p c ≡ true → IsShort (tail p (pattern_of c))
+tail_short : (p : Program) (c : Condition) → IsRunnable p → has_window p c ≡ true → IsShortLimit (tail p (pattern_of c))
 unfolding tail
 tail_short p c runnable window = by (is_event p (pattern_of c).ty.0)
   where
     pattern : Pattern
     pattern = pattern_of c
 
-    by : (event : Bool) → IsShort (if event then tail_by pattern.window (expiry_of p pattern.ty.0) (lateness_of p pattern.entry.0) else infinite)
+    by : (event : Bool) → IsShortLimit (if event then tail_by pattern.window (expiry_of p pattern.ty.0) (lateness_of p pattern.entry.0) else infinite)
     by true = tail_by_short pattern.window _ _ _ window (expires p pattern.ty.0 runnable.expiry) (late p pattern.entry.0 runnable.lateness)
     by false = tt
 

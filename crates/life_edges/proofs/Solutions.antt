@@ -1,9 +1,13 @@
 -- The solutions of the edges between numbered points are those of the network of occurrences.
-use Rattle.life_edges.proofs.Common.{◌≡◌, ◌++◌, ◌<◌, ℕ, ℤ, pos, ◌-ℤ◌, ◌≤ℤ◌, Bool, true, false, List, [], ◌∷◌, map, Some, refl, sym, ◌∙◌, ap, subst, arith, slice_get, All, list_all, flat_map, ints, All-nil, All-cons, All-head, All-tail, All-append, Times, Corner, AStart, AEnd, BStart, BEnd, OpEdge, NetEdge, Condition, Plain, Pattern, Program, TimeTest, is_point, Occurrence, bound, bindings, occurrence, Meets, start_of, end_of, point_of, place_of, net_edge, test_edges, event_edges, pattern_edges, corner, is_met}
+use Rattle.life_edges.proofs.Common.{◌≡◌, ◌++◌, ◌<◌, ℕ, ℤ, pos, ◌-ℤ◌, ◌≤ℤ◌, Bool, true, false, List, [], ◌∷◌, map, Some, refl, sym, ◌∙◌, ap, subst, arith}
+use Rattle.life_edges.proofs.Common.{slice_get, All, list_all, flat_map, ints, All-nil, All-cons, All-head, All-tail, All-append, Times, Corner, AStart, AEnd}
+use Rattle.life_edges.proofs.Common.{BStart, BEnd, OpEdge, NetEdge, Condition, Plain, Pattern, Program, TimeTest, is_point, Occurrence, bound, bindings}
+use Rattle.life_edges.proofs.Common.{occurrence, MeetsTests, start_point_of, end_of, point_of, place_of, net_edge, test_edges, event_edges, pattern_edges}
+use Rattle.life_edges.proofs.Common.{corner, is_test_met}
+use Rattle.std.proofs.lemmas.Bool.{and_from, and_parts}
 use Rattle.std.specs.Int.Signed.{le_z}
 use Rattle.temporal_ops.specs.Edges.{edge_holds, edges_hold}
 use Rattle.temporal_ops.specs.Possible.{IsEvent}
-use Rattle.rule_model.proofs.Listed.{both, both_of}
 use Rattle.life_edges.proofs.Places.{false_is, binder}
 
 abbrev pub Holds : (ℕ → ℤ) → NetEdge → Type 0
@@ -11,7 +15,7 @@ Holds v e = (v e.x -ℤ v e.y) ≤ℤ e.most
 
 -- the times of an event that starts and ends at the points of this place
 abbrev pub times_at : (ℕ → ℤ) → ℕ → Times
-times_at v place = record { start = v (start_of place); end = v (end_of place) }
+times_at v place = record { start = v (start_point_of place); end = v (end_of place) }
 
 -- the numbers of the points are the times of the events of the conditions
 abbrev pub Agree : List Condition → (ℕ → ℤ) → (Occurrence → Times) → Type 0
@@ -49,12 +53,12 @@ edge_is v k m e = ap (λ (z : ℤ). le_z (z -ℤ corner e.y (times_at v k) (time
 edges_from : (v : ℕ → ℤ) (k m : ℕ) (edges : List OpEdge) → list_all (edge_holds (times_at v k) (times_at v m)) edges ≡ true → All (Holds v) (map (net_edge k m) edges)
 edges_from v k m [] h = All-nil (Holds v)
 edges_from v k m (e ∷ edges) h =
-    let b = both_of (edge_holds (times_at v k) (times_at v m) e) (list_all (edge_holds (times_at v k) (times_at v m)) edges) h in
+    let b = and_parts (edge_holds (times_at v k) (times_at v m) e) (list_all (edge_holds (times_at v k) (times_at v m)) edges) h in
     All-cons (Holds v) (net_edge k m e) (map (net_edge k m) edges) (less (v (point_of k m e.x)) (v (point_of k m e.y)) e.most (sym (edge_is v k m e) ∙ b.0)) (edges_from v k m edges b.1)
 
 edges_to : (v : ℕ → ℤ) (k m : ℕ) (edges : List OpEdge) → All (Holds v) (map (net_edge k m) edges) → list_all (edge_holds (times_at v k) (times_at v m)) edges ≡ true
 edges_to v k m [] h = refl
-edges_to v k m (e ∷ edges) h = both (edge_holds (times_at v k) (times_at v m) e) (list_all (edge_holds (times_at v k) (times_at v m)) edges)
+edges_to v k m (e ∷ edges) h = and_from (edge_holds (times_at v k) (times_at v m) e) (list_all (edge_holds (times_at v k) (times_at v m)) edges)
     (edge_is v k m e ∙ not_more (v (point_of k m e.x)) (v (point_of k m e.y)) e.most (All-head (Holds v) (net_edge k m e) (map (net_edge k m) edges) h))
     (edges_to v k m edges (All-tail (Holds v) (net_edge k m e) (map (net_edge k m) edges) h))
 
@@ -66,13 +70,13 @@ named_at conditions v times number agree h =
     sym (ap (λ (n : ℕ). times (bound n)) b.2) ∙ agree (place_of conditions number) (Plain b.0) b.1
 
 test_from : (conditions : List Condition) (v : ℕ → ℤ) (times : Occurrence → Times) (k : ℕ) (test : TimeTest) → Agree conditions v times → test.fact < bindings conditions
-    → is_met times (times_at v k) test ≡ true → All (Holds v) (test_edges conditions k test)
+    → is_test_met times (times_at v k) test ≡ true → All (Holds v) (test_edges conditions k test)
 unfolding edges_hold
 test_from conditions v times k test agree h met =
     edges_from v k (place_of conditions test.fact) test.op (subst (λ (y : Times). list_all (edge_holds (times_at v k) y) test.op ≡ true) (named_at conditions v times test.fact agree h) met)
 
 test_to : (conditions : List Condition) (v : ℕ → ℤ) (times : Occurrence → Times) (k : ℕ) (test : TimeTest) → Agree conditions v times → test.fact < bindings conditions
-    → All (Holds v) (test_edges conditions k test) → is_met times (times_at v k) test ≡ true
+    → All (Holds v) (test_edges conditions k test) → is_test_met times (times_at v k) test ≡ true
 unfolding edges_hold
 test_to conditions v times k test agree h all =
     subst (λ (y : Times). list_all (edge_holds (times_at v k) y) test.op ≡ true) (sym (named_at conditions v times test.fact agree h)) (edges_to v k (place_of conditions test.fact) test.op all)
@@ -81,30 +85,30 @@ abbrev pub Named : List Condition → TimeTest → Type 0
 Named conditions test = test.fact < bindings conditions
 
 tests_from : (conditions : List Condition) (v : ℕ → ℤ) (times : Occurrence → Times) (k : ℕ) (tests : List TimeTest) → Agree conditions v times → All (Named conditions) tests
-    → list_all (is_met times (times_at v k)) tests ≡ true → All (Holds v) (flat_map (test_edges conditions k) tests)
+    → list_all (is_test_met times (times_at v k)) tests ≡ true → All (Holds v) (flat_map (test_edges conditions k) tests)
 tests_from conditions v times k [] agree named h = All-nil (Holds v)
 tests_from conditions v times k (test ∷ tests) agree named h =
-    let b = both_of (is_met times (times_at v k) test) (list_all (is_met times (times_at v k)) tests) h in
+    let b = and_parts (is_test_met times (times_at v k) test) (list_all (is_test_met times (times_at v k)) tests) h in
     All-append (Holds v) (test_edges conditions k test) (flat_map (test_edges conditions k) tests)
     (test_from conditions v times k test agree (All-head (Named conditions) test tests named) b.0)
     (tests_from conditions v times k tests agree (All-tail (Named conditions) test tests named) b.1)
 
 tests_to : (conditions : List Condition) (v : ℕ → ℤ) (times : Occurrence → Times) (k : ℕ) (tests : List TimeTest) → Agree conditions v times → All (Named conditions) tests
-    → All (Holds v) (flat_map (test_edges conditions k) tests) → list_all (is_met times (times_at v k)) tests ≡ true
+    → All (Holds v) (flat_map (test_edges conditions k) tests) → list_all (is_test_met times (times_at v k)) tests ≡ true
 tests_to conditions v times k [] agree named h = refl
-tests_to conditions v times k (test ∷ tests) agree named h = both (is_met times (times_at v k) test) (list_all (is_met times (times_at v k)) tests)
+tests_to conditions v times k (test ∷ tests) agree named h = and_from (is_test_met times (times_at v k) test) (list_all (is_test_met times (times_at v k)) tests)
     (test_to conditions v times k test agree (All-head (Named conditions) test tests named) (all_first (Holds v) (test_edges conditions k test) (flat_map (test_edges conditions k) tests) h))
     (tests_to conditions v times k tests agree (All-tail (Named conditions) test tests named) (all_second (Holds v) (test_edges conditions k test) (flat_map (test_edges conditions k) tests) h))
 
 -- ---- events
 
 event_from : (v : ℕ → ℤ) (k : ℕ) (point : Bool) → IsEvent point (times_at v k) → All (Holds v) (event_edges point k)
-event_from v k false e = All-cons (Holds v) (record { x = start_of k; y = end_of k; most = pos 0 }) [] (below e.ordered) (All-nil (Holds v))
+event_from v k false e = All-cons (Holds v) (record { x = start_point_of k; y = end_of k; most = pos 0 }) [] (below e.ordered) (All-nil (Holds v))
   where
     below : {a b : ℤ} → a ≤ℤ b → (a -ℤ b) ≤ℤ pos 0
     below h = omega (arith, ints)
-event_from v k true e = All-cons (Holds v) (record { x = start_of k; y = end_of k; most = pos 0 }) (record { x = end_of k; y = start_of k; most = pos 0 } ∷ []) (below e.ordered)
-    (All-cons (Holds v) (record { x = end_of k; y = start_of k; most = pos 0 }) [] (equal (e.ends refl)) (All-nil (Holds v)))
+event_from v k true e = All-cons (Holds v) (record { x = start_point_of k; y = end_of k; most = pos 0 }) (record { x = end_of k; y = start_point_of k; most = pos 0 } ∷ []) (below e.ordered)
+    (All-cons (Holds v) (record { x = end_of k; y = start_point_of k; most = pos 0 }) [] (equal (e.ends refl)) (All-nil (Holds v)))
   where
     below : {a b : ℤ} → a ≤ℤ b → (a -ℤ b) ≤ℤ pos 0
     below h = omega (arith, ints)
@@ -120,26 +124,26 @@ equals a b h k = omega (arith, ints)
 
 event_to : (v : ℕ → ℤ) (k : ℕ) (point : Bool) → All (Holds v) (event_edges point k) → IsEvent point (times_at v k)
 event_to v k false h = record {
-  ordered = in_order (v (start_of k)) (v (end_of k)) (All-head (Holds v) (record { x = start_of k; y = end_of k; most = pos 0 }) [] h);
+  ordered = in_order (v (start_point_of k)) (v (end_of k)) (All-head (Holds v) (record { x = start_point_of k; y = end_of k; most = pos 0 }) [] h);
   ends = λ e. absurd (false_is e);
 }
 event_to v k true h =
-    let first = All-head (Holds v) (record { x = start_of k; y = end_of k; most = pos 0 }) (record { x = end_of k; y = start_of k; most = pos 0 } ∷ []) h in
-    let rest = All-tail (Holds v) (record { x = start_of k; y = end_of k; most = pos 0 }) (record { x = end_of k; y = start_of k; most = pos 0 } ∷ []) h in
-    let second = All-head (Holds v) (record { x = end_of k; y = start_of k; most = pos 0 }) [] rest in record {
-      ordered = in_order (v (start_of k)) (v (end_of k)) first;
-      ends = λ e. equals (v (start_of k)) (v (end_of k)) first second;
+    let first = All-head (Holds v) (record { x = start_point_of k; y = end_of k; most = pos 0 }) (record { x = end_of k; y = start_point_of k; most = pos 0 } ∷ []) h in
+    let rest = All-tail (Holds v) (record { x = start_point_of k; y = end_of k; most = pos 0 }) (record { x = end_of k; y = start_point_of k; most = pos 0 } ∷ []) h in
+    let second = All-head (Holds v) (record { x = end_of k; y = start_point_of k; most = pos 0 }) [] rest in record {
+      ordered = in_order (v (start_point_of k)) (v (end_of k)) first;
+      ends = λ e. equals (v (start_point_of k)) (v (end_of k)) first second;
     }
 
 -- ---- conditions
 
 pub pattern_from : (p : Program) (conditions : List Condition) (v : ℕ → ℤ) (times : Occurrence → Times) (k : ℕ) (pattern : Pattern) → Agree conditions v times
-    → All (Named conditions) pattern.times → Meets p pattern times (times_at v k) → All (Holds v) (pattern_edges p conditions k pattern)
+    → All (Named conditions) pattern.times → MeetsTests p pattern times (times_at v k) → All (Holds v) (pattern_edges p conditions k pattern)
 pattern_from p conditions v times k pattern agree named m = All-append (Holds v) (event_edges (is_point p pattern.ty.0) k) (flat_map (test_edges conditions k) pattern.times)
     (event_from v k (is_point p pattern.ty.0) m.event) (tests_from conditions v times k pattern.times agree named m.tests)
 
 pub pattern_to : (p : Program) (conditions : List Condition) (v : ℕ → ℤ) (times : Occurrence → Times) (k : ℕ) (pattern : Pattern) → Agree conditions v times
-    → All (Named conditions) pattern.times → All (Holds v) (pattern_edges p conditions k pattern) → Meets p pattern times (times_at v k)
+    → All (Named conditions) pattern.times → All (Holds v) (pattern_edges p conditions k pattern) → MeetsTests p pattern times (times_at v k)
 pattern_to p conditions v times k pattern agree named h = record {
   event = event_to v k (is_point p pattern.ty.0) (all_first (Holds v) (event_edges (is_point p pattern.ty.0) k) (flat_map (test_edges conditions k) pattern.times) h);
   tests = tests_to conditions v times k pattern.times agree named (all_second (Holds v) (event_edges (is_point p pattern.ty.0) k) (flat_map (test_edges conditions k) pattern.times) h);

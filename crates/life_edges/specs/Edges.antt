@@ -29,17 +29,17 @@ RulesHaveNetworks p = (rule : Rule) → In rule p.rules → HaveNetwork rule.con
 
 -- ---- points
 
-abbrev pub start_of : ℕ → ℕ
-start_of place = place * 2
+abbrev pub start_point_of : ℕ → ℕ
+start_point_of place = place * 2
 
 abbrev pub end_of : ℕ → ℕ
 end_of place = place * 2 + 1
 
 -- the point of an edge between the events of two conditions, by their places
 abbrev pub point_of : ℕ → ℕ → Corner → ℕ
-point_of tested named AStart = start_of tested
+point_of tested named AStart = start_point_of tested
 point_of tested named AEnd = end_of tested
-point_of tested named BStart = start_of named
+point_of tested named BStart = start_point_of named
 point_of tested named BEnd = end_of named
 
 -- the place of the condition that binds the fact of this number
@@ -62,24 +62,24 @@ test_edges conditions place test = map (net_edge place (place_of conditions test
 
 -- an event does not end before it starts, and one of points ends where it starts
 abbrev pub event_edges : Bool → ℕ → List NetEdge
-event_edges false place = record { x = start_of place; y = end_of place; most = pos 0 } ∷ []
-event_edges true place = record { x = start_of place; y = end_of place; most = pos 0 } ∷ record { x = end_of place; y = start_of place; most = pos 0 } ∷ []
+event_edges false place = record { x = start_point_of place; y = end_of place; most = pos 0 } ∷ []
+event_edges true place = record { x = start_point_of place; y = end_of place; most = pos 0 } ∷ record { x = end_of place; y = start_point_of place; most = pos 0 } ∷ []
 
 -- what the condition of this place with this pattern says
 abbrev pub pattern_edges : Program → List Condition → ℕ → Pattern → List NetEdge
 pattern_edges p conditions place pattern = event_edges (is_point p pattern.ty.0) place ++ flat_map (test_edges conditions place) pattern.times
 
 -- whether the network that is made for these places has the condition
-abbrev pub stands_in : Program → List ℕ → ℕ → Condition → Bool
-stands_in p places place (Plain pattern) = is_event p pattern.ty.0
-stands_in p places place (Negated pattern) = list_any (λ other. other == place) places
-stands_in p places place (Existing pattern) = list_any (λ other. other == place) places
-stands_in p places place (Folded a) = list_any (λ other. other == place) places
+abbrev pub stands_in_network : Program → List ℕ → ℕ → Condition → Bool
+stands_in_network p places place (Plain pattern) = is_event p pattern.ty.0
+stands_in_network p places place (Negated pattern) = list_any (λ other. other == place) places
+stands_in_network p places place (Existing pattern) = list_any (λ other. other == place) places
+stands_in_network p places place (Folded a) = list_any (λ other. other == place) places
 
 abbrev pub condition_edges : Program → List Condition → List ℕ → ℕ → Condition → List NetEdge
-condition_edges p conditions places place c = if stands_in p places place c then pattern_edges p conditions place (pattern_of c) else []
+condition_edges p conditions places place c = if stands_in_network p places place c then pattern_edges p conditions place (pattern_of c) else []
 
 -- the edges of the conditions from this place on
-abbrev pub edges_of : Program → List Condition → List ℕ → ℕ → List Condition → List NetEdge
-edges_of p all places place [] = []
-edges_of p all places place (c ∷ conditions) = condition_edges p all places place c ++ edges_of p all places (suc place) conditions
+abbrev pub edges_of_conditions : Program → List Condition → List ℕ → ℕ → List Condition → List NetEdge
+edges_of_conditions p all places place [] = []
+edges_of_conditions p all places place (c ∷ conditions) = condition_edges p all places place c ++ edges_of_conditions p all places (suc place) conditions

@@ -17,27 +17,27 @@ limit_of (Finite most) = finite most
 limit_of Infinite = infinite
 
 -- from 0 to 2^53 ms
-abbrev pub IsSpan : ℤ → Type 0
-IsSpan n = (pos 0 ≤ℤ n) × (n ≤ℤ most_millis)
+abbrev pub IsShortSpan : ℤ → Type 0
+IsShortSpan n = (pos 0 ≤ℤ n) × (n ≤ℤ most_millis)
 
 -- the same, where it is finite
-abbrev pub IsShort : Limit → Type 0
-IsShort (finite n) = IsSpan n
-IsShort infinite = Unit {0}
+abbrev pub IsShortLimit : Limit → Type 0
+IsShortLimit (finite n) = IsShortSpan n
+IsShortLimit infinite = Unit {0}
 
 -- a window of time is
 abbrev pub HasShortWindow : WindowTag → Type 0
 HasShortWindow Whole = Unit {0}
-HasShortWindow (Time span) = IsSpan span
+HasShortWindow (Time span) = IsShortSpan span
 HasShortWindow (Length count) = Unit {0}
 
 -- conditions for whose patterns lives are found: they have a network, and their windows and tails are short
 pub record HaveLives (p : Program) (conditions : List Condition) : Type 0 where
   pub network : HaveNetwork conditions
   pub windows : (place : ℕ) (c : Condition) → slice_get conditions place ≡ Some c → HasShortWindow (pattern_of c).window
-  pub tails : (place : ℕ) (c : Condition) → slice_get conditions place ≡ Some c → IsShort (tail p (pattern_of c))
+  pub tails : (place : ℕ) (c : Condition) → slice_get conditions place ≡ Some c → IsShortLimit (tail p (pattern_of c))
 
 -- at most 2^62 ms, where it is finite
-abbrev pub IsSmall : Limit → Type 0
-IsSmall (finite n) = n ≤ℤ pos (2 ^ 62)
-IsSmall infinite = Unit {0}
+abbrev pub IsSmallLimit : Limit → Type 0
+IsSmallLimit (finite n) = n ≤ℤ pos (2 ^ 62)
+IsSmallLimit infinite = Unit {0}

@@ -2,7 +2,7 @@ ghost use Rattle.std.specs.Prelude.{◌∷◌, [], ◌≡◌, ◌<◌, ◌≤◌
 ghost use Rattle.std.specs.List.{All, list_any};
 ghost use Rattle.rule_lives.specs.Networks.{bindings};
 ghost use Rattle.rule_world.specs.Programs.{NameEarlier};
-ghost use Rattle.life_edges.specs.Edges.{start_of, end_of, point_of, net_edge, place_of as place_in, test_edges, event_edges, pattern_edges, stands_in as is_inside, edges_of};
+ghost use Rattle.life_edges.specs.Edges.{start_point_of, end_of, point_of, net_edge, place_of as place_in, test_edges, event_edges, pattern_edges, stands_in_network as is_inside, edges_of_conditions};
 
 use fx_base::NoMemory;
 use rule_model::{Condition, Pattern, Program, TimeTest};
@@ -16,7 +16,7 @@ pub const POINTS: u8 = 16;
 /// The start of the event of the condition of this place.
 pub fn start(place: usize) -> u8
     requires { place < 8 }
-    ensures { result ≡ start_of place }
+    ensures { result ≡ start_point_of place }
 {
     place as u8 * 2
 }
@@ -167,7 +167,7 @@ pub fn network(
 ) -> Result<Vec<NetEdge>, NoMemory>
     requires few { length conditions.now ≤ 8 }
     requires named { NameEarlier conditions.now }
-    ensures { IfOk result (λ edges. edges.items ≡ edges_of program.now conditions.now places.now 0 conditions.now) }
+    ensures { IfOk result (λ edges. edges.items ≡ edges_of_conditions program.now conditions.now places.now 0 conditions.now) }
 {
     let mut edges = Vec::new(alloc);
     for (place, condition) in conditions.iter().enumerate() {
@@ -189,7 +189,7 @@ pub fn edges_between(
 ) -> Result<Vec<NetEdge>, NoMemory>
     requires few { length conditions.now ≤ 8 }
     requires named { NameEarlier conditions.now }
-    ensures { IfOk result (λ edges. edges.items ≡ edges_of program.now conditions.now (i ∷ j ∷ []) 0 conditions.now) }
+    ensures { IfOk result (λ edges. edges.items ≡ edges_of_conditions program.now conditions.now (i ∷ j ∷ []) 0 conditions.now) }
 {
     network(alloc, program, conditions, &[i, j])
 }

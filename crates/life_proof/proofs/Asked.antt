@@ -1,6 +1,12 @@
 -- The list of what is asked has exactly what is to be asked.
-use Rattle.life_proof.proofs.Common.{◌≡◌, ◌⊎◌, inl, inr, ◌++◌, ◌+◌, ◌<◌, ◌≤◌, ℕ, zero, suc, ℤ, Bool, true, false, List, [], ◌∷◌, Option, Some, None, if◌then◌else◌, refl, sym, ap, subst, ◌∙◌, arith, slice_get, In, Condition, WindowTag, Whole, Time, Length, Life, LifeTable, Program, pattern_of, in_place, IsRunnable, scope, HaveNetwork, placed, rules_have_networks, scope_network, Asked, HasPlaces, IsAsked, each_from, asked_at, asked_to, asked_from, asked_in, asked, scope_of, All, All-nil, All-cons, is_reference, life_under, asked_within, scope_in, scope_with}
+use Rattle.life_proof.proofs.Common.{◌≡◌, ◌⊎◌, inl, inr, ◌++◌, ◌+◌, ◌<◌, ◌≤◌, ℕ, zero, suc, ℤ, Bool, true, false, List, [], ◌∷◌, Option, Some, None}
+use Rattle.life_proof.proofs.Common.{if◌then◌else◌, refl, sym, ap, subst, ◌∙◌, arith, slice_get, In, Condition, WindowTag, Whole, Time, Length, Life, LifeTable}
+use Rattle.life_proof.proofs.Common.{Program, pattern_of, in_place, IsRunnable, scope, HaveNetwork, placed, rules_have_networks, scope_network, Asked}
+use Rattle.life_proof.proofs.Common.{HasPlaces, IsReachAsked, each_from, asked_at, asked_to, asked_from, asked_in, asked, scope_of, All, is_reference}
+use Rattle.life_proof.proofs.Common.{life_under, asked_within, scope_in, scope_with}
 use Rattle.std.proofs.lemmas.Option.{slice_get_within}
+use Rattle.fx_base.proofs.Orders.{zero_add}
+use Rattle.fx_base.proofs.Sequences.{All-from_In}
 use Rattle.rule_model.specs.declared.life.Life.TheVariants as life
 
 -- ---- lists
@@ -54,18 +60,11 @@ gives f n (y ∷ ys) b (suc place) x at h =
     let next : n + suc place ≡ suc n + place = omega arith in
     in_second (f n y) (each_from f (suc n) ys) b (gives f (suc n) ys b place x at (subst (λ (m : ℕ). In b (f m x)) next h))
 
-from_zero : (k : ℕ) → 0 + k ≡ k
-from_zero k = omega arith
-
 given_here : {A B : Type 0} (f : ℕ → A → List B) (xs : List A) (b : B) (g : Given f 0 xs b) → In b (f g.place g.x)
-given_here f xs b g = subst (λ (m : ℕ). In b (f m g.x)) (from_zero g.place) g.gives
+given_here f xs b g = subst (λ (m : ℕ). In b (f m g.x)) (zero_add g.place) g.gives
 
 gives_here : {A B : Type 0} (f : ℕ → A → List B) (xs : List A) (b : B) (place : ℕ) (x : A) → slice_get xs place ≡ Some x → In b (f place x) → In b (each_from f 0 xs)
-gives_here f xs b place x at h = gives f 0 xs b place x at (subst (λ (m : ℕ). In b (f m x)) (sym (from_zero place)) h)
-
-all_of_in : {A : Type 0} (P : A → Type 0) (xs : List A) → ((x : A) → In x xs → P x) → All P xs
-all_of_in P [] h = All-nil P
-all_of_in P (x ∷ xs) h = All-cons P x xs (h x (inl refl)) (all_of_in P xs (λ y m. h y (inr m)))
+gives_here f xs b place x at h = gives f 0 xs b place x at (subst (λ (m : ℕ). In b (f m x)) (sym (zero_add place)) h)
 
 -- ---- what is asked of two conditions
 
@@ -114,10 +113,10 @@ within : (p : Program) (a : Asked) (all : List Condition) (rule from : ℕ) (c :
 within p a all rule from c (Some n) k = record { n = n; life_is = refl; given = given (asked_to p rule from n) 0 (scope all (placed from c)) a k }
 within p a all rule from c None k = absurd k
 
-pub asked_is : (p : Program) (table : LifeTable) (a : Asked) → In a (asked p table) → IsAsked p table a
+pub asked_is : (p : Program) (table : LifeTable) (a : Asked) → In a (asked p table) → IsReachAsked p table a
 asked_is p table a h = of_rule (given (asked_in p table) 0 p.rules a h)
   where
-    of_rule : Given (asked_in p table) 0 p.rules a → IsAsked p table a
+    of_rule : Given (asked_in p table) 0 p.rules a → IsReachAsked p table a
     of_rule g =
         let rule = g.x in
         let i = given (asked_from p table g.place rule.conditions) 0 rule.conditions a (given_here (asked_in p table) p.rules a g) in
@@ -127,14 +126,14 @@ asked_is p table a h = of_rule (given (asked_in p table) 0 p.rules a h)
         let j = w.given in
         let under = under_from pattern.window (slice_get table.lives pattern.ty.0) w.n w.life_is in
         let last = to_from p g.place i.place w.n j.place j.x a (given_here (asked_to p g.place i.place w.n) (scope rule.conditions (placed i.place i.x)) a j) in
-        subst (IsAsked p table) (sym last.1) (record {
+        subst (IsReachAsked p table) (sym last.1) (record {
           places = record { rule = rule; stands = g.stands; i = i.x; i_stands = i.stands; j = j.x; j_stands = j.stands };
           whole = under.whole;
           life_is = under.life_is;
           changes = last.0;
         })
 
-pub is_asked : (p : Program) (table : LifeTable) (a : Asked) → IsAsked p table a → In a (asked p table)
+pub is_asked : (p : Program) (table : LifeTable) (a : Asked) → IsReachAsked p table a → In a (asked p table)
 is_asked p table a h =
     let s = h.places in
     let rule = s.rule in
@@ -174,8 +173,8 @@ fits p a runnable h =
 
 -- each that is asked for has its places
 pub all_placed : (p : Program) (table : LifeTable) → All (HasPlaces p) (asked p table)
-all_placed p table = all_of_in (HasPlaces p) (asked p table) (λ a h. (asked_is p table a h).places)
+all_placed p table = All-from_In (HasPlaces p) (asked p table) (λ a h. (asked_is p table a h).places)
 
 -- each that is asked for is
-pub all_asked : (p : Program) (table : LifeTable) → All (IsAsked p table) (asked p table)
-all_asked p table = all_of_in (IsAsked p table) (asked p table) (asked_is p table)
+pub all_asked : (p : Program) (table : LifeTable) → All (IsReachAsked p table) (asked p table)
+all_asked p table = All-from_In (IsReachAsked p table) (asked p table) (asked_is p table)

@@ -1,5 +1,11 @@
 -- What a good certificate shows.
-use Rattle.life_proof.proofs.Common.{◌≡◌, ◌⊎◌, inl, inr, ℕ, zero, suc, ℤ, pos, negsuc, ◌+ℤ◌, ◌-ℤ◌, ◌≤ℤ◌, ◌<ℤ◌, Bool, true, false, List, [], ◌∷◌, length, Some, None, refl, sym, ap, subst, ◌∙◌, arith, slice_get, ints, In, NetEdge, total, Condition, WindowTag, Whole, Time, Length, Life, Plain, Explicit, Finite, Infinite, LifeTable, Program, Rule, pattern_of, is_event, in_place, IsRunnable, IsLifeOf, Adds, of_fact, of_event, LivesFor, IsLife, Limit, finite, infinite, Below, plus, Placed, IsReach, start_of, end_of, scope_at, Asked, Part, Proof, IsAsked, asked, asked_at, edges_for, tail_at, is_event_at, IsBounding, IsRound, IsShown, IsGoodPart, AreGoodParts, IsGood, IsLawfulLife, Spans, IsSafeLife, PatternLife, SolvesWith, distance, IsGreatest, of_times, same_distance}
+use Rattle.life_proof.proofs.Common.{◌≡◌, ◌⊎◌, inl, inr, ℕ, zero, suc, ℤ, pos, negsuc, ◌+ℤ◌, ◌-ℤ◌, ◌≤ℤ◌, ◌<ℤ◌, Bool, true, false, List, [], ◌∷◌, length, Some}
+use Rattle.life_proof.proofs.Common.{None, refl, sym, ap, subst, ◌∙◌, arith, slice_get, ints, In, NetEdge, total, Condition, WindowTag, Whole, Time, Length}
+use Rattle.life_proof.proofs.Common.{Life, Plain, Explicit, Finite, Infinite, LifeTable, Program, Rule, pattern_of, is_event, in_place, IsRunnable, IsLifeOf}
+use Rattle.life_proof.proofs.Common.{Adds, of_fact, of_event, LivesFor, IsLife, Limit, finite, infinite, Below, plus, Placed, IsReach, start_point_of, end_of}
+use Rattle.life_proof.proofs.Common.{scope_at, Asked, Part, Proof, IsReachAsked, asked, asked_at, edges_for, tail_at, is_event_at, IsBounding, IsRound, IsShown}
+use Rattle.life_proof.proofs.Common.{IsGoodPart, AreGoodParts, IsGood, IsLawfulLife, Spans, IsSafeLife, PatternLife, SolvesWith, distance, IsGreatestReach}
+use Rattle.life_proof.proofs.Common.{of_times, same_distance}
 use Rattle.fx_base.specs.declared.times.Times.{Times}
 use Rattle.temporal_net.proofs.Sums.{adds_up}
 use Rattle.rule_model.specs.declared.condition.Pattern.{Pattern}
@@ -14,7 +20,7 @@ use Rattle.life_proof.proofs.Tests.{false_is}
 -- ---- what a part shows
 
 -- the part for what is asked
-record Shown (p : Program) (table : LifeTable) (a : Asked) (h : IsAsked p table a) : Type 0 where
+record Shown (p : Program) (table : LifeTable) (a : Asked) (h : IsReachAsked p table a) : Type 0 where
   cycle : Bool
   edges : List NetEdge
   shown : IsShown cycle p (among h) a.from a.to a.life edges
@@ -25,7 +31,7 @@ part_for p (b ∷ asked) [] a g m = absurd g
 part_for p (b ∷ asked) (part ∷ parts) a g (inl e) = (part, subst (λ (x : Asked). IsGoodPart p x part) (sym e) g.0)
 part_for p (b ∷ asked) (part ∷ parts) a g (inr m) = part_for p asked parts a g.1 m
 
-shown_for : (p : Program) (table : LifeTable) (certificate : Proof) → IsGood p table certificate → (a : Asked) (h : IsAsked p table a) → Shown p table a h
+shown_for : (p : Program) (table : LifeTable) (certificate : Proof) → IsGood p table certificate → (a : Asked) (h : IsReachAsked p table a) → Shown p table a h
 shown_for p table certificate good a h =
     let found = part_for p (asked p table) certificate.parts a good.parts (is_asked p table a h) in
     let part = found.0 in
@@ -36,7 +42,7 @@ shown_for p table certificate good a h =
     }
 
 -- in each solution of the network the start is at most the sum behind the end
-along : (p : Program) (table : LifeTable) (a : Asked) → IsRunnable p → (h : IsAsked p table a) → (edges : List NetEdge) → IsBounding p (among h) a.from a.to a.life edges
+along : (p : Program) (table : LifeTable) (a : Asked) → IsRunnable p → (h : IsReachAsked p table a) → (edges : List NetEdge) → IsBounding p (among h) a.from a.to a.life edges
     → (times : Occurrence → Times) → SolvesWith p (among h) (first_of h) (second_of h) times → distance (among h) (first_of h) (second_of h) times ≤ℤ total edges
 along p table a runnable h edges b times s =
     let conditions = among h in
@@ -44,10 +50,10 @@ along p table a runnable h edges b times s =
     let solves = of_times p conditions (a.from ∷ a.to ∷ []) (network_of p table a runnable h).named times s in
     subst (λ (z : ℤ). z ≤ℤ total edges)
     (sym (same_distance conditions (first_of h) (second_of h) v times (points_agree conditions times) (scope_at h.places.rule.conditions (first_of h) h.places.i_stands) h.places.j_stands))
-    (adds_up (edges_for p conditions a.from a.to) v solves (start_of a.to) edges (end_of a.from) b.members b.path)
+    (adds_up (edges_for p conditions a.from a.to) v solves (start_point_of a.to) edges (end_of a.from) b.members b.path)
 
 -- no solution goes round a cycle whose sum is below 0
-round : (p : Program) (table : LifeTable) (a : Asked) → IsRunnable p → (h : IsAsked p table a) → (edges : List NetEdge) → IsRound p (among h) a.from a.to edges
+round : (p : Program) (table : LifeTable) (a : Asked) → IsRunnable p → (h : IsReachAsked p table a) → (edges : List NetEdge) → IsRound p (among h) a.from a.to edges
     → (times : Occurrence → Times) → SolvesWith p (among h) (first_of h) (second_of h) times → ⊥
 round p table a runnable h edges r times s =
     let conditions = among h in
@@ -64,7 +70,7 @@ round p table a runnable h edges r times s =
 within : (d sum n life : ℤ) → d ≤ℤ sum → (sum +ℤ n) ≤ℤ life → d ≤ℤ (life -ℤ n)
 within d sum n life h k = omega (arith, ints)
 
-shown_bounds : (p : Program) (table : LifeTable) (a : Asked) → IsRunnable p → (h : IsAsked p table a) → (cycle : Bool) (edges : List NetEdge)
+shown_bounds : (p : Program) (table : LifeTable) (a : Asked) → IsRunnable p → (h : IsReachAsked p table a) → (cycle : Bool) (edges : List NetEdge)
     → IsShown cycle p (among h) a.from a.to a.life edges → (n : ℤ) → tail p (pattern_of h.places.j) ≡ finite n → (times : Occurrence → Times)
     → SolvesWith p (among h) (first_of h) (second_of h) times → distance (among h) (first_of h) (second_of h) times ≤ℤ (a.life -ℤ n)
 shown_bounds p table a runnable h false edges b n e times s =
@@ -82,7 +88,7 @@ bounds_hold p table certificate runnable good a h n e times s =
 
 -- solutions whose distances are bounded have a greatest one
 greatest_of : (p : Program) (conditions : List Condition) (i j : Placed) (most : ℤ) → ((times : Occurrence → Times) → SolvesWith p conditions i j times → distance conditions i j times ≤ℤ most)
-    → ((b : ℤ) → IsGreatest p conditions i j b → ⊥) → (d : ℕ) → (times : Occurrence → Times) → SolvesWith p conditions i j times → (most -ℤ pos d) ≤ℤ distance conditions i j times → ⊥
+    → ((b : ℤ) → IsGreatestReach p conditions i j b → ⊥) → (d : ℕ) → (times : Occurrence → Times) → SolvesWith p conditions i j times → (most -ℤ pos d) ≤ℤ distance conditions i j times → ⊥
 greatest_of p conditions i j most bounds none zero times s h =
     none most (record { bounds = bounds; times = times; solves = s; attained = equal (distance conditions i j times) most (bounds times s) h })
   where
@@ -125,7 +131,7 @@ reach_within sum (finite n) life b h k = below_sum b sum n life k h
 reach_within sum infinite life b h k = absurd h
 
 -- a reach is within the life
-shown_reach : (p : Program) (table : LifeTable) (a : Asked) → IsRunnable p → (h : IsAsked p table a) → (cycle : Bool) (edges : List NetEdge)
+shown_reach : (p : Program) (table : LifeTable) (a : Asked) → IsRunnable p → (h : IsReachAsked p table a) → (cycle : Bool) (edges : List NetEdge)
     → IsShown cycle p (among h) a.from a.to a.life edges → (r : Limit) → IsReach p (among h) (first_of h) (second_of h) r
     → Below (plus r (tail p (pattern_of h.places.j))) (finite a.life)
 shown_reach p table a runnable h true edges g (finite b) reach = absurd (round p table a runnable h edges g reach.times reach.solves)
@@ -145,13 +151,13 @@ unfolding tail
 plain_tail p pattern e = rw e refl
 
 -- and what it runs over is on an event type
-shown_event : (p : Program) (table : LifeTable) (a : Asked) (h : IsAsked p table a) → (cycle : Bool) (edges : List NetEdge)
+shown_event : (p : Program) (table : LifeTable) (a : Asked) (h : IsReachAsked p table a) → (cycle : Bool) (edges : List NetEdge)
     → IsShown cycle p (among h) a.from a.to a.life edges → is_event p (pattern_of h.places.j).ty.0 ≡ false → ⊥
 shown_event p table a h true edges g e = false_is (sym e ∙ sym (ap (is_event_at p) h.places.j_stands) ∙ g.event)
 shown_event p table a h false edges g e =
     subst (λ (l : Limit). Below (plus (finite (total edges)) l) (finite a.life)) (ap (tail_at p) h.places.j_stands ∙ plain_tail p (pattern_of h.places.j) e) g.within
 
-shown_adds : (p : Program) (table : LifeTable) (a : Asked) → IsRunnable p → (h : IsAsked p table a) → Shown p table a h → (l : Limit)
+shown_adds : (p : Program) (table : LifeTable) (a : Asked) → IsRunnable p → (h : IsReachAsked p table a) → Shown p table a h → (l : Limit)
     → Adds p (among h) (first_of h) (second_of h) l → Below l (finite a.life)
 shown_adds p table a runnable h s l (of_fact fact is) = absurd (shown_event p table a h s.cycle s.edges s.shown fact)
 shown_adds p table a runnable h s l (of_event event r reach is) =
@@ -169,7 +175,7 @@ by_window p table certificate runnable good rule m i at n life (Length count) e 
 by_window p table certificate runnable good rule m i at n life Whole e l some =
     let place = stands_at p.rules rule m in
     let a = asked_at place.0 i.place some.j.place n in
-    let h : IsAsked p table a = record {
+    let h : IsReachAsked p table a = record {
       places = record { rule = rule; stands = place.1; i = i.condition; i_stands = at; j = some.j.condition; j_stands = some.stands };
       whole = e;
       life_is = life;

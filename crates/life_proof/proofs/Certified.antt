@@ -1,25 +1,32 @@
 -- What is made of solved networks is good, since the table has the lives of the program.
-use Rattle.life_proof.proofs.Common.{◌≡◌, ◌≢◌, inl, inr, ◌++◌, ◌<◌, ◌+◌, ℕ, zero, suc, ℤ, Bool, true, false, List, [], ◌∷◌, map, length, drop, get_or, Some, refl, sym, ap, subst, ◌∙◌, append_assoc, arith, slice_get, AllByRecursion, Contains, In, NetEdge, edge_at, total, IsUnbounded, Condition, WindowTag, Whole, Time, Length, Life, Plain, Explicit, Finite, Infinite, LifeTable, Program, Rule, pattern_of, is_event, in_place, IsRunnable, IsLifeOf, scope, Adds, of_fact, of_event, LivesFor, IsLife, Limit, finite, infinite, Below, plus, Placed, IsReach, start_of, end_of, HaveNetwork, placed, rules_have_networks, scope_network, scope_at, Asked, Part, IsAsked, edges_for, scope_of, tail_at, is_event_at, IsBounding, IsRound, IsShown, IsGoodPart, AreGoodParts, IsSolvedPart, IsLawfulLife, Spans, IsLawfulTable, recursion_from_All, Contains-get_or, IsShortestPath, IsNegativeCycle, AreLives, tail, reached, AreSolved}
+use Rattle.life_proof.proofs.Common.{◌≡◌, ◌≢◌, inl, inr, ◌++◌, ◌<◌, ◌+◌, ℕ, zero, suc, ℤ, Bool, true, false, List, [], ◌∷◌, map, length, drop, get_or, Some}
+use Rattle.life_proof.proofs.Common.{refl, sym, ap, subst, ◌∙◌, append_assoc, arith, slice_get, AllByRecursion, Contains, In, NetEdge, edge_at, total}
+use Rattle.life_proof.proofs.Common.{IsUnboundedDifference, Condition, WindowTag, Whole, Time, Length, Life, Plain, Explicit, Finite, Infinite, LifeTable}
+use Rattle.life_proof.proofs.Common.{Program, Rule, pattern_of, is_event, in_place, IsRunnable, IsLifeOf, scope, Adds, of_fact, of_event, LivesFor, IsLife}
+use Rattle.life_proof.proofs.Common.{Limit, finite, infinite, Below, plus, Placed, IsReach, start_point_of, end_of, HaveNetwork, placed, rules_have_networks}
+use Rattle.life_proof.proofs.Common.{scope_network, scope_at, Asked, Part, IsReachAsked, edges_for, scope_of, tail_at, is_event_at, IsBounding, IsRound}
+use Rattle.life_proof.proofs.Common.{IsShown, IsGoodPart, AreGoodParts, IsSolvedPart, IsLawfulLife, Spans, IsLawfulTable, recursion_from_All, Contains-get_or}
+use Rattle.life_proof.proofs.Common.{IsShortestPath, IsNegativeCycle, AreLives, tail, reached, AreSolved}
 use Rattle.fx_base.specs.declared.bound.Bound.TheVariants as bound
 use Rattle.life_proof.proofs.Asked.{scope_is}
 
 -- ---- the two conditions that are asked about
 
-abbrev pub first_of : {p : Program} {table : LifeTable} {a : Asked} → IsAsked p table a → Placed
+abbrev pub first_of : {p : Program} {table : LifeTable} {a : Asked} → IsReachAsked p table a → Placed
 first_of {a = a} h = placed a.from h.places.i
 
-abbrev pub second_of : {p : Program} {table : LifeTable} {a : Asked} → IsAsked p table a → Placed
+abbrev pub second_of : {p : Program} {table : LifeTable} {a : Asked} → IsReachAsked p table a → Placed
 second_of {a = a} h = placed a.to h.places.j
 
-abbrev pub among : {p : Program} {table : LifeTable} {a : Asked} → IsAsked p table a → List Condition
+abbrev pub among : {p : Program} {table : LifeTable} {a : Asked} → IsReachAsked p table a → List Condition
 among h = scope h.places.rule.conditions (first_of h)
 
-pub network_of : (p : Program) (table : LifeTable) (a : Asked) → IsRunnable p → (h : IsAsked p table a) → HaveNetwork (among h)
+pub network_of : (p : Program) (table : LifeTable) (a : Asked) → IsRunnable p → (h : IsReachAsked p table a) → HaveNetwork (among h)
 network_of p table a runnable h =
     scope_network h.places.rule.conditions (first_of h) (rules_have_networks p runnable h.places.rule (in_place p.rules a.rule h.places.rule h.places.stands))
 
 -- what the second adds to the first is within the life
-adds_below : (p : Program) (table : LifeTable) (a : Asked) → AreLives p table → (h : IsAsked p table a) → (l : Limit) → Adds p (among h) (first_of h) (second_of h) l
+adds_below : (p : Program) (table : LifeTable) (a : Asked) → AreLives p table → (h : IsReachAsked p table a) → (l : Limit) → Adds p (among h) (first_of h) (second_of h) l
     → Below l (finite a.life)
 adds_below p table a lives h l adds =
     let s = h.places in
@@ -35,30 +42,30 @@ adds_below p table a lives h l adds =
     })
 
 -- so the second is on an event type
-is_on_event : (p : Program) (table : LifeTable) (a : Asked) → AreLives p table → (h : IsAsked p table a) → is_event p (pattern_of h.places.j).ty.0 ≡ true
+is_on_event : (p : Program) (table : LifeTable) (a : Asked) → AreLives p table → (h : IsReachAsked p table a) → is_event p (pattern_of h.places.j).ty.0 ≡ true
 is_on_event p table a lives h = by (is_event p (pattern_of h.places.j).ty.0) refl
   where
     by : (b : Bool) → is_event p (pattern_of h.places.j).ty.0 ≡ b → is_event p (pattern_of h.places.j).ty.0 ≡ true
     by true e = e
     by false e = absurd (adds_below p table a lives h infinite (of_fact e refl))
 
-reach_below : (p : Program) (table : LifeTable) (a : Asked) → AreLives p table → (h : IsAsked p table a) → (r : Limit) → IsReach p (among h) (first_of h) (second_of h) r
+reach_below : (p : Program) (table : LifeTable) (a : Asked) → AreLives p table → (h : IsReachAsked p table a) → (r : Limit) → IsReach p (among h) (first_of h) (second_of h) r
     → Below (plus r (tail p (pattern_of h.places.j))) (finite a.life)
 reach_below p table a lives h r reach =
     adds_below p table a lives h (plus r (tail p (pattern_of h.places.j))) (of_event (is_on_event p table a lives h) r reach refl)
 
 -- ---- its network
 
-pub bounded : (p : Program) (table : LifeTable) (a : Asked) → IsRunnable p → AreLives p table → (h : IsAsked p table a)
-    → IsUnbounded (edges_for p (scope_of p a) a.from a.to) (start_of a.to) (end_of a.from) → ⊥
+pub bounded : (p : Program) (table : LifeTable) (a : Asked) → IsRunnable p → AreLives p table → (h : IsReachAsked p table a)
+    → IsUnboundedDifference (edges_for p (scope_of p a) a.from a.to) (start_point_of a.to) (end_of a.from) → ⊥
 bounded p table a runnable lives h u =
     let conditions = among h in
-    let here = subst (λ (cs : List Condition). IsUnbounded (edges_for p cs a.from a.to) (start_of a.to) (end_of a.from)) (scope_is p a h.places) u in
+    let here = subst (λ (cs : List Condition). IsUnboundedDifference (edges_for p cs a.from a.to) (start_point_of a.to) (end_of a.from)) (scope_is p a h.places) u in
     reach_below p table a lives h infinite
     (reached p conditions (first_of h) (second_of h) bound.Infinite (network_of p table a runnable h).named (scope_at h.places.rule.conditions (first_of h) h.places.i_stands) h.places.j_stands here)
 
-path_good : (p : Program) (table : LifeTable) (a : Asked) → IsRunnable p → AreLives p table → (h : IsAsked p table a) → (edges : List NetEdge)
-    → IsShortestPath (edges_for p (among h) a.from a.to) (start_of a.to) (end_of a.from) edges → IsBounding p (among h) a.from a.to a.life edges
+path_good : (p : Program) (table : LifeTable) (a : Asked) → IsRunnable p → AreLives p table → (h : IsReachAsked p table a) → (edges : List NetEdge)
+    → IsShortestPath (edges_for p (among h) a.from a.to) (start_point_of a.to) (end_of a.from) edges → IsBounding p (among h) a.from a.to a.life edges
 path_good p table a runnable lives h edges s =
     let conditions = among h in
     let network = edges_for p conditions a.from a.to in
@@ -78,7 +85,7 @@ some_of : (edges : List NetEdge) (numbers : List ℕ) → numbers ≢ [] → map
 some_of edges [] some e = some refl
 some_of edges (n ∷ numbers) some e = absurd cc
 
-cycle_good : (p : Program) (table : LifeTable) (a : Asked) → AreLives p table → (h : IsAsked p table a) → (numbers : List ℕ)
+cycle_good : (p : Program) (table : LifeTable) (a : Asked) → AreLives p table → (h : IsReachAsked p table a) → (numbers : List ℕ)
     → IsNegativeCycle (edges_for p (among h) a.from a.to) numbers → IsRound p (among h) a.from a.to (map (edge_at (edges_for p (among h) a.from a.to)) numbers)
 cycle_good p table a lives h numbers n =
     let network = edges_for p (among h) a.from a.to in
@@ -90,16 +97,16 @@ cycle_good p table a lives h numbers n =
       event = ap (is_event_at p) h.places.j_stands ∙ is_on_event p table a lives h;
     }
 
-solved_good : (p : Program) (table : LifeTable) (a : Asked) → IsRunnable p → AreLives p table → (h : IsAsked p table a) → (cycle : Bool) (edges : List NetEdge)
-    → AreSolved cycle (edges_for p (among h) a.from a.to) (start_of a.to) (end_of a.from) edges → IsShown cycle p (among h) a.from a.to a.life edges
+solved_good : (p : Program) (table : LifeTable) (a : Asked) → IsRunnable p → AreLives p table → (h : IsReachAsked p table a) → (cycle : Bool) (edges : List NetEdge)
+    → AreSolved cycle (edges_for p (among h) a.from a.to) (start_point_of a.to) (end_of a.from) edges → IsShown cycle p (among h) a.from a.to a.life edges
 solved_good p table a runnable lives h false edges s = path_good p table a runnable lives h edges s
 solved_good p table a runnable lives h true edges (numbers, s, is) = subst (IsRound p (among h) a.from a.to) (sym is) (cycle_good p table a lives h numbers s)
 
-pub part_good : (p : Program) (table : LifeTable) (a : Asked) → IsRunnable p → AreLives p table → IsAsked p table a → (part : Part) → IsSolvedPart p (scope_of p a) a part
+pub part_good : (p : Program) (table : LifeTable) (a : Asked) → IsRunnable p → AreLives p table → IsReachAsked p table a → (part : Part) → IsSolvedPart p (scope_of p a) a part
     → IsGoodPart p a part
 part_good p table a runnable lives h part s =
     let is = scope_is p a h.places in
-    let here = subst (λ (cs : List Condition). AreSolved part.cycle (edges_for p cs a.from a.to) (start_of a.to) (end_of a.from) part.edges) is s.edges in
+    let here = subst (λ (cs : List Condition). AreSolved part.cycle (edges_for p cs a.from a.to) (start_point_of a.to) (end_of a.from) part.edges) is s.edges in
     record {
       rule = s.rule;
       from = s.from;

@@ -1,5 +1,6 @@
 -- Sums of edges, added up one after the other.
-use Rattle.life_proof.proofs.Common.{◌≡◌, ℕ, zero, suc, ◌+◌, ◌<◌, ◌*◌, ◌^◌, ℤ, pos, neg_ℤ, ◌+ℤ◌, ◌-ℤ◌, ◌≤ℤ◌, List, [], ◌∷◌, length, get_or, drop, refl, arith, ints, NetEdge, total}
+use Rattle.life_proof.proofs.Common.{◌≡◌, ℕ, zero, suc, ◌+◌, ◌<◌, ◌*◌, ◌^◌, ℤ, pos, neg_ℤ, ◌+ℤ◌, ◌-ℤ◌, ◌≤ℤ◌, List, [], ◌∷◌, length, get_or, drop, refl, arith}
+use Rattle.life_proof.proofs.Common.{ints, NetEdge, total}
 
 total_at : (edges : List NetEdge) (k : ℕ) (d : NetEdge) → k < length edges → total (drop k edges) ≡ ((get_or edges k d).most +ℤ total (drop (suc k) edges))
 total_at [] k d h = absurd (omega arith)

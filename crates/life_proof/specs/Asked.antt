@@ -26,7 +26,7 @@ pub record HasPlaces (p : Program) (a : Asked) : Type 0 where
   pub j : Condition
   pub j_stands : slice_get (scope rule.conditions (placed a.from i)) a.to ≡ Some j
 
-pub record IsAsked (p : Program) (table : LifeTable) (a : Asked) : Type 0 where
+pub record IsReachAsked (p : Program) (table : LifeTable) (a : Asked) : Type 0 where
   pub places : HasPlaces p a
   pub whole : (pattern_of places.i).window ≡ Whole
   pub life_is : slice_get table.lives (pattern_of places.i).ty.0 ≡ Some (life.Finite a.life)

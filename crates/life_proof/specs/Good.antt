@@ -5,7 +5,7 @@ use Rattle.std.specs.List.{AllByRecursion, Contains, list_all, list_any}
 use Rattle.std.specs.Int.RustNames.{int_lt, int_le}
 use Rattle.std.specs.Ordering.{int_eq}
 use Rattle.temporal_net.specs.declared.edge.NetEdge.{NetEdge}
-use Rattle.temporal_net.specs.Networks.{Leads, total}
+use Rattle.temporal_net.specs.Networks.{LeadsWay, total}
 use Rattle.rule_model.specs.declared.condition.Condition.{Condition}
 use Rattle.rule_model.specs.declared.life.LifeTable.{LifeTable}
 use Rattle.rule_model.specs.declared.program.Program.{Program}
@@ -14,7 +14,7 @@ use Rattle.rule_model.specs.Rows.{pattern_of}
 use Rattle.rule_model.specs.Types.{is_event}
 use Rattle.rule_lives.specs.Lifetimes.{scope, tail}
 use Rattle.rule_lives.specs.Reach.{Limit, finite, infinite, Below, plus}
-use Rattle.life_edges.specs.Edges.{start_of, end_of, edges_of}
+use Rattle.life_edges.specs.Edges.{start_point_of, end_of, edges_of_conditions}
 use Rattle.life_edges.specs.Places.{placed}
 use Rattle.life_proof.specs.declared.part.Asked.{Asked}
 use Rattle.life_proof.specs.declared.part.Part.{Part}
@@ -26,7 +26,7 @@ use Rattle.life_proof.specs.Tables.{IsLawfulTable}
 
 -- the edges of the network of the conditions and of those of these two places
 abbrev pub edges_for : Program → List Condition → ℕ → ℕ → List NetEdge
-edges_for p conditions i j = edges_of p conditions (i ∷ j ∷ []) 0 conditions
+edges_for p conditions i j = edges_of_conditions p conditions (i ∷ j ∷ []) 0 conditions
 
 -- the conditions that matter to the one of this place
 abbrev pub scope_with : List Condition → ℕ → Option Condition → List Condition
@@ -53,14 +53,14 @@ is_event_at p None = false
 -- a path in the network from the start of the event of j to the end of that of i; its sum and j's tail are within the life
 pub record IsBounding (p : Program) (conditions : List Condition) (i j : ℕ) (life : ℤ) (edges : List NetEdge) : Type 0 where
   pub members : AllByRecursion (Contains (edges_for p conditions i j)) edges
-  pub path : Leads (start_of j) edges (end_of i)
+  pub path : LeadsWay (start_point_of j) edges (end_of i)
   pub within : Below (plus (finite (total edges)) (tail_at p (slice_get conditions j))) (finite life)
 
 -- a cycle in the network, with a sum below 0, for an event type
 pub record IsRound (p : Program) (conditions : List Condition) (i j : ℕ) (edges : List NetEdge) : Type 0 where
   pub members : AllByRecursion (Contains (edges_for p conditions i j)) edges
   pub some : edges ≢ []
-  pub closes : (x : ℕ) × Leads x edges x
+  pub closes : (x : ℕ) × LeadsWay x edges x
   pub negative : total edges <ℤ pos 0
   pub event : is_event_at p (slice_get conditions j) ≡ true
 
@@ -102,13 +102,13 @@ abbrev pub returns : List NetEdge → Bool
 returns [] = false
 returns (e ∷ way) = leads e.x (e ∷ way) e.x
 
-abbrev pub is_within : ℤ → Limit → ℤ → Bool
-is_within sum (finite most) life = int_le sum (life -ℤ most)
-is_within sum infinite life = false
+abbrev pub is_within_limit : ℤ → Limit → ℤ → Bool
+is_within_limit sum (finite most) life = int_le sum (life -ℤ most)
+is_within_limit sum infinite life = false
 
 unfoldable pub is_bounding : Program → List Condition → ℕ → ℕ → ℤ → List NetEdge → Bool
 is_bounding p conditions i j life edges =
-    list_all (has_edge (edges_for p conditions i j)) edges && (leads (start_of j) edges (end_of i) && is_within (total edges) (tail_at p (slice_get conditions j)) life)
+    list_all (has_edge (edges_for p conditions i j)) edges && (leads (start_point_of j) edges (end_of i) && is_within_limit (total edges) (tail_at p (slice_get conditions j)) life)
 
 unfoldable pub is_round : Program → List Condition → ℕ → ℕ → List NetEdge → Bool
 is_round p conditions i j edges =

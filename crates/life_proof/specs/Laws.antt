@@ -13,13 +13,13 @@ use Rattle.rule_lives.specs.Reach.{Limit, finite, Below, SolvesWith, distance}
 use Rattle.life_edges.specs.Places.{placed}
 use Rattle.life_proof.specs.declared.part.Asked.{Asked}
 use Rattle.life_proof.specs.declared.part.Proof.{Proof}
-use Rattle.life_proof.specs.Asked.{IsAsked}
+use Rattle.life_proof.specs.Asked.{IsReachAsked}
 use Rattle.life_proof.specs.Good.{IsGood}
 
 -- In each solution of the network of two conditions that are asked about, an event of the second starts behind the end of one of the first
 -- by at most the life less the tail of the second.
 abbrev pub BoundsHold : Type 0
-BoundsHold = (p : Program) (table : LifeTable) (certificate : Proof) → IsRunnable p → IsGood p table certificate → (a : Asked) (h : IsAsked p table a)
+BoundsHold = (p : Program) (table : LifeTable) (certificate : Proof) → IsRunnable p → IsGood p table certificate → (a : Asked) (h : IsReachAsked p table a)
     → (n : ℤ) → tail p (pattern_of h.places.j) ≡ finite n → (times : Occurrence → Times)
     → SolvesWith p (scope h.places.rule.conditions (placed a.from h.places.i)) (placed a.from h.places.i) (placed a.to h.places.j) times
     → distance (scope h.places.rule.conditions (placed a.from h.places.i)) (placed a.from h.places.i) (placed a.to h.places.j) times ≤ℤ (a.life -ℤ n)

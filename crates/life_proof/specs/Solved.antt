@@ -4,7 +4,7 @@ use Rattle.temporal_net.specs.declared.edge.NetEdge.{NetEdge}
 use Rattle.temporal_net.specs.Networks.{edge_at, IsNegativeCycle, IsShortestPath}
 use Rattle.rule_model.specs.declared.condition.Condition.{Condition}
 use Rattle.rule_model.specs.declared.program.Program.{Program}
-use Rattle.life_edges.specs.Edges.{start_of, end_of}
+use Rattle.life_edges.specs.Edges.{start_point_of, end_of}
 use Rattle.life_proof.specs.declared.part.Asked.{Asked}
 use Rattle.life_proof.specs.declared.part.Part.{Part}
 use Rattle.life_proof.specs.Good.{edges_for}
@@ -18,4 +18,4 @@ pub record IsSolvedPart (p : Program) (conditions : List Condition) (a : Asked) 
   pub rule : part.rule.0 ≡ a.rule
   pub from : part.from ≡ a.from
   pub to : part.to ≡ a.to
-  pub edges : AreSolved part.cycle (edges_for p conditions a.from a.to) (start_of a.to) (end_of a.from) part.edges
+  pub edges : AreSolved part.cycle (edges_for p conditions a.from a.to) (start_point_of a.to) (end_of a.from) part.edges

@@ -1,11 +1,11 @@
 //! Makes certificates by a solver of networks.
 ghost use Rattle.std.specs.Prelude.{◌≡◌, ◌<◌, length, map, IfOk};
 ghost use Rattle.std.specs.List.{All};
-ghost use Rattle.temporal_net.specs.Networks.{edge_at, IsShortestPath, IsUnbounded};
+ghost use Rattle.temporal_net.specs.Networks.{edge_at, IsShortestPath, IsUnboundedDifference};
 ghost use Rattle.rule_world.specs.Programs.{IsRunnable};
 ghost use Rattle.rule_lives.specs.Keeping.{AreLives};
-ghost use Rattle.life_edges.specs.Edges.{start_of, end_of, HaveNetwork};
-ghost use Rattle.life_proof.specs.Asked.{IsAsked};
+ghost use Rattle.life_edges.specs.Edges.{start_point_of, end_of, HaveNetwork};
+ghost use Rattle.life_proof.specs.Asked.{IsReachAsked};
 ghost use Rattle.life_proof.specs.Good.{edges_for, AreGoodParts, IsGood, IsGoodPart};
 ghost use Rattle.life_proof.specs.Solved.{IsSolvedPart};
 
@@ -54,8 +54,8 @@ fn path_of(alloc: Global, asked: &Asked, minimal: &Minimal) -> Result<Vec<NetEdg
     requires points { minimal.now.points ≡ 16 }
     requires from { asked.now.from < 8 }
     requires to { asked.now.to < 8 }
-    requires bounded { IsUnbounded minimal.now.edges (start_of asked.now.to) (end_of asked.now.from) → ⊥ }
-    ensures { IfOk result (λ path. IsShortestPath minimal.now.edges (start_of asked.now.to) (end_of asked.now.from) path.items) }
+    requires bounded { IsUnboundedDifference minimal.now.edges (start_point_of asked.now.to) (end_of asked.now.from) → ⊥ }
+    ensures { IfOk result (λ path. IsShortestPath minimal.now.edges (start_point_of asked.now.to) (end_of asked.now.from) path.items) }
 {
     let (from, to) = (start(asked.to), end(asked.from));
     match minimal.bound(from, to) {
@@ -76,7 +76,7 @@ fn part_among(
     requires rule { asked.now.rule < 256 }
     requires from { asked.now.from < 8 }
     requires to { asked.now.to < 8 }
-    requires bounded { IsUnbounded (edges_for program.now conditions.now asked.now.from asked.now.to) (start_of asked.now.to) (end_of asked.now.from) → ⊥ }
+    requires bounded { IsUnboundedDifference (edges_for program.now conditions.now asked.now.from asked.now.to) (start_point_of asked.now.to) (end_of asked.now.from) → ⊥ }
     ensures { IfOk result (IsSolvedPart program.now conditions.now asked.now) }
 {
     let edges = edges_between(alloc, program, conditions, asked.from, asked.to)?;
@@ -98,7 +98,7 @@ fn part_of(
 ) -> Result<Part, NoMemory>
     requires runnable { IsRunnable program.now }
     requires lives { AreLives program.now lives.now }
-    requires asked { IsAsked program.now lives.now asked.now }
+    requires asked { IsReachAsked program.now lives.now asked.now }
     ensures { IfOk result (IsGoodPart program.now asked.now) }
 {
     part_among(alloc, program, scope_of(program, asked), asked)
@@ -113,7 +113,7 @@ fn parts_of(
 ) -> Result<Vec<Part>, NoMemory>
     requires runnable { IsRunnable program.now }
     requires lives { AreLives program.now lives.now }
-    requires asked { All (IsAsked program.now lives.now) asked.now }
+    requires asked { All (IsReachAsked program.now lives.now) asked.now }
     ensures { IfOk result (λ parts. AreGoodParts program.now asked.now parts.items) }
 {
     let mut parts = Vec::with_capacity(alloc, asked.len())?;

@@ -6,7 +6,7 @@ ghost use Rattle.temporal_net.specs.Networks.{total as sum_of};
 ghost use Rattle.rule_world.specs.Programs.{IsRunnable, NameEarlier};
 ghost use Rattle.life_edges.specs.Tails.{limit_of};
 ghost use Rattle.life_proof.specs.Asked.{HasPlaces};
-ghost use Rattle.life_proof.specs.Good.{are_good_parts as are_good_by, has_edge as is_among, is_bounding as is_bounding_by, is_event_at, is_good_part as is_good_part_by, is_round as is_round_by, is_shown as is_shown_by, is_within as is_within_by, leads as leads_by, returns as returns_by, same_edge as same, tail_at, IsGood};
+ghost use Rattle.life_proof.specs.Good.{are_good_parts as are_good_by, has_edge as is_among, is_bounding as is_bounding_by, is_event_at, is_good_part as is_good_part_by, is_round as is_round_by, is_shown as is_shown_by, is_within_limit as is_within_by, leads as leads_by, returns as returns_by, same_edge as same, tail_at, IsGood};
 
 use crate::asking::{asked, scope_of};
 use crate::part::{Asked, Part, Proof};

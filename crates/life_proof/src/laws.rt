@@ -4,12 +4,12 @@ ghost use Rattle.fx_base.specs.Lists.{In};
 ghost use Rattle.rule_model.specs.declared.life.LifeTable.{LifeTable};
 ghost use Rattle.rule_model.specs.declared.program.Program.{Program};
 ghost use Rattle.life_proof.specs.declared.part.Asked.{Asked};
-ghost use Rattle.life_proof.specs.Asked.{asked, IsAsked};
+ghost use Rattle.life_proof.specs.Asked.{asked, IsReachAsked};
 ghost use Rattle.life_proof.specs.Laws.{BoundsHold, GoodIsSafe, LivesSuffice};
 
 /// What a certificate is asked for is listed, all of it and nothing else.
 pub fn what_is_asked_is_listed()
-    ensures { (p : Program) (table : LifeTable) (a : Asked) → In a (asked p table) ↔ IsAsked p table a }
+    ensures { (p : Program) (table : LifeTable) (a : Asked) → In a (asked p table) ↔ IsReachAsked p table a }
 {}
 
 /// Where a certificate is good, each solution of the network of two conditions that it has a part for keeps the bound that the life

@@ -1,5 +1,7 @@
 -- The rows of a not, what is dropped with forgotten facts, and what waits.
-use Rattle.not_node.proofs.Common.{◌≡◌, ◌∙◌, sym, ap, refl, int_lt, cond, Bool, true, false, not, ◌&&◌, List, Option, Some, None, ℤ, fun_ext, Row, has, IsDifference, Pattern, Look, left_at, moment_at, unblocked, not_rows, is_moment, mature, later, Awaits, cleaned, not_line, NotLaw, StepLaw, DropLaw, MoveLaw}
+use Rattle.not_node.proofs.Common.{◌≡◌, ◌∙◌, sym, ap, refl, int_lt, cond, Bool, true, false, not, ◌&&◌, List, Option, Some, None, ℤ, fun_ext, Row, has}
+use Rattle.not_node.proofs.Common.{IsDifference, Pattern, Look, left_at, moment_at, unblocked, not_rows, is_that_moment, mature, later, AwaitsMoments, cleaned}
+use Rattle.not_node.proofs.Common.{not_line, NotLaw, NotStepLaw, NotDropLaw, NotMoveLaw, and_parts, and-true, and_where, not_not}
 use mathlib.Core.Path.{subst}
 use Rattle.std.specs.Option.{is_some}
 use Rattle.pair_memory.specs.declared.memories.Memories.{Memories}
@@ -18,7 +20,7 @@ not_law p node look world pass rows names forgotten was row =
     ap (λ b. b && mature node.ripening.floor (moment_at p node.tally.memories.pattern look row)) (blockers_shown node.tally.memories look world pass rows names forgotten was row)
     ∙ ap (λ b. (cleaned rows forgotten row && not (list_any (pass row) names)) && b) (row_mature p node.tally.memories.pattern look row node.ripening.floor)
 
-pub step_law : StepLaw
+pub step_law : NotStepLaw
 step_law p m n look world pass rows rows_now names names_now forgotten left right delta was alike alike_now rows_lead names_lead seen fixed stepped step difference =
     let now = tally_law Blockers counts_blockers m.tally.memories n.tally.memories look world pass rows rows_now (has_name names) (has_name names_now) forgotten left right was alike alike_now rows_lead names_lead seen fixed stepped step in
     let line_now : Row → Bool = not_line p m.tally.memories.pattern look n.ripening.floor pass (cleaned rows_now forgotten) names_now in (
@@ -63,27 +65,15 @@ none_comes m n look dropped left r =
     fewer (dropped r) (unblocked n look r) (unblocked m look r)
     (λ e. ap (row_shows look r) (left r ∙ ap (λ b. cond b None (left_at m look r)) e)) (λ e. ap (row_shows look r) (left r ∙ ap (λ b. cond b None (left_at m look r)) e))
 
-two_of : (a b : Bool) → (a && b) ≡ true → (a ≡ true) × (b ≡ true)
-two_of true b e = (refl, e)
-two_of false b e = let f : false ≡ true = e in cc
-
-and_true : (a : Bool) → (a && true) ≡ a
-and_true true = refl
-and_true false = refl
-
-not_not : (b : Bool) → not (not b) ≡ b
-not_not true = refl
-not_not false = refl
-
-pub drop_law : DropLaw
+pub drop_law : NotDropLaw
 drop_law p m n look rows names forgotten old dropped gone stands drops same_pattern same_floor left went row is =
     let mm = m.tally.memories in
     let nn = n.tally.memories in
-    let both = two_of (unblocked mm look row) (mature m.ripening.floor (moment_at p mm.pattern look row)) is in
+    let both = and_parts (unblocked mm look row) (mature m.ripening.floor (moment_at p mm.pattern look row)) is in
     let ready : mature n.ripening.floor (moment_at p nn.pattern look row) ≡ true =
     ap (λ (q : Pattern). mature n.ripening.floor (moment_at p q look row)) same_pattern ∙ ap (λ floor. mature floor (moment_at p mm.pattern look row)) same_floor ∙ both.1 in
     went row ∙ ap (λ b. b && not (not_rows p look n row)) is
-    ∙ ap not (ap (λ b. unblocked nn look row && b) ready ∙ and_true (unblocked nn look row) ∙ ap (row_shows look row) (left row) ∙ shows_after look row (has dropped row) (left_at mm look row) both.0)
+    ∙ ap not (ap (λ b. unblocked nn look row && b) ready ∙ and-true (unblocked nn look row) ∙ ap (row_shows look row) (left row) ∙ shows_after look row (has dropped row) (left_at mm look row) both.0)
     ∙ not_not (has dropped row) ∙ drops row (sym (stands.rows row) ∙ shows_kept look row (left_at mm look row) both.0)
 
 pub later_same : (a : ℤ) → later a a ≡ a
@@ -93,16 +83,11 @@ later_same a = by (int_lt a a)
     by true = refl
     by false = refl
 
--- ---- another store
-where_true : (u a b : Bool) → (u ≡ true → a ≡ b) → (u && a) ≡ (u && b)
-where_true true a b h = h refl
-where_true false a b h = refl
-
-awaits_alike : (moment other : Row → Option ℤ) (floor : ℤ) (rows : Row → Bool) (pairs : List (ℤ × Row)) → Awaits moment floor rows pairs → ((row : Row) → rows row ≡ true → other row ≡ moment row) → Awaits other floor rows pairs
+awaits_alike : (moment other : Row → Option ℤ) (floor : ℤ) (rows : Row → Bool) (pairs : List (ℤ × Row)) → AwaitsMoments moment floor rows pairs → ((row : Row) → rows row ≡ true → other row ≡ moment row) → AwaitsMoments other floor rows pairs
 awaits_alike moment other floor rows pairs awaits same at row =
-    awaits at row ∙ ap (λ b. b && not (int_lt at floor)) (where_true (rows row) (is_moment (moment row) at) (is_moment (other row) at) (λ e. ap (λ o. is_moment o at) (sym (same row e))))
+    awaits at row ∙ ap (λ b. b && not (int_lt at floor)) (and_where (rows row) (is_that_moment (moment row) at) (is_that_moment (other row) at) (λ e. ap (λ o. is_that_moment o at) (sym (same row e))))
 
-pub move_law : MoveLaw
+pub move_law : NotMoveLaw
 move_law p node look other agrees alike =
     let m = node.tally.memories in
     let moved = memories_move Blockers m look other agrees alike in
@@ -110,7 +95,7 @@ move_law p node look other agrees alike =
     let moments : (row : Row) → unblocked m look row ≡ true → moment_at p m.pattern other row ≡ moment_at p m.pattern look row =
     λ row e. moment_alike p m.pattern look other row (alike.rows row (shows_kept look row (left_at m look row) e)) in (
       λ row. ap (λ b. b && mature node.ripening.floor (moment_at p m.pattern other row)) (unblocked_alike row)
-          ∙ where_true (unblocked m look row) _ _ (λ e. ap (mature node.ripening.floor) (moments row e)),
-      λ awaits. subst (λ (rows : Row → Bool). Awaits (moment_at p m.pattern other) node.ripening.floor rows node.ripening.waiting.keys) (fun_ext (λ row. sym (unblocked_alike row)))
+          ∙ and_where (unblocked m look row) _ _ (λ e. ap (mature node.ripening.floor) (moments row e)),
+      λ awaits. subst (λ (rows : Row → Bool). AwaitsMoments (moment_at p m.pattern other) node.ripening.floor rows node.ripening.waiting.keys) (fun_ext (λ row. sym (unblocked_alike row)))
           (awaits_alike (moment_at p m.pattern look) (moment_at p m.pattern other) node.ripening.floor (unblocked m look) node.ripening.waiting.keys awaits moments),
     )

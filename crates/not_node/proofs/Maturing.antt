@@ -1,27 +1,29 @@
 -- The moment for which a row waits, by the window of possible starts, and when the row is mature.
-use Rattle.not_node.proofs.Common.{◌≡◌, ◌∙◌, ◌||◌, not, cond, ℕ, ℤ, zero, suc, Bool, true, false, List, [], ◌∷◌, Option, Some, None, slice_get, refl, sym, ap, fun_ext, Row, Pattern, Program, bound_in, bounds_of, AreOperators, is_event, Look, mature, named_at, window_by, window_at, is_past, is_point, Bounds, bounds_join, AlikeOn, MaturityLaw, latest_of, latest_start}
+use Rattle.not_node.proofs.Common.{◌≡◌, ◌∙◌, ◌||◌, not, cond, ℕ, ℤ, zero, suc, Bool, true, false, List, [], ◌∷◌, Option, Some, None, slice_get, refl, sym, ap}
+use Rattle.not_node.proofs.Common.{fun_ext, Row, Pattern, Program, bound_in, named_at, bounds_of, AreOperators, window_by_lists, start_window_at, is_past}
+use Rattle.not_node.proofs.Common.{is_event, is_point, Look, mature, Bounds, bounds_join, AlikeOn, MaturityLaw, latest_of, latest_start}
+use Rattle.rule_model.specs.Maturity.{is_mature}
+use Rattle.not_node.specs.Moments.{moment_at}
 use Rattle.fx_base.specs.declared.fact.Fact.{Fact}
 use Rattle.temporal_ops.specs.declared.window.Window.{Window}
 use Rattle.temporal_ops.specs.declared.window.Window.TheVariants.{Never, UpTo, Unbounded}
-use Rattle.temporal_ops.specs.Possible.{IsPossible, IsWindow}
-use Rattle.temporal_ops.specs.Starts.{window_of}
+use Rattle.temporal_ops.specs.Possible.{ArePossibleTimes, IsStartWindow}
+use Rattle.temporal_ops.specs.Starts.{starts_window}
 use Rattle.temporal_ops.proofs.WindowOfEdges.{window_is_of_edges}
 use Rattle.temporal_ops.proofs.Windows.{one_window}
 use Rattle.row_delta.specs.declared.row.Named.{Named}
-use Rattle.rule_model.specs.Maturity.{is_mature}
 use Rattle.rule_model.specs.Tuples.{Bindings, row_of}
 use Rattle.rule_model.proofs.Naming.{bound_named}
-use Rattle.not_node.specs.Moments.{moment_at}
 
 -- ---- the moment
 module _ (p : Program) (q : Pattern) (look : Look) (row : Row) where
   pub plain_moment : is_event p q.ty.0 ≡ false → moment_at p q look row ≡ None
   unfolding moment_at
-  plain_moment e = ap (λ b. cond b (latest_of (window_at p q (bound_in look row))) None) e
+  plain_moment e = ap (λ b. cond b (latest_of (start_window_at p q (bound_in look row))) None) e
 
-  by_bounds : (o : Option Bounds) → is_event p q.ty.0 ≡ true → bounds_of (bound_in look row) q.times ≡ o → moment_at p q look row ≡ latest_of (window_by (is_point p q.ty.0) o)
+  by_bounds : (o : Option Bounds) → is_event p q.ty.0 ≡ true → bounds_of (bound_in look row) q.times ≡ o → moment_at p q look row ≡ latest_of (window_by_lists (is_point p q.ty.0) o)
   unfolding moment_at
-  by_bounds o e is = ap (λ b. cond b (latest_of (window_at p q (bound_in look row))) None) e ∙ ap (λ x. latest_of (window_by (is_point p q.ty.0) x)) is
+  by_bounds o e is = ap (λ b. cond b (latest_of (start_window_at p q (bound_in look row))) None) e ∙ ap (λ x. latest_of (window_by_lists (is_point p q.ty.0) x)) is
 
   -- a temporal test that names what is missing
   pub unbound_moment : is_event p q.ty.0 ≡ true → bounds_of (bound_in look row) q.times ≡ None → moment_at p q look row ≡ None
@@ -29,11 +31,11 @@ module _ (p : Program) (q : Pattern) (look : Look) (row : Row) where
 
   -- the window of the possible events decides
   pub event_moment : (bounds : Bounds) (point : Bool) (w : Window) → AreOperators q.times → is_event p q.ty.0 ≡ true → bounds_of (bound_in look row) q.times ≡ Some bounds
-      → point ≡ is_point p q.ty.0 → IsWindow bounds point w → moment_at p q look row ≡ latest_of w
+      → point ≡ is_point p q.ty.0 → IsStartWindow bounds point w → moment_at p q look row ≡ latest_of w
   event_moment bounds point w ops e is same starts =
       by_bounds (Some bounds) e is
-      ∙ ap (λ b. latest_of (window_of bounds b)) (sym same)
-      ∙ ap latest_of (one_window (IsPossible bounds point) (window_of bounds point) w (window_is_of_edges bounds point (bounds_join (bound_in look row) q.times bounds ops is)) starts)
+      ∙ ap (λ b. latest_of (starts_window bounds b)) (sym same)
+      ∙ ap latest_of (one_window (ArePossibleTimes bounds point) (starts_window bounds point) w (window_is_of_edges bounds point (bounds_join (bound_in look row) q.times bounds ops is)) starts)
 
 -- ---- when a row is mature
 past_is : (b : Bool) (w : Window) (floor : ℤ) → mature floor (cond b (latest_of w) None) ≡ (not b || is_past w floor)
@@ -44,7 +46,7 @@ past_is false w floor = refl
 
 pub row_mature : (p : Program) (q : Pattern) (look : Look) (row : Row) (floor : ℤ) → mature floor (moment_at p q look row) ≡ is_mature p q (bound_in look row) floor
 unfolding moment_at is_mature
-row_mature p q look row floor = past_is (is_event p q.ty.0) (window_at p q (bound_in look row)) floor
+row_mature p q look row floor = past_is (is_event p q.ty.0) (start_window_at p q (bound_in look row)) floor
 
 pub maturity_law : MaturityLaw
 maturity_law p q look tuple floor held = row_mature p q look (row_of tuple) floor ∙ ap (λ bound. is_mature p q bound floor) (bound_named look (row_of tuple) tuple refl held)

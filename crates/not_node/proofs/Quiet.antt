@@ -1,6 +1,7 @@
 -- With a later floor that no row's moment is below, the same rows wait, and the same rows are mature.
-use Rattle.not_node.proofs.Common.{◌≡◌, ◌∙◌, sym, ap, refl, ℤ, ◌≤ℤ◌, int_lt, arith, cond, Bool, true, false, not, ◌&&◌, Option, Some, None, List, ints, Row, has, Pattern, Program, Look, left_at, moment_at, unblocked, waits, is_moment, mature, ripe, Awaits, QuietLaw, IsInStep, NoneDue}
-use Rattle.rule_model.proofs.Listed.{both_of}
+use Rattle.not_node.proofs.Common.{◌≡◌, ◌∙◌, sym, ap, refl, ℤ, ◌≤ℤ◌, int_lt, arith, cond, Bool, true, false, not, ◌&&◌, Option, Some, None, List, ints, Row}
+use Rattle.not_node.proofs.Common.{has, Pattern, Program, Look, left_at, moment_at, unblocked, IsInStep, waits, is_that_moment, mature, ripe, AwaitsMoments}
+use Rattle.not_node.proofs.Common.{NoneDue, QuietLaw, and_parts, not-true}
 use Rattle.not_node.specs.declared.node.NotNode.{NotNode}
 use Rattle.not_node.proofs.Lawful.{none_comes}
 use Rattle.not_node.proofs.Pairs.{int_itself, int_same}
@@ -19,9 +20,9 @@ below_alike false i w b c e h k l = refl
 below_alike true i w true c e h k l = l refl
 below_alike true i w false c e h k l = k (h ∙ ap (λ x. x && true) e)
 
-module _ (moment : Row → Option ℤ) (old floor : ℤ) (rows : Row → Bool) (pairs : List (ℤ × Row)) (awaits : Awaits moment old rows pairs) (later : old ≤ℤ floor) (quiet : (at : ℤ) (row : Row) → waits pairs at row ≡ true → int_lt at floor ≡ false) where
-  awaits_on : Awaits moment floor rows pairs
-  awaits_on at row = waits_on (waits pairs at row) (rows row && is_moment (moment row) at) (int_lt at old) (int_lt at floor) (awaits at row) (quiet at row) (below_too at old floor later)
+module _ (moment : Row → Option ℤ) (old floor : ℤ) (rows : Row → Bool) (pairs : List (ℤ × Row)) (awaits : AwaitsMoments moment old rows pairs) (later : old ≤ℤ floor) (quiet : (at : ℤ) (row : Row) → waits pairs at row ≡ true → int_lt at floor ≡ false) where
+  awaits_on : AwaitsMoments moment floor rows pairs
+  awaits_on at row = waits_on (waits pairs at row) (rows row && is_that_moment (moment row) at) (int_lt at old) (int_lt at floor) (awaits at row) (quiet at row) (below_too at old floor later)
 
   ripe_alike : (row : Row) → ripe moment floor rows row ≡ ripe moment old rows row
   ripe_alike row = by (moment row) refl
@@ -30,7 +31,7 @@ module _ (moment : Row → Option ℤ) (old floor : ℤ) (rows : Row → Bool) (
       by None e = ap (λ o. rows row && mature floor o) e ∙ sym (ap (λ o. rows row && mature old o) e)
       by (Some at) e =
           ap (λ o. rows row && mature floor o) e
-          ∙ below_alike (rows row) (is_moment (moment row) at) (waits pairs at row) (int_lt at old) (int_lt at floor) (ap (λ o. is_moment o at) e ∙ int_itself at) (awaits at row) (quiet at row) (below_too at old floor later)
+          ∙ below_alike (rows row) (is_that_moment (moment row) at) (waits pairs at row) (int_lt at old) (int_lt at floor) (ap (λ o. is_that_moment o at) e ∙ int_itself at) (awaits at row) (quiet at row) (below_too at old floor later)
           ∙ sym (ap (λ o. rows row && mature old o) e)
 
 pub quiet_law : QuietLaw
@@ -43,11 +44,7 @@ quiet_law p node look floor awaits later quiet =
 
 -- ---- what is not due
 
-not_of : (b : Bool) → not b ≡ true → b ≡ false
-not_of true e = sym e
-not_of false e = refl
-
-own_moment : (at : ℤ) (o : Option ℤ) → is_moment o at ≡ true → o ≡ Some at
+own_moment : (at : ℤ) (o : Option ℤ) → is_that_moment o at ≡ true → o ≡ Some at
 own_moment at None e = absurd (let n : false ≡ true = e in cc)
 own_moment at (Some x) e = ap Some (int_same x at e)
 
@@ -57,9 +54,9 @@ pub waits_own : (p : Program) (node : NotNode) (look : Look) → IsInStep p look
 waits_own p node look awaits at row there =
     let free = unblocked node.tally.memories look row in
     let moment = moment_at p node.tally.memories.pattern look row in
-    let is = both_of (free && is_moment moment at) (not (int_lt at node.ripening.floor)) (sym (awaits at row) ∙ there) in
-    let own = both_of free (is_moment moment at) is.0 in
-    (own.0, own_moment at moment own.1, not_of (int_lt at node.ripening.floor) is.1)
+    let is = and_parts (free && is_that_moment moment at) (not (int_lt at node.ripening.floor)) (sym (awaits at row) ∙ there) in
+    let own = and_parts free (is_that_moment moment at) is.0 in
+    (own.0, own_moment at moment own.1, not-true (int_lt at node.ripening.floor) is.1)
 
 -- no row that waits has its moment below the node's own floor
 pub none_due : (p : Program) (node : NotNode) (look : Look) (floor : ℤ) → IsInStep p look node → node.ripening.floor ≡ floor → NoneDue node.ripening.waiting.keys floor
@@ -77,8 +74,8 @@ pub dropped_none_due : (p : Program) (m n : NotNode) (look : Look) (dropped : Li
 dropped_none_due p m n look dropped floor awaits awaits_now same_pattern same_floor left quiet at row e =
     let there = unblocked m.tally.memories look row in
     let there_now = unblocked n.tally.memories look row in
-    let own = is_moment (moment_at p m.tally.memories.pattern look row) at in
+    let own = is_that_moment (moment_at p m.tally.memories.pattern look row) at in
     let was : waits n.ripening.waiting.keys at row ≡ ((there_now && own) && not (int_lt at m.ripening.floor)) =
-    awaits_now at row ∙ ap (λ (q : Pattern). (there_now && is_moment (moment_at p q look row) at) && not (int_lt at n.ripening.floor)) same_pattern
+    awaits_now at row ∙ ap (λ (q : Pattern). (there_now && is_that_moment (moment_at p q look row) at) && not (int_lt at n.ripening.floor)) same_pattern
     ∙ ap (λ now. (there_now && own) && not (int_lt at now)) same_floor in
     quiet at row (awaits at row ∙ waits_before there there_now own (int_lt at m.ripening.floor) (none_comes m.tally.memories n.tally.memories look (has dropped) left row) (sym was ∙ e))

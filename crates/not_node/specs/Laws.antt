@@ -5,7 +5,7 @@ use Rattle.row_delta.specs.declared.row.Named.{Named}
 use Rattle.row_delta.specs.declared.row.Row.{Row}
 use Rattle.row_delta.specs.declared.delta.Delta.{Delta}
 use Rattle.row_delta.specs.Rows.{has}
-use Rattle.row_change.specs.Changes.{Leads, IsDifference}
+use Rattle.row_change.specs.Changes.{LeadsRows, IsDifference}
 use Rattle.rule_model.specs.declared.condition.Pattern.{Pattern}
 use Rattle.rule_model.specs.declared.program.Program.{Program}
 use Rattle.rule_model.specs.Lent.{Holds, bound_in}
@@ -42,11 +42,11 @@ NotLaw = (p : Program) (node : NotNode) (look world : Look) (pass : Row → Name
 
 -- For the true differences of its two inputs a node that stands for left rows and candidates answers the true difference of its line,
 -- and stands for the new ones.
-abbrev pub StepLaw : Type 0
-StepLaw = (p : Program) (m n : NotNode) (look world : Look) (pass : Row → Named → Bool) (rows rows_now : Row → Bool) (names names_now : List Named) (forgotten : Named → Bool) (left right delta : Delta)
+abbrev pub NotStepLaw : Type 0
+NotStepLaw = (p : Program) (m n : NotNode) (look world : Look) (pass : Row → Named → Bool) (rows rows_now : Row → Bool) (names names_now : List Named) (forgotten : Named → Bool) (left right delta : Delta)
     → StandsCounted counts_blockers m.tally.memories look world pass rows (has_name names) forgotten
     → PassesAlike m.tally.memories.pattern look pass rows (has_name names) forgotten → PassesAlike m.tally.memories.pattern look pass rows_now (has_name names_now) forgotten
-    → Leads (cleaned rows forgotten) (cleaned rows_now forgotten) left.gone left.come → IsNameDifference (remembered (has_name names) forgotten) (remembered (has_name names_now) forgotten) right
+    → LeadsRows (cleaned rows forgotten) (cleaned rows_now forgotten) left.gone left.come → IsNameDifference (remembered (has_name names) forgotten) (remembered (has_name names_now) forgotten) right
     → SeeAlike (either (remembered (has_name names) forgotten) (remembered (has_name names_now) forgotten)) look world → ForgottenStay pass rows rows_now (has_name names) (has_name names_now) forgotten left
     → IsStepped m.tally.memories n.tally.memories look left right → TallyStep counts_blockers look m.tally.memories n.tally.memories left right
     → IsDifference (not_rows p look m) (not_rows p look n) delta
@@ -54,8 +54,8 @@ StepLaw = (p : Program) (m n : NotNode) (look world : Look) (pass : Row → Name
     × IsDifference (not_line p m.tally.memories.pattern look m.ripening.floor pass (cleaned rows forgotten) names) (not_line p m.tally.memories.pattern look n.ripening.floor pass (cleaned rows_now forgotten) names_now) delta
 
 -- Of the rows that a node has, those go with the left rows that are dropped that name an old fact.
-abbrev pub DropLaw : Type 0
-DropLaw = (p : Program) (m n : NotNode) (look : Look) (rows : Row → Bool) (names forgotten old : Named → Bool) (dropped gone : List Row)
+abbrev pub NotDropLaw : Type 0
+NotDropLaw = (p : Program) (m n : NotNode) (look : Look) (rows : Row → Bool) (names forgotten old : Named → Bool) (dropped gone : List Row)
     → StandsFor m.tally.memories look rows names forgotten
     → ((row : Row) → cleaned rows forgotten row ≡ true → has dropped row ≡ not (clean old row))
     → n.tally.memories.pattern ≡ m.tally.memories.pattern → n.ripening.floor ≡ m.ripening.floor
@@ -64,8 +64,8 @@ DropLaw = (p : Program) (m n : NotNode) (look : Look) (rows : Row → Bool) (nam
     → (row : Row) → not_rows p look m row ≡ true → has gone row ≡ not (clean old row)
 
 -- In a store with the same facts at the tags that are kept, a node has the same rows, and those that wait wait for the same moments.
-abbrev pub MoveLaw : Type 0
-MoveLaw = (p : Program) (node : NotNode) (look other : Look) → Agrees node.tally.memories look → LooksAlike node.tally.memories look other
+abbrev pub NotMoveLaw : Type 0
+NotMoveLaw = (p : Program) (node : NotNode) (look other : Look) → Agrees node.tally.memories look → LooksAlike node.tally.memories look other
     → ((row : Row) → not_rows p other node row ≡ not_rows p look node row) × (IsInStep p look node → IsInStep p other node)
 
 -- the node with another floor

@@ -6,7 +6,7 @@ use Rattle.row_delta.specs.declared.row.Row.{Row}
 use Rattle.rule_model.specs.declared.condition.Pattern.{Pattern}
 use Rattle.rule_model.specs.declared.program.Program.{Program}
 use Rattle.rule_model.specs.Lent.{bound_in}
-use Rattle.rule_model.specs.Maturity.{window_at}
+use Rattle.rule_model.specs.Maturity.{start_window_at}
 use Rattle.rule_model.specs.Tuples.{Bindings}
 use Rattle.rule_model.specs.Types.{is_event}
 use Rattle.join_tests.specs.Joins.{Look}
@@ -20,7 +20,7 @@ latest_of (UpTo latest) = Some latest
 -- the latest start of the possible events of a negative pattern; nothing where it is one of plain facts, where no event is possible, and
 -- where there is no latest one
 abbrev pub latest_start : Program → Pattern → Bindings → Option ℤ
-latest_start p pattern bound = cond (is_event p pattern.ty.0) (latest_of (window_at p pattern bound)) None
+latest_start p pattern bound = cond (is_event p pattern.ty.0) (latest_of (start_window_at p pattern bound)) None
 
 -- that for what a row bound, as a store has it
 unfoldable pub moment_at : Program → Pattern → Look → Row → Option ℤ

@@ -67,6 +67,7 @@ fn read_operators(tests: &[TimeTest])
     ensures { AreOperators tests.now }
 {
     for test in tests {
+        // (the call alone tells that it is one)
         let _ = test.op.edges();
     }
 }

@@ -6,14 +6,14 @@ ghost use Rattle.row_change.specs.Changes.{IsDifference};
 ghost use Rattle.rule_model.specs.declared.program.Program.{Program};
 ghost use Rattle.join_tests.specs.Joins.{Look};
 ghost use Rattle.pair_memory.specs.Joined.{has_name};
-ghost use Rattle.pair_memory.specs.Memories.{left_at, has_left, has_right, Keeps};
+ghost use Rattle.pair_memory.specs.Memories.{left_at, has_left, has_right, KeepsMemories};
 ghost use Rattle.pair_memory.specs.Standing.{no_rows, no_names, StandsFor};
 ghost use Rattle.pair_memory.specs.Inputs.{IsStepped};
 ghost use Rattle.tally_node.specs.Counts.{counts_blockers};
 ghost use Rattle.tally_node.specs.Extras.{AllLaden, AreExtrasOf, blockers_laden, nothing_gathered};
 ghost use Rattle.tally_node.specs.Tallies.{TallyStep};
 ghost use Rattle.not_node.specs.Rows.{IsInStep, not_rows};
-ghost use Rattle.not_node.specs.Waiting.{waits, IsFrom, NoneDue, later};
+ghost use Rattle.not_node.specs.Waiting.{waits, IsMomentFrom, NoneDue, later};
 
 use crate::ripening::Ripening;
 use fx_base::{Facts, NoMemory, RuleId, Seq};
@@ -55,7 +55,7 @@ impl NotNode {
     /// The least moment for which a row waits. Takes no memory.
     pub fn next_moment(&self) -> Option<i128>
         ensures waits { IfSome result (λ at. (row : Row) × (waits self.now.ripening.waiting.keys at row ≡ true)) }
-        ensures least { (at : ℤ) (row : Row) → waits self.now.ripening.waiting.keys at row ≡ true → IsFrom result at }
+        ensures least { (at : ℤ) (row : Row) → waits self.now.ripening.waiting.keys at row ≡ true → IsMomentFrom result at }
     {
         self.ripening.next_moment()
     }
@@ -118,7 +118,7 @@ impl NotNode {
         floor: i128,
         facts: &F,
     ) -> Result<Delta, NoMemory>
-        ensures kept { OnOk result (Keeps self.old.tally.memories self.new.tally.memories (F.map facts.now)
+        ensures kept { OnOk result (KeepsMemories self.old.tally.memories self.new.tally.memories (F.map facts.now)
             (λ r. has_left self.old.tally.memories (F.map facts.now) r || has left.now r) (λ c. has_right self.old.tally.memories (F.map facts.now) c || has_name right.now c)) }
         ensures laden { OnOk result (AllLaden counts_blockers blockers_laden (F.map facts.now) extras.now (has left.now) self.old.tally.memories self.new.tally.memories) }
         ensures floor { OnOk result (self.new.ripening.floor ≡ later self.old.ripening.floor floor) }
@@ -163,7 +163,7 @@ impl NotNode {
         old: &[Named],
         facts: &F,
     ) -> Result<Seq<Row>, NoMemory>
-        ensures kept { OnOk result (Keeps self.old.tally.memories self.new.tally.memories (F.map facts.now)
+        ensures kept { OnOk result (KeepsMemories self.old.tally.memories self.new.tally.memories (F.map facts.now)
             (λ r. has_left self.old.tally.memories (F.map facts.now) r && not (has rows.now r)) (λ c. has_right self.old.tally.memories (F.map facts.now) c && not (has_name old.now c))) }
         ensures left { OnOk result ((r : Row) → left_at self.new.tally.memories (F.map facts.now) r ≡ cond (has rows.now r) None (left_at self.old.tally.memories (F.map facts.now) r)) }
         ensures floor { OnOk result (self.new.ripening.floor ≡ self.old.ripening.floor) }

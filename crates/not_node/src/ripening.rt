@@ -2,17 +2,19 @@ ghost use Rattle.std.specs.Prelude.{◌≡◌, ◌&&◌, ◌||◌, not, true, fa
 ghost use Rattle.std.specs.Ordering.{eq_by_cmp};
 ghost use Rattle.row_delta.specs.declared.row.Row.{Row};
 ghost use Rattle.row_delta.specs.Rows.{has, row_cmp};
-ghost use Rattle.row_change.specs.Changes.{Leads, IsDifference};
+ghost use Rattle.row_change.specs.Changes.{LeadsRows, IsDifference};
 ghost use Rattle.not_node.specs.Moments.{moment_at};
-ghost use Rattle.not_node.specs.Waiting.{waits, waits_at, is_moment, mature, ripe, Awaits, IsFrom, later};
+ghost use Rattle.not_node.specs.Waiting.{waits, waits_at, is_that_moment, mature, ripe, AwaitsMoments, IsMomentFrom, later};
 
 use crate::moments::moment_of;
+use due_queue::take_first_due;
 use fx_base::{Copies, Facts, NoMemory};
 use row_change::Change;
 use row_delta::{Delta, Row};
 use rule_model::{Pattern, Program};
 use std::alloc::Global;
 use std::collections::BTreeSet;
+use std::ops::Bound;
 
 /// The gate behind a node, which lets its rows through once their moments have passed: the moment from which on all is known, and
 /// the rows that wait for theirs. Moments are in milliseconds; they may leave 64 bits.
@@ -92,7 +94,7 @@ impl Ripening {
     /// The least moment for which a row waits. Takes no memory.
     pub fn next_moment(&self) -> Option<i128>
         ensures waits { IfSome result (λ at. (r : Row) × (waits self.now.waiting.keys at r ≡ true)) }
-        ensures least { (at : ℤ) (r : Row) → waits self.now.waiting.keys at r ≡ true → IsFrom result at }
+        ensures least { (at : ℤ) (r : Row) → waits self.now.waiting.keys at r ≡ true → IsMomentFrom result at }
     {
         match self.waiting.first() {
             Some(pair) => Some(pair.0),
@@ -148,7 +150,7 @@ impl Ripening {
         pattern: &Pattern,
         facts: &F,
     ) -> Result<(), NoMemory>
-        ensures { OnOk result ((at : ℤ) (r : Row) → waits self.new.waiting.keys at r ≡ (waits self.old.waiting.keys at r && not (eq_by_cmp row_cmp row.now r && is_moment (moment_at program.now pattern.now (F.map facts.now) r) at))) }
+        ensures { OnOk result ((at : ℤ) (r : Row) → waits self.new.waiting.keys at r ≡ (waits self.old.waiting.keys at r && not (eq_by_cmp row_cmp row.now r && is_that_moment (moment_at program.now pattern.now (F.map facts.now) r) at))) }
     {
         match moment_of(alloc, program, pattern, row, facts)? {
             Some(at) => {
@@ -169,7 +171,7 @@ impl Ripening {
         pattern: &Pattern,
         facts: &F,
     ) -> Result<(), NoMemory>
-        ensures { OnOk result ((at : ℤ) (r : Row) → waits self.new.waiting.keys at r ≡ (waits self.old.waiting.keys at r && not (has rows.now r && is_moment (moment_at program.now pattern.now (F.map facts.now) r) at))) }
+        ensures { OnOk result ((at : ℤ) (r : Row) → waits self.new.waiting.keys at r ≡ (waits self.old.waiting.keys at r && not (has rows.now r && is_that_moment (moment_at program.now pattern.now (F.map facts.now) r) at))) }
     {
         for row in rows {
             self.drop_row(alloc, row, program, pattern, facts)?;
@@ -187,7 +189,7 @@ impl Ripening {
         pattern: &Pattern,
         facts: &F,
     ) -> Result<(), NoMemory>
-        ensures { OnOk result ((at : ℤ) (r : Row) → waits self.new.waiting.keys at r ≡ (waits self.old.waiting.keys at r || ((eq_by_cmp row_cmp row.now r && is_moment (moment_at program.now pattern.now (F.map facts.now) r) at) && not (int_lt at floor)))) }
+        ensures { OnOk result ((at : ℤ) (r : Row) → waits self.new.waiting.keys at r ≡ (waits self.old.waiting.keys at r || ((eq_by_cmp row_cmp row.now r && is_that_moment (moment_at program.now pattern.now (F.map facts.now) r) at) && not (int_lt at floor)))) }
     {
         let at = moment_of(alloc, program, pattern, row, facts)?;
         if is_mature(floor, at) {
@@ -213,7 +215,7 @@ impl Ripening {
         pattern: &Pattern,
         facts: &F,
     ) -> Result<(), NoMemory>
-        ensures { OnOk result ((at : ℤ) (r : Row) → waits self.new.waiting.keys at r ≡ (waits self.old.waiting.keys at r || ((has rows.now r && is_moment (moment_at program.now pattern.now (F.map facts.now) r) at) && not (int_lt at floor)))) }
+        ensures { OnOk result ((at : ℤ) (r : Row) → waits self.new.waiting.keys at r ≡ (waits self.old.waiting.keys at r || ((has rows.now r && is_that_moment (moment_at program.now pattern.now (F.map facts.now) r) at) && not (int_lt at floor)))) }
     {
         for row in rows {
             self.add_row(alloc, row, floor, program, pattern, facts)?;
@@ -224,21 +226,13 @@ impl Ripening {
     /// The first row that waits, with its moment, where that is below the floor. It costs one look where none is.
     fn take_due(&mut self, floor: i128) -> Option<(i128, Row)>
         ensures due { IfSome result (λ k. (int_lt k.0 floor ≡ true) × (waits self.old.waiting.keys k.0 k.1 ≡ true)) }
-        ensures taken { IfSome result (λ k. (at : ℤ) (r : Row) → waits self.new.waiting.keys at r ≡ (waits self.old.waiting.keys at r && not (eq_by_cmp row_cmp k.1 r && is_moment (Some k.0) at))) }
+        ensures taken { IfSome result (λ k. (at : ℤ) (r : Row) → waits self.new.waiting.keys at r ≡ (waits self.old.waiting.keys at r && not (eq_by_cmp row_cmp k.1 r && is_that_moment (Some k.0) at))) }
         ensures smaller { IfSome result (λ k. length self.old.waiting.keys ≡ length self.new.waiting.keys + 1) }
         ensures above { IfNone result ((at : ℤ) (r : Row) → waits self.old.waiting.keys at r ≡ true → int_lt at floor ≡ false) }
         ensures unchanged { IfNone result (self.new.waiting.keys ≡ self.old.waiting.keys) }
     {
-        match self.waiting.first() {
-            Some(pair) => {
-                if !is_mature(floor, Some(pair.0)) {
-                    return None;
-                }
-            }
-            None => return None,
-        }
-        let taken = self.waiting.pop_first();
-        taken
+        let pair = take_first_due(&mut self.waiting, &Bound::Excluded(floor))?;
+        Some(pair)
     }
 
     /// Takes out the rows whose moments are below the floor.
@@ -268,9 +262,9 @@ impl Ripening {
         facts: &F,
     ) -> Result<Delta, NoMemory>
         ensures floor { OnOk result (self.new.floor ≡ later self.old.floor floor) }
-        ensures awaits { OnOk result ((rows rows_now : Row → Bool) → Awaits (moment_at program.now pattern.now (F.map facts.now)) self.old.floor rows self.old.waiting.keys → Leads rows rows_now delta.now.gone delta.now.come
-            → Awaits (moment_at program.now pattern.now (F.map facts.now)) self.new.floor rows_now self.new.waiting.keys) }
-        ensures difference { IfOk result (λ d. (rows rows_now : Row → Bool) → Awaits (moment_at program.now pattern.now (F.map facts.now)) self.old.floor rows self.old.waiting.keys → Leads rows rows_now delta.now.gone delta.now.come
+        ensures awaits { OnOk result ((rows rows_now : Row → Bool) → AwaitsMoments (moment_at program.now pattern.now (F.map facts.now)) self.old.floor rows self.old.waiting.keys → LeadsRows rows rows_now delta.now.gone delta.now.come
+            → AwaitsMoments (moment_at program.now pattern.now (F.map facts.now)) self.new.floor rows_now self.new.waiting.keys) }
+        ensures difference { IfOk result (λ d. (rows rows_now : Row → Bool) → AwaitsMoments (moment_at program.now pattern.now (F.map facts.now)) self.old.floor rows self.old.waiting.keys → LeadsRows rows rows_now delta.now.gone delta.now.come
             → IsDifference (ripe (moment_at program.now pattern.now (F.map facts.now)) self.old.floor rows) (ripe (moment_at program.now pattern.now (F.map facts.now)) self.new.floor rows_now) d) }
     {
         let next = later(self.floor, floor);

@@ -1,5 +1,7 @@
 -- Names from modules that two proofs and more cite, passed on from one place. Declares nothing.
-pub use Rattle.std.proofs.Common.{◌≡◌, ap, ◌∙◌, sym, length, ◌<◌, ◌++◌, List, [], ℕ, subst, ◌+◌, Some, arith, rules, ◌∷◌, ◌/◌, ◌≤◌, ◌^◌, None, cond, ◌%◌, ◌*◌, append_assoc, get_or, Bool, Option, false, option_to_list, refl, set, true, length-append, drop, suc, zero, eq-eqb, vec_len, ◌-◌, length-set, map, slice_index_or, ◌&&◌}
+pub use Rattle.std.proofs.Common.{◌≡◌, ap, ◌∙◌, sym, length, ◌<◌, ◌++◌, List, [], ℕ, subst, ◌+◌, Some, arith, rules, ◌∷◌, ◌/◌, ◌≤◌, ◌^◌, None, cond, ◌%◌, ◌*◌}
+pub use Rattle.std.proofs.Common.{append_assoc, get_or, Bool, Option, false, option_to_list, refl, set, true, length-append, drop, suc, zero, eq-eqb, vec_len}
+pub use Rattle.std.proofs.Common.{◌-◌, length-set, map, slice_index_or, ◌&&◌}
 pub use Rattle.std.proofs.lemmas.Bool.{ltb-false, ltb-true}
 pub use Rattle.std.proofs.lemmas.List.{append-nil, drop_more, get_or_past}
 pub use Rattle.std.proofs.lemmas.List.Elements.{All-tail, All-pop, All-push, recursion_from_All, All-cons, All-from_recursion, All-get_or, All-head, All-set}
@@ -16,6 +18,7 @@ pub use Rattle.std.specs.VecDeque.{deque_len}
 pub use Rattle.std.specs.VecDeque.Iter.{deque_iter_rest}
 pub use Rattle.std.specs.declared.cmp.Ordering.TheVariants.{Less}
 pub use Rattle.std.specs.declared.ops.Bound.TheVariants.{Excluded, Included, Unbounded}
-pub use Rattle.page_map.specs.Pages.{Directory, AreShort, entries_of, free, entries_by, number_in, value_of, AreDirectories, value_at, Page, entries_from, number_at, Numbers, entry_of, numbers_of}
+pub use Rattle.page_map.specs.Pages.{Directory, ArePagesApart, entries_of, free, entries_by, number_in, value_for_number, AreDirectories, value_at, Page}
+pub use Rattle.page_map.specs.Pages.{entries_from, number_in_pages, NumberMap, entry_of, numbers_of}
 pub use Rattle.page_map.specs.Parts.{AreParts, map_of}
-pub use Rattle.page_map.specs.Rows.{held, numbered, AreHeld, IsTrimmed, among}
+pub use Rattle.page_map.specs.Rows.{held, numbered, AreDirectoriesApart, IsTrimmed, among}

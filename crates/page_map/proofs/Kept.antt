@@ -1,12 +1,19 @@
 -- What the directories and their pages hold.
-use Rattle.page_map.proofs.Common.{◌≡◌, ◌∙◌, sym, ap, refl, subst, ℕ, zero, suc, ◌+◌, ◌*◌, ◌/◌, ◌%◌, ◌^◌, ◌<◌, ◌≤◌, List, [], ◌∷◌, ◌++◌, Bool, true, false, cond, ◌&&◌, Option, Some, None, length, get_or, arith, eq-eqb, append_assoc, nat_eq, Less, nat_cmp, BTreeMap, is_at, WritesThrough, lookup, keys_of, values_of, All, AllByRecursion, slice_get, recursion_from_All, exact_unsigned_eq, Page, Directory, free, value_of, entries_from, entries_by, entries_of, AreShort, AreDirectories, number_in, number_at, value_at, T, IfNone, OnSome, is_some, eq_by_cmp, is_eq, is_lt, insert_entry, set_value, remove_entry, All-keys-insert_entry, All-values-insert_entry, All-map-remove_entry, All-values-set_value, Numbers, entry_of}
+use Rattle.page_map.proofs.Common.{◌≡◌, ◌∙◌, sym, ap, refl, subst, ℕ, zero, suc, ◌+◌, ◌*◌, ◌/◌, ◌%◌, ◌^◌, ◌<◌, ◌≤◌, List, [], ◌∷◌, ◌++◌, Bool, true, false}
+use Rattle.page_map.proofs.Common.{cond, ◌&&◌, Option, Some, None, length, get_or, arith, eq-eqb, append_assoc, nat_eq, Less, nat_cmp, BTreeMap, is_at}
+use Rattle.page_map.proofs.Common.{WritesThrough, lookup, keys_of, values_of, All, AllByRecursion, slice_get, recursion_from_All, exact_unsigned_eq, Page}
+use Rattle.page_map.proofs.Common.{Directory, free, value_for_number, entries_from, entries_by, entries_of, ArePagesApart, AreDirectories, number_in}
+use Rattle.page_map.proofs.Common.{number_in_pages, value_at, T, IfNone, OnSome, is_some, eq_by_cmp, is_eq, is_lt, insert_entry, set_value, remove_entry}
+use Rattle.page_map.proofs.Common.{All-keys-insert_entry, All-values-insert_entry, All-map-remove_entry, All-values-set_value, NumberMap, entry_of}
 use Rattle.std.specs.Cmp.{nat_cmp_total, unsigned_tied}
 use Rattle.std.specs.List.Sorted.{IsStrictlySortedBy}
 use Rattle.std.specs.FinMap.Entries.{below_all}
-use Rattle.std.specs.FinMap.{find, is_sorted, from_sorted, from_entries, get-from_entries, get-from_sorted, get-insert, get-remove, entries-from_sorted, same_map, nat_cmp-IsAntisymmetric}
+use Rattle.std.specs.FinMap.{find, is_sorted, from_sorted, from_entries, get-from_entries, get-from_sorted, get-insert, get-remove, entries-from_sorted}
+use Rattle.std.specs.FinMap.{same_map, nat_cmp-IsAntisymmetric}
 use Rattle.std.specs.FinMap as map
 use Rattle.std.proofs.lemmas.Cmp.{ranked}
 use Rattle.page_map.specs.Pages.{numbers_of}
+use Rattle.fx_base.proofs.Tests.{T_both}
 
 -- ---- numbers that tie
 
@@ -47,13 +54,9 @@ before low q (e ∷ es) rises l =
     let less : nat_cmp q e.0 ≡ Less = grind (arith, first, l) in
     subst (λ o. T (is_lt o && below_all nat_cmp q es)) (sym less) (before (e.0 + 1) q es rises.1 (omega arith))
 
-both : (a b : Bool) → T a → T b → T (a && b)
-both true b p q = q
-both false b p q = p
-
 in_order : (low : ℕ) (es : List (ℕ × ℕ)) → Rises low es → T (is_sorted nat_cmp es)
 in_order low [] rises = tt
-in_order low (e ∷ es) rises = both _ _ (before (e.0 + 1) e.0 es rises.1 (omega arith)) (in_order (e.0 + 1) es rises.1)
+in_order low (e ∷ es) rises = T_both _ _ (before (e.0 + 1) e.0 es rises.1 (omega arith)) (in_order (e.0 + 1) es rises.1)
 
 -- ---- one page
 
@@ -64,7 +67,7 @@ with_entry key (Some value) es r = (omega arith, r)
 rising : (key : ℕ) (numbers : List ℕ) (rest : List (ℕ × ℕ)) → Rises (key + length numbers) rest → Rises key (entries_from key numbers rest)
 rising key [] rest r = lower key (key + 0) rest (omega arith) r
 rising key (number ∷ numbers) rest r =
-    with_entry key (value_of number) (entries_from (key + 1) numbers rest)
+    with_entry key (value_for_number number) (entries_from (key + 1) numbers rest)
     (rising (key + 1) numbers rest (lower (key + 1 + length numbers) (key + suc (length numbers)) rest (omega arith) r))
 
 over : (q key : ℕ) (value : Option ℕ) (es : List (ℕ × ℕ)) → (q ≡ key → ⊥) → find nat_cmp q (entry_of key value es) ≡ find nat_cmp q es
@@ -77,16 +80,16 @@ first_of q key (Some value) es same none = ap (λ t. cond t (Some value) (find n
 
 -- what is found at a key of the page is the value at its place
 found_in : (key place : ℕ) (numbers : List ℕ) (rest : List (ℕ × ℕ)) → Rises (key + length numbers) rest → find nat_cmp (key + place) rest ≡ None
-    → find nat_cmp (key + place) (entries_from key numbers rest) ≡ value_of (get_or numbers place free)
+    → find nat_cmp (key + place) (entries_from key numbers rest) ≡ value_for_number (get_or numbers place free)
 found_in key place [] rest rises none = none
 found_in key zero (number ∷ numbers) rest rises none =
     let tail = lower (key + 1 + length numbers) (key + suc (length numbers)) rest (omega arith) rises in
-    first_of (key + 0) key (value_of number) (entries_from (key + 1) numbers rest) (omega arith)
+    first_of (key + 0) key (value_for_number number) (entries_from (key + 1) numbers rest) (omega arith)
     (below (key + 1) (key + 0) (entries_from (key + 1) numbers rest) (rising (key + 1) numbers rest tail) (omega arith))
 found_in key (suc place) (number ∷ numbers) rest rises none =
     let tail = lower (key + 1 + length numbers) (key + suc (length numbers)) rest (omega arith) rises in
     let next : key + suc place ≡ key + 1 + place = omega arith in
-    over (key + suc place) key (value_of number) (entries_from (key + 1) numbers rest) (λ e. omega (arith, e))
+    over (key + suc place) key (value_for_number number) (entries_from (key + 1) numbers rest) (λ e. omega (arith, e))
     ∙ ap (λ n. find nat_cmp n (entries_from (key + 1) numbers rest)) next
     ∙ found_in (key + 1) place numbers rest tail (ap (λ n. find nat_cmp n rest) (sym next) ∙ none)
 
@@ -94,7 +97,7 @@ found_in key (suc place) (number ∷ numbers) rest rises none =
 found_past : (q key : ℕ) (numbers : List ℕ) (rest : List (ℕ × ℕ)) → ((place : ℕ) → place < length numbers → q ≡ key + place → ⊥) → find nat_cmp q (entries_from key numbers rest) ≡ find nat_cmp q rest
 found_past q key [] rest outside = refl
 found_past q key (number ∷ numbers) rest outside =
-    over q key (value_of number) (entries_from (key + 1) numbers rest) (λ e. outside 0 (omega arith) (omega (arith, e)))
+    over q key (value_for_number number) (entries_from (key + 1) numbers rest) (λ e. outside 0 (omega arith) (omega (arith, e)))
     ∙ found_past q (key + 1) numbers rest (λ place l e. outside (suc place) (omega (arith, l)) (omega (arith, e)))
 
 -- a free place at the end says nothing
@@ -121,10 +124,10 @@ entry_joined key (Some value) es rest = refl
 -- the entries of a page, and those that follow
 pub joined : (key : ℕ) (numbers : List ℕ) (rest : List (ℕ × ℕ)) → entries_from key numbers [] ++ rest ≡ entries_from key numbers rest
 joined key [] rest = refl
-joined key (number ∷ numbers) rest = entry_joined key (value_of number) (entries_from (key + 1) numbers []) rest ∙ ap (entry_of key (value_of number)) (joined (key + 1) numbers rest)
+joined key (number ∷ numbers) rest = entry_joined key (value_for_number number) (entries_from (key + 1) numbers []) rest ∙ ap (entry_of key (value_for_number number)) (joined (key + 1) numbers rest)
 
 -- a number that is a value
-pub is_value : (number : ℕ) → (number ≡ free → ⊥) → value_of number ≡ Some number
+pub is_value : (number : ℕ) → (number ≡ free → ⊥) → value_for_number number ≡ Some number
 is_value number differs = by (nat_eq number free) refl
   where
     by : (t : Bool) → nat_eq number free ≡ t → cond t None (Some number) ≡ Some number
@@ -132,7 +135,7 @@ is_value number differs = by (nat_eq number free) refl
     by false e = refl
 
 -- the value at each place, where one number is written
-pub value_written : (t : Bool) (number other : ℕ) → value_of (cond t number other) ≡ cond t (value_of number) (value_of other)
+pub value_written : (t : Bool) (number other : ℕ) → value_for_number (cond t number other) ≡ cond t (value_for_number number) (value_for_number other)
 value_written true number other = refl
 value_written false number other = refl
 
@@ -141,7 +144,7 @@ value_written false number other = refl
 abbrev pub Narrow : List Page → Type 0
 Narrow pages = AllByRecursion (λ (page : Page). length page.items ≤ 64) pages
 
-narrow : (pages : List Page) → AreShort pages → Narrow pages
+narrow : (pages : List Page) → ArePagesApart pages → Narrow pages
 narrow pages short = recursion_from_All (λ (page : Page). length page.items ≤ 64) pages short.short
 
 -- the entries of a directory, and those that follow
@@ -163,7 +166,7 @@ rising_pages key (page ∷ pages) rest fits r =
 
 -- what is found at a key of the directory is the value at its place
 found_at : (key i place : ℕ) (pages : List Page) (rest : List (ℕ × ℕ)) → place < 64 → Narrow pages → Rises (key + 64 * length pages) rest
-    → find nat_cmp (key + 64 * i + place) rest ≡ None → find nat_cmp (key + 64 * i + place) (entries_by key pages rest) ≡ value_of (number_in pages i place)
+    → find nat_cmp (key + 64 * i + place) rest ≡ None → find nat_cmp (key + 64 * i + place) (entries_by key pages rest) ≡ value_for_number (number_in pages i place)
 found_at key i place [] rest within fits rises none = none
 found_at key zero place (page ∷ pages) rest within fits rises none =
     let first = fits.0 in
@@ -196,8 +199,8 @@ past_pages [] i k l = refl
 past_pages (page ∷ pages) zero k l = absurd (omega (arith, l))
 past_pages (page ∷ pages) (suc i) k l = past_pages pages i k (omega (arith, l))
 
-pub no_pages : (pages : List Page) → pages ≡ [] → AreShort pages
-no_pages pages e = subst (λ (ps : List Page). AreShort ps) (sym e) (record { few = omega arith; short = λ k d l. absurd (omega (arith, l)) })
+pub no_pages : (pages : List Page) → pages ≡ [] → ArePagesApart pages
+no_pages pages e = subst (λ (ps : List Page). ArePagesApart ps) (sym e) (record { few = omega arith; short = λ k d l. absurd (omega (arith, l)) })
 
 -- ---- all directories
 
@@ -207,7 +210,7 @@ beyond a [] less = tt
 beyond a (k ∷ ks) less = let l = ranked a k Less (sym less.0) in (omega (arith, l), beyond a ks less.1)
 
 abbrev Short : List (ℕ × Directory) → Type 0
-Short directories = AllByRecursion (λ (d : Directory). AreShort d.items) (values_of directories)
+Short directories = AllByRecursion (λ (d : Directory). ArePagesApart d.items) (values_of directories)
 
 rise : (low : ℕ) (ds : List (ℕ × Directory)) → AllByRecursion (λ k. low ≤ k) (keys_of ds) → IsStrictlySortedBy nat_cmp (keys_of ds) → Short ds → Rises (2048 * low) (entries_of ds)
 unfolding IsStrictlySortedBy
@@ -249,7 +252,7 @@ all_above (k ∷ ks) = (omega arith, all_above ks)
 
 module _ (ds : List (ℕ × Directory)) (are : AreDirectories ds) where
   short : Short ds
-  short = recursion_from_All (λ (d : Directory). AreShort d.items) (values_of ds) are.short
+  short = recursion_from_All (λ (d : Directory). ArePagesApart d.items) (values_of ds) are.short
 
   -- the value of a key
   pub get-numbers : (q : ℕ) → map.get (numbers_of ds) q ≡ value_at (lookup (is_at (nat_cmp (q / 2048))) ds) (q % 2048)
@@ -268,32 +271,32 @@ module _ (ds : List (ℕ × Directory)) (are : AreDirectories ds) where
 -- ---- the directories after a change
 
 -- a directory of those that fit fits
-short_there : (test : ℕ → Bool) (ds : List (ℕ × Directory)) (directory : Directory) → Short ds → lookup test ds ≡ Some directory → AreShort directory.items
+short_there : (test : ℕ → Bool) (ds : List (ℕ × Directory)) (directory : Directory) → Short ds → lookup test ds ≡ Some directory → ArePagesApart directory.items
 short_there test [] directory shorts e = absurd (let x : None ≡ Some directory = e in cc)
 short_there test (p ∷ ds) directory shorts e = by (test p.0) e (short_there test ds directory shorts.1)
   where
-    by : (t : Bool) → cond t (Some p.1) (lookup test ds) ≡ Some directory → (lookup test ds ≡ Some directory → AreShort directory.items) → AreShort directory.items
-    by true is rest = let same : p.1 ≡ directory = cc in subst (λ (x : Directory). AreShort x.items) same shorts.0
+    by : (t : Bool) → cond t (Some p.1) (lookup test ds) ≡ Some directory → (lookup test ds ≡ Some directory → ArePagesApart directory.items) → ArePagesApart directory.items
+    by true is rest = let same : p.1 ≡ directory = cc in subst (λ (x : Directory). ArePagesApart x.items) same shorts.0
     by false is rest = rest is
 
 module _ (ds next : List (ℕ × Directory)) (are : AreDirectories ds) (ordered : IsStrictlySortedBy nat_cmp (keys_of next)) where
-  pub directory_short : (test : ℕ → Bool) (directory : Directory) → lookup test ds ≡ Some directory → AreShort directory.items
+  pub directory_short : (test : ℕ → Bool) (directory : Directory) → lookup test ds ≡ Some directory → ArePagesApart directory.items
   directory_short test directory here = short_there test ds directory (short ds are) here
 
   -- a directory is written anew
-  pub with_directory : (test : ℕ → Bool) (directory : Directory) → next ≡ set_value test ds directory → keys_of next ≡ keys_of ds → AreShort directory.items → AreDirectories next
+  pub with_directory : (test : ℕ → Bool) (directory : Directory) → next ≡ set_value test ds directory → keys_of next ≡ keys_of ds → ArePagesApart directory.items → AreDirectories next
   with_directory test directory is keys fits = record {
     ordered = ordered;
     numbers = subst (All (λ number. number < 2 ^ 53)) (sym keys) are.numbers;
-    short = subst (λ es. All (λ (d : Directory). AreShort d.items) (values_of es)) (sym is) (All-values-set_value test (λ (d : Directory). AreShort d.items) ds directory are.short fits);
+    short = subst (λ es. All (λ (d : Directory). ArePagesApart d.items) (values_of es)) (sym is) (All-values-set_value test (λ (d : Directory). ArePagesApart d.items) ds directory are.short fits);
   }
 
   -- a directory comes
-  pub more_directories : (number : ℕ) (directory : Directory) → next ≡ insert_entry nat_cmp ds number directory → number < 2 ^ 53 → AreShort directory.items → AreDirectories next
+  pub more_directories : (number : ℕ) (directory : Directory) → next ≡ insert_entry nat_cmp ds number directory → number < 2 ^ 53 → ArePagesApart directory.items → AreDirectories next
   more_directories number directory is below fits = record {
     ordered = ordered;
     numbers = subst (λ es. All (λ n. n < 2 ^ 53) (keys_of es)) (sym is) (All-keys-insert_entry nat_cmp number directory (λ n. n < 2 ^ 53) ds are.numbers below);
-    short = subst (λ es. All (λ (d : Directory). AreShort d.items) (values_of es)) (sym is) (All-values-insert_entry nat_cmp number directory (λ (d : Directory). AreShort d.items) ds are.short fits);
+    short = subst (λ es. All (λ (d : Directory). ArePagesApart d.items) (values_of es)) (sym is) (All-values-insert_entry nat_cmp number directory (λ (d : Directory). ArePagesApart d.items) ds are.short fits);
   }
 
   -- a directory goes
@@ -301,7 +304,7 @@ module _ (ds next : List (ℕ × Directory)) (are : AreDirectories ds) (ordered 
   fewer_directories test is = record {
     ordered = ordered;
     numbers = subst (λ es. All (λ n. n < 2 ^ 53) (keys_of es)) (sym is) (All-map-remove_entry test (λ (e : ℕ × Directory). e.0) (λ n. n < 2 ^ 53) ds are.numbers);
-    short = subst (λ es. All (λ (d : Directory). AreShort d.items) (values_of es)) (sym is) (All-map-remove_entry test (λ (e : ℕ × Directory). e.1) (λ (d : Directory). AreShort d.items) ds are.short);
+    short = subst (λ es. All (λ (d : Directory). ArePagesApart d.items) (values_of es)) (sym is) (All-map-remove_entry test (λ (e : ℕ × Directory). e.1) (λ (d : Directory). ArePagesApart d.items) ds are.short);
   }
 
 -- a directory written and taken out again
@@ -359,51 +362,51 @@ same_values was is were are values =
 module _ (was is : List (ℕ × Directory)) (were : AreDirectories was) (are : AreDirectories is) (key : ℕ) where
   module _ (directory w : Directory) (here : lookup (is_at (nat_cmp (key / 2048))) was ≡ Some directory)
       (others : (n : ℕ) → lookup (is_at (nat_cmp n)) is ≡ cond (is_at (nat_cmp (key / 2048)) n) (Some w) (lookup (is_at (nat_cmp n)) was)) where
-    places : (number : ℕ) → ((k : ℕ) → number_at w.items k ≡ cond (nat_eq (key % 2048) k) number (number_at directory.items k))
-        → (k : ℕ) → value_at (Some w) k ≡ cond (nat_eq (key % 2048) k) (value_of number) (value_at (lookup (is_at (nat_cmp (key / 2048))) was) k)
+    places : (number : ℕ) → ((k : ℕ) → number_in_pages w.items k ≡ cond (nat_eq (key % 2048) k) number (number_in_pages directory.items k))
+        → (k : ℕ) → value_at (Some w) k ≡ cond (nat_eq (key % 2048) k) (value_for_number number) (value_at (lookup (is_at (nat_cmp (key / 2048))) was) k)
     places number writes k =
-        ap value_of (writes k) ∙ value_written (nat_eq (key % 2048) k) number (number_at directory.items k) ∙ ap (λ o. cond (nat_eq (key % 2048) k) (value_of number) (value_at o k)) (sym here)
+        ap value_for_number (writes k) ∙ value_written (nat_eq (key % 2048) k) number (number_in_pages directory.items k) ∙ ap (λ o. cond (nat_eq (key % 2048) k) (value_for_number number) (value_at o k)) (sym here)
 
     -- one value is put in
-    pub put_anew : (value : ℕ) → (value ≡ free → ⊥) → ((k : ℕ) → number_at w.items k ≡ cond (nat_eq (key % 2048) k) value (number_at directory.items k))
+    pub put_anew : (value : ℕ) → (value ≡ free → ⊥) → ((k : ℕ) → number_in_pages w.items k ≡ cond (nat_eq (key % 2048) k) value (number_in_pages directory.items k))
         → numbers_of is ≡ map.insert (numbers_of was) key value
-    put_anew value proper writes = with_key was is were are key (Some w) (value_of value) others (places value writes) value (is_value value proper)
+    put_anew value proper writes = with_key was is were are key (Some w) (value_for_number value) others (places value writes) value (is_value value proper)
 
     -- one value is taken out
-    pub take_out : ((k : ℕ) → number_at w.items k ≡ cond (nat_eq (key % 2048) k) free (number_at directory.items k)) → numbers_of is ≡ map.remove (numbers_of was) key
-    take_out writes = without_key was is were are key (Some w) (value_of free) others (places free writes) refl
+    pub take_out : ((k : ℕ) → number_in_pages w.items k ≡ cond (nat_eq (key % 2048) k) free (number_in_pages directory.items k)) → numbers_of is ≡ map.remove (numbers_of was) key
+    take_out writes = without_key was is were are key (Some w) (value_for_number free) others (places free writes) refl
 
     -- nothing is written
-    pub unchanged : ((k : ℕ) → number_at w.items k ≡ number_at directory.items k) → numbers_of is ≡ numbers_of was
+    pub unchanged : ((k : ℕ) → number_in_pages w.items k ≡ number_in_pages directory.items k) → numbers_of is ≡ numbers_of was
     unchanged same = same_values was is were are (λ n k. ap (λ o. value_at o k) (others n) ∙ by n k (is_at (nat_cmp (key / 2048)) n) refl)
       where
         by : (n k : ℕ) (t : Bool) → is_at (nat_cmp (key / 2048)) n ≡ t → value_at (cond t (Some w) (lookup (is_at (nat_cmp n)) was)) k ≡ value_at (lookup (is_at (nat_cmp n)) was) k
         by n k true e =
-            ap value_of (same k) ∙ ap (λ o. value_at o k) (sym here) ∙ ap (λ m. value_at (lookup (is_at (nat_cmp m)) was) k) (tied (key / 2048) n e)
+            ap value_for_number (same k) ∙ ap (λ o. value_at o k) (sym here) ∙ ap (λ m. value_at (lookup (is_at (nat_cmp m)) was) k) (tied (key / 2048) n e)
         by n k false e = refl
 
   -- the last value of a directory is taken out, and the directory with it
   pub take_last : (directory w : Directory) → lookup (is_at (nat_cmp (key / 2048))) was ≡ Some directory
       → ((n : ℕ) → lookup (is_at (nat_cmp n)) is ≡ cond (is_at (nat_cmp (key / 2048)) n) None (lookup (is_at (nat_cmp n)) was))
-      → length w.items ≡ 0 → ((k : ℕ) → number_at w.items k ≡ cond (nat_eq (key % 2048) k) free (number_at directory.items k)) → numbers_of is ≡ map.remove (numbers_of was) key
+      → length w.items ≡ 0 → ((k : ℕ) → number_in_pages w.items k ≡ cond (nat_eq (key % 2048) k) free (number_in_pages directory.items k)) → numbers_of is ≡ map.remove (numbers_of was) key
   take_last directory w here gone none writes =
-      without_key was is were are key None (value_of free) gone
-      (λ k. ap value_of (sym (past_pages w.items (k / 64) (k % 64) (omega (arith, none))) ∙ writes k) ∙ value_written (nat_eq (key % 2048) k) free (number_at directory.items k)
-      ∙ ap (λ o. cond (nat_eq (key % 2048) k) (value_of free) (value_at o k)) (sym here)) refl
+      without_key was is were are key None (value_for_number free) gone
+      (λ k. ap value_for_number (sym (past_pages w.items (k / 64) (k % 64) (omega (arith, none))) ∙ writes k) ∙ value_written (nat_eq (key % 2048) k) free (number_in_pages directory.items k)
+      ∙ ap (λ o. cond (nat_eq (key % 2048) k) (value_for_number free) (value_at o k)) (sym here)) refl
 
   -- the first value of a directory
   pub put_first : (blank directory : Directory)
       → ((n : ℕ) → lookup (is_at (nat_cmp n)) is ≡ cond (is_at (nat_cmp (key / 2048)) n) (Some directory) (lookup (is_at (nat_cmp n)) was))
       → lookup (is_at (nat_cmp (key / 2048))) was ≡ None → blank.items ≡ [] → (value : ℕ) → (value ≡ free → ⊥)
-      → ((k : ℕ) → number_at directory.items k ≡ cond (nat_eq (key % 2048) k) value (number_at blank.items k)) → numbers_of is ≡ map.insert (numbers_of was) key value
+      → ((k : ℕ) → number_in_pages directory.items k ≡ cond (nat_eq (key % 2048) k) value (number_in_pages blank.items k)) → numbers_of is ≡ map.insert (numbers_of was) key value
   put_first blank directory others none empty value proper writes =
-      with_key was is were are key (Some directory) (value_of value) others
-      (λ k. ap value_of (writes k ∙ ap (λ xs. cond (nat_eq (key % 2048) k) value (number_at xs k)) empty) ∙ value_written (nat_eq (key % 2048) k) value free
-      ∙ ap (λ o. cond (nat_eq (key % 2048) k) (value_of value) (value_at o k)) (sym none)) value (is_value value proper)
+      with_key was is were are key (Some directory) (value_for_number value) others
+      (λ k. ap value_for_number (writes k ∙ ap (λ xs. cond (nat_eq (key % 2048) k) value (number_in_pages xs k)) empty) ∙ value_written (nat_eq (key % 2048) k) value free
+      ∙ ap (λ o. cond (nat_eq (key % 2048) k) (value_for_number value) (value_at o k)) (sym none)) value (is_value value proper)
 
 -- the directories of a tree behind a write through one that it lent
 pub rewritten : (m n : BTreeMap ℕ Directory) (number : ℕ) (directory w : Directory) → AreDirectories m.entries → Some directory ≡ lookup (is_at (nat_cmp number)) m.entries
-    → WritesThrough nat_cmp (nat_cmp number) m w n → (AreShort directory.items → AreShort w.items) → AreDirectories n.entries
+    → WritesThrough nat_cmp (nat_cmp number) m w n → (ArePagesApart directory.items → ArePagesApart w.items) → AreDirectories n.entries
 rewritten m n number directory w were here wrote fits =
     with_directory m.entries n.entries were wrote.4 (is_at (nat_cmp number)) w wrote.0 wrote.1
     (fits (directory_short m.entries n.entries were wrote.4 (is_at (nat_cmp number)) directory (sym here)))
@@ -413,7 +416,7 @@ pub rewritten_others : (m n : BTreeMap ℕ Directory) (number : ℕ) (directory 
 rewritten_others m n number directory w here wrote = (wrote.3 (ap is_some (sym here))).0
 
 -- where nothing is, nothing is taken out
-pub remove_absent : (m : Numbers) (key : ℕ) → map.get m key ≡ None → m ≡ map.remove m key
+pub remove_absent : (m : NumberMap) (key : ℕ) → map.get m key ≡ None → m ≡ map.remove m key
 remove_absent m key none =
     same_map nat_cmp_total nat_cmp-IsAntisymmetric m (map.remove m key) (λ q. sym (get-remove nat_cmp_total m key q ∙ by q (eq_by_cmp nat_cmp q key) refl))
   where

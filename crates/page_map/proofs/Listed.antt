@@ -1,5 +1,7 @@
 -- The entries of all directories, from those of the tree below the row, of the row, and of the tree behind it.
-use Rattle.page_map.proofs.Common.{◌≡◌, ◌∙◌, sym, ap, refl, ℕ, ◌+◌, ◌<◌, ◌≤◌, ◌*◌, List, [], ◌∷◌, ◌++◌, Bool, true, false, cond, arith, append_assoc, map, nat_lt, Included, Excluded, Unbounded, nat_cmp, range_contains, keys_of, All, AllByRecursion, ltb-true, ltb-false, append-nil, All-tail, Directory, entries_of, entries_by, numbered, among, entries_between, filter, All-cons, All-head}
+use Rattle.page_map.proofs.Common.{◌≡◌, ◌∙◌, sym, ap, refl, ℕ, ◌+◌, ◌<◌, ◌≤◌, ◌*◌, List, [], ◌∷◌, ◌++◌, Bool, true, false, cond, arith, append_assoc, map}
+use Rattle.page_map.proofs.Common.{nat_lt, Included, Excluded, Unbounded, nat_cmp, range_contains, keys_of, All, AllByRecursion, ltb-true, ltb-false}
+use Rattle.page_map.proofs.Common.{append-nil, All-tail, Directory, entries_of, entries_by, numbered, among, entries_between, filter, All-cons, All-head}
 use Rattle.std.specs.List.Sorted.{IsStrictlySortedBy}
 use Rattle.page_map.proofs.Kept.{beyond, joined_pages}
 

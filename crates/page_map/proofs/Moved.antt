@@ -1,10 +1,13 @@
 -- Row and tree behind a write, and behind a move of the row.
-use Rattle.page_map.proofs.Common.{◌≡◌, ◌∙◌, sym, ap, refl, ℕ, ◌+◌, ◌^◌, ◌<◌, ◌≤◌, List, [], ◌∷◌, ◌++◌, Bool, true, false, cond, Option, Some, None, length, set, arith, length-append, length-set, ◌/◌, ◌%◌, nat_lt, option_or, nat_cmp, is_at, All-push, All-pop, All-tail, ltb-true, ltb-false, Directory, AreShort, AreDirectories, value_of, value_at, numbered, among, held, AreHeld, IsTrimmed, All-set, numbers_of}
+use Rattle.page_map.proofs.Common.{◌≡◌, ◌∙◌, sym, ap, refl, ℕ, ◌+◌, ◌^◌, ◌<◌, ◌≤◌, List, [], ◌∷◌, ◌++◌, Bool, true, false, cond, Option, Some, None, length}
+use Rattle.page_map.proofs.Common.{set, arith, length-append, length-set, ◌/◌, ◌%◌, nat_lt, option_or, nat_cmp, is_at, All-push, All-pop, All-tail, ltb-true}
+use Rattle.page_map.proofs.Common.{ltb-false, Directory, ArePagesApart, AreDirectories, value_for_number, value_at, numbered, among, held, AreDirectoriesApart}
+use Rattle.page_map.proofs.Common.{IsTrimmed, All-set, numbers_of}
 use Rattle.page_map.proofs.Kept.{apart, together, tied, same_values, past_pages}
 use Rattle.page_map.proofs.Rows.{stands, or_none, none_before, none_behind, some_within, stands_set, stands_push, stands_among, none_among, whole}
 
 -- where a row has a directory, the tree has none
-pub tree_none : (first : ℕ) (row : List Directory) (tree : List (ℕ × Directory)) → AreHeld first row tree → (n : ℕ) (d : Directory) → stands n (numbered first row) ≡ Some d → stands n tree ≡ None
+pub tree_none : (first : ℕ) (row : List Directory) (tree : List (ℕ × Directory)) → AreDirectoriesApart first row tree → (n : ℕ) (d : Directory) → stands n (numbered first row) ≡ Some d → stands n tree ≡ None
 tree_none first row tree are n d here = are.apart n (from (nat_lt n first) refl) (to (nat_lt n (first + length row)) refl)
   where
     from : (t : Bool) → nat_lt n first ≡ t → first ≤ n
@@ -35,14 +38,14 @@ row_written first row tree i w l n =
     by true = refl
     by false = refl
 
-pub row_held : (first : ℕ) (row : List Directory) (tree : List (ℕ × Directory)) (i : ℕ) (w : Directory) → AreHeld first row tree → AreShort w.items → AreHeld first (set row i w) tree
+pub row_held : (first : ℕ) (row : List Directory) (tree : List (ℕ × Directory)) (i : ℕ) (w : Directory) → AreDirectoriesApart first row tree → ArePagesApart w.items → AreDirectoriesApart first (set row i w) tree
 row_held first row tree i w are fits =
     let same = length-set row i w in
     let few = are.few in
     let end = are.end in record {
       stored = are.stored;
       few = omega (arith, same, few);
-      short = All-set (λ (d : Directory). AreShort d.items) row i w fits are.short;
+      short = All-set (λ (d : Directory). ArePagesApart d.items) row i w fits are.short;
       end = omega (arith, same, end);
       apart = λ n l h. are.apart n l (omega (arith, same, h));
     }
@@ -59,7 +62,7 @@ module _ (first : ℕ) (row : List Directory) (tree next : List (ℕ × Director
       by true e = ap (λ o. option_or o directory) (ap (λ m. stands m (numbered first row)) (sym (tied number n e)) ∙ none)
       by false e = refl
 
-  pub tree_held : AreHeld first row tree → AreDirectories next → AreHeld first row next
+  pub tree_held : AreDirectoriesApart first row tree → AreDirectories next → AreDirectoriesApart first row next
   tree_held are stored = record { stored = stored; short = are.short; few = are.few; end = are.end; apart = λ n l h. others n ∙ by n l h (is_at (nat_cmp number) n) refl }
     where
       by : (n : ℕ) → first ≤ n → n < first + length row → (t : Bool) → is_at (nat_cmp number) n ≡ t → cond t directory (stands n tree) ≡ None
@@ -70,7 +73,7 @@ module _ (first : ℕ) (row : List Directory) (tree next : List (ℕ × Director
 
 -- a directory without values says nothing
 pub blank_says : (d : Directory) → length d.items ≡ 0 → (k : ℕ) → value_at (Some d) k ≡ None
-blank_says d none k = ap value_of (past_pages d.items (k / 64) (k % 64) (omega (arith, none)))
+blank_says d none k = ap value_for_number (past_pages d.items (k / 64) (k % 64) (omega (arith, none)))
 
 -- a row without directories may begin anywhere
 pub begun_same : (first number : ℕ) (row : List Directory) (tree : List (ℕ × Directory)) → length row ≡ 0 → held number row tree ≡ held first row tree
@@ -78,21 +81,21 @@ begun_same first number [] tree none = ap numbers_of (none_among number tree ∙
 begun_same first number (d ∷ row) tree none = absurd (omega (arith, none))
 
 -- the same values in row and tree
-pub same_held : (first : ℕ) (row : List Directory) (tree : List (ℕ × Directory)) (start : ℕ) (next : List Directory) (rest : List (ℕ × Directory)) → AreHeld first row tree → AreHeld start next rest
+pub same_held : (first : ℕ) (row : List Directory) (tree : List (ℕ × Directory)) (start : ℕ) (next : List Directory) (rest : List (ℕ × Directory)) → AreDirectoriesApart first row tree → AreDirectoriesApart start next rest
     → ((n k : ℕ) → value_at (option_or (stands n (numbered start next)) (stands n rest)) k ≡ value_at (option_or (stands n (numbered first row)) (stands n tree)) k) → held start next rest ≡ held first row tree
 same_held first row tree start next rest were are values =
     same_values (among first row tree) (among start next rest) (whole first row tree were) (whole start next rest are)
     (λ n k. ap (λ o. value_at o k) (stands_among n start next rest) ∙ values n k ∙ ap (λ o. value_at o k) (sym (stands_among n first row tree)))
 
 -- the first directory goes to the tree, if it has values
-module _ (first : ℕ) (d : Directory) (row : List Directory) (tree next : List (ℕ × Directory)) (were : AreHeld first (d ∷ row) tree) (stored : AreDirectories next)
+module _ (first : ℕ) (d : Directory) (row : List Directory) (tree next : List (ℕ × Directory)) (were : AreDirectoriesApart first (d ∷ row) tree) (stored : AreDirectories next)
     (others : (n : ℕ) → is_at (nat_cmp first) n ≡ false → stands n next ≡ stands n tree) (values : (k : ℕ) → value_at (stands first next) k ≡ value_at (Some d) k) where
-  pub sent_held : AreHeld (first + 1) row next
+  pub sent_held : AreDirectoriesApart (first + 1) row next
   sent_held =
       let few = were.few in
       let end = were.end in record {
         stored = stored;
-        short = All-tail (λ (x : Directory). AreShort x.items) d row were.short;
+        short = All-tail (λ (x : Directory). ArePagesApart x.items) d row were.short;
         few = omega (arith, few);
         end = omega (arith, end);
         apart = λ n l h. others n (apart first n (λ e. omega (arith, e, l))) ∙ were.apart n (omega (arith, l)) (omega (arith, h));
@@ -112,13 +115,13 @@ module _ (first : ℕ) (d : Directory) (row : List Directory) (tree next : List 
           (others n (apart first n (λ same. let torn : true ≡ false = sym (together n first (sym same)) ∙ e in cc)))
 
 -- the directory behind the last comes from the tree, or without values
-module _ (first : ℕ) (row : List Directory) (d : Directory) (tree next : List (ℕ × Directory)) (were : AreHeld first row tree) (room : first + length row < 2 ^ 53) (few : length row < 2 ^ 16) (stored : AreDirectories next) (fits : AreShort d.items)
+module _ (first : ℕ) (row : List Directory) (d : Directory) (tree next : List (ℕ × Directory)) (were : AreDirectoriesApart first row tree) (room : first + length row < 2 ^ 53) (few : length row < 2 ^ 16) (stored : AreDirectories next) (fits : ArePagesApart d.items)
     (others : (n : ℕ) → stands n next ≡ cond (is_at (nat_cmp (first + length row)) n) None (stands n tree)) (values : (k : ℕ) → value_at (Some d) k ≡ value_at (stands (first + length row) tree) k) where
-  pub grown_held : AreHeld first (row ++ d ∷ []) next
+  pub grown_held : AreDirectoriesApart first (row ++ d ∷ []) next
   grown_held =
       let more = length-append row (d ∷ []) in record {
         stored = stored;
-        short = All-push (λ (x : Directory). AreShort x.items) row d were.short fits;
+        short = All-push (λ (x : Directory). ArePagesApart x.items) row d were.short fits;
         few = omega (arith, more, few);
         end = omega (arith, more, room);
         apart = λ n l h. others n ∙ by n l (omega (arith, more, h)) (is_at (nat_cmp (first + length row)) n) refl;
@@ -159,7 +162,7 @@ module _ (old_first : ℕ) (old : List Directory) (first : ℕ) where
         values = λ n k. by n k (is_at (nat_cmp n) first) refl ∙ are.values n k;
         start = omega (arith, start);
         end = omega (arith, end);
-        short = λ p. All-tail (λ (x : Directory). AreShort x.items) d row (are.short p);
+        short = λ p. All-tail (λ (x : Directory). ArePagesApart x.items) d row (are.short p);
       }
     where
       by : (n k : ℕ) (t : Bool) → is_at (nat_cmp n) first ≡ t → value_at (stands n (numbered (first + 1) row)) k ≡ value_at (cond t (Some d) (stands n (numbered (first + 1) row))) k
@@ -176,7 +179,7 @@ module _ (old_first : ℕ) (old : List Directory) (first : ℕ) where
         values = λ n k. by n k (is_at (nat_cmp n) (first + length row)) refl ∙ ap (λ o. value_at o k) (sym (stands_push n first row d)) ∙ are.values n k;
         start = are.start;
         end = omega (arith, end, more);
-        short = λ p. (All-pop (λ (x : Directory). AreShort x.items) (row ++ d ∷ []) row (Some d) refl (are.short p)).0;
+        short = λ p. (All-pop (λ (x : Directory). ArePagesApart x.items) (row ++ d ∷ []) row (Some d) refl (are.short p)).0;
       }
     where
       by : (n k : ℕ) (t : Bool) → is_at (nat_cmp n) (first + length row) ≡ t → value_at (stands n (numbered first row)) k ≡ value_at (option_or (stands n (numbered first row)) (cond t (Some d) None)) k
@@ -199,8 +202,8 @@ split_values first row tree none n k = by (stands n (numbered first row)) refl
     by None e = refl
     by (Some d) e = none_more (value_at (Some d) k) ∙ ap (λ o. option_or (value_at (Some d) k) (value_at o k)) (sym (none n d e))
 
-module _ (old_first : ℕ) (old : List Directory) (first : ℕ) (row : List Directory) (tree : List (ℕ × Directory)) (trimmed : IsTrimmed old_first old first row) (were : AreHeld old_first old tree) where
-  pub trimmed_held : AreHeld first row tree
+module _ (old_first : ℕ) (old : List Directory) (first : ℕ) (row : List Directory) (tree : List (ℕ × Directory)) (trimmed : IsTrimmed old_first old first row) (were : AreDirectoriesApart old_first old tree) where
+  pub trimmed_held : AreDirectoriesApart first row tree
   trimmed_held =
       let start = trimmed.start in
       let end = trimmed.end in

@@ -1,5 +1,8 @@
 -- A row of directories among those of a tree.
-use Rattle.page_map.proofs.Common.{◌≡◌, ◌∙◌, sym, ap, subst, refl, ℕ, zero, suc, ◌+◌, ◌^◌, ◌<◌, ◌≤◌, List, [], ◌∷◌, ◌++◌, Bool, true, false, cond, Option, Some, None, length, get_or, set, arith, nat_lt, option_or, Less, nat_cmp, is_at, lookup, keys_of, values_of, AllByRecursion, ltb-true, ltb-false, append-nil, recursion_from_All, Directory, AreShort, AreDirectories, numbered, among, AreHeld, All-from_recursion}
+use Rattle.page_map.proofs.Common.{◌≡◌, ◌∙◌, sym, ap, subst, refl, ℕ, zero, suc, ◌+◌, ◌^◌, ◌<◌, ◌≤◌, List, [], ◌∷◌, ◌++◌, Bool, true, false, cond, Option, Some}
+use Rattle.page_map.proofs.Common.{None, length, get_or, set, arith, nat_lt, option_or, Less, nat_cmp, is_at, lookup, keys_of, values_of, AllByRecursion}
+use Rattle.page_map.proofs.Common.{ltb-true, ltb-false, append-nil, recursion_from_All, Directory, ArePagesApart, AreDirectories, numbered, among}
+use Rattle.page_map.proofs.Common.{AreDirectoriesApart, All-from_recursion}
 use Rattle.std.specs.List.Sorted.{IsStrictlySortedBy}
 use Rattle.page_map.proofs.Kept.{apart, together, tied, beyond, all_above}
 
@@ -191,13 +194,13 @@ module _ (Q : ℕ × Directory → Type 0) where
 
 -- a directory that fits
 abbrev Fits : ℕ × Directory → Type 0
-Fits d = (d.0 < 2 ^ 53) × AreShort d.1.items
+Fits d = (d.0 < 2 ^ 53) × ArePagesApart d.1.items
 
-each_of : (ds : List (ℕ × Directory)) → AllByRecursion (λ n. n < 2 ^ 53) (keys_of ds) → AllByRecursion (λ (d : Directory). AreShort d.items) (values_of ds) → Each Fits ds
+each_of : (ds : List (ℕ × Directory)) → AllByRecursion (λ n. n < 2 ^ 53) (keys_of ds) → AllByRecursion (λ (d : Directory). ArePagesApart d.items) (values_of ds) → Each Fits ds
 each_of [] p q = tt
 each_of (d ∷ ds) p q = ((p.0, q.0), each_of ds p.1 q.1)
 
-each_row : (first : ℕ) (row : List Directory) → first + length row ≤ 2 ^ 53 → AllByRecursion (λ (d : Directory). AreShort d.items) row → Each Fits (numbered first row)
+each_row : (first : ℕ) (row : List Directory) → first + length row ≤ 2 ^ 53 → AllByRecursion (λ (d : Directory). ArePagesApart d.items) row → Each Fits (numbered first row)
 each_row first [] l p = tt
 each_row first (d ∷ row) l p = ((omega (arith, l), p.0), each_row (first + 1) row (omega (arith, l)) p.1)
 
@@ -205,20 +208,20 @@ keys_each : (ds : List (ℕ × Directory)) → Each Fits ds → AllByRecursion (
 keys_each [] p = tt
 keys_each (d ∷ ds) p = (p.0.0, keys_each ds p.1)
 
-values_each : (ds : List (ℕ × Directory)) → Each Fits ds → AllByRecursion (λ (d : Directory). AreShort d.items) (values_of ds)
+values_each : (ds : List (ℕ × Directory)) → Each Fits ds → AllByRecursion (λ (d : Directory). ArePagesApart d.items) (values_of ds)
 values_each [] p = tt
 values_each (d ∷ ds) p = (p.0.1, values_each ds p.1)
 
-module _ (first : ℕ) (row : List Directory) (tree : List (ℕ × Directory)) (are : AreHeld first row tree) where
+module _ (first : ℕ) (row : List Directory) (tree : List (ℕ × Directory)) (are : AreDirectoriesApart first row tree) where
   each : Each Fits (among first row tree)
   each = each_among Fits first row tree
-      (each_row first row are.end (recursion_from_All (λ (d : Directory). AreShort d.items) row are.short))
+      (each_row first row are.end (recursion_from_All (λ (d : Directory). ArePagesApart d.items) row are.short))
       (each_of tree (recursion_from_All (λ n. n < 2 ^ 53) (keys_of tree) are.stored.numbers)
-      (recursion_from_All (λ (d : Directory). AreShort d.items) (values_of tree) are.stored.short))
+      (recursion_from_All (λ (d : Directory). ArePagesApart d.items) (values_of tree) are.stored.short))
 
   pub whole : AreDirectories (among first row tree)
   whole = record {
     ordered = sorted_climbs 0 (among first row tree) (climbs_among 0 first row tree (omega arith) (climbs_sorted 0 tree (all_above (keys_of tree)) are.stored.ordered) are.apart);
     numbers = All-from_recursion (λ n. n < 2 ^ 53) (keys_of (among first row tree)) (keys_each (among first row tree) each);
-    short = All-from_recursion (λ (d : Directory). AreShort d.items) (values_of (among first row tree)) (values_each (among first row tree) each);
+    short = All-from_recursion (λ (d : Directory). ArePagesApart d.items) (values_of (among first row tree)) (values_each (among first row tree) each);
   }

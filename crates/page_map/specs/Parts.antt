@@ -2,13 +2,13 @@
 use Rattle.std.specs.Prelude.{ℕ}
 use Rattle.std.specs.BTreeMap.{BTreeMap}
 use Rattle.page_map.specs.declared.run.Run.{Run}
-use Rattle.page_map.specs.Pages.{Directory, Numbers}
-use Rattle.page_map.specs.Rows.{AreHeld, held}
+use Rattle.page_map.specs.Pages.{Directory, NumberMap}
+use Rattle.page_map.specs.Rows.{AreDirectoriesApart, held}
 
 -- run and tree fit each other
 abbrev pub AreParts : Run → BTreeMap ℕ Directory → Type 0
-AreParts run tree = AreHeld run.first run.directories.items tree.entries
+AreParts run tree = AreDirectoriesApart run.first run.directories.items tree.entries
 
 -- the map that they hold
-abbrev pub map_of : Run → BTreeMap ℕ Directory → Numbers
+abbrev pub map_of : Run → BTreeMap ℕ Directory → NumberMap
 map_of run tree = held run.first run.directories.items tree.entries

@@ -4,7 +4,7 @@ use Rattle.std.specs.BTreeMap.{is_at}
 use Rattle.std.specs.List.{All}
 use Rattle.std.specs.Map.{lookup}
 use Rattle.std.specs.Ordering.{nat_cmp}
-use Rattle.page_map.specs.Pages.{Directory, Numbers, AreShort, AreDirectories, numbers_of, value_at}
+use Rattle.page_map.specs.Pages.{Directory, NumberMap, ArePagesApart, AreDirectories, numbers_of, value_at}
 
 -- the directories of a row, with their numbers from this one on
 abbrev pub numbered : ℕ → List Directory → List (ℕ × Directory)
@@ -17,13 +17,13 @@ among first row [] = numbered first row
 among first row (directory ∷ tree) = cond (nat_lt directory.0 first) (directory ∷ among first row tree) (numbered first row ++ directory ∷ tree)
 
 -- the map that row and tree hold
-abbrev pub held : ℕ → List Directory → List (ℕ × Directory) → Numbers
+abbrev pub held : ℕ → List Directory → List (ℕ × Directory) → NumberMap
 held first row tree = numbers_of (among first row tree)
 
 -- the directories of row and tree are those of keys of 64 bits, none reaches into the next, and none stands in both; the row is not too long
-pub record AreHeld (first : ℕ) (row : List Directory) (tree : List (ℕ × Directory)) : Type 0 where
+pub record AreDirectoriesApart (first : ℕ) (row : List Directory) (tree : List (ℕ × Directory)) : Type 0 where
   pub stored : AreDirectories tree
-  pub short : All (λ directory. AreShort directory.items) row
+  pub short : All (λ directory. ArePagesApart directory.items) row
   pub few : length row ≤ 2 ^ 16
   pub end : first + length row ≤ 2 ^ 53
   pub apart : (number : ℕ) → first ≤ number → number < first + length row → lookup (is_at (nat_cmp number)) tree ≡ None
@@ -37,4 +37,4 @@ pub record IsTrimmed (old_first : ℕ) (old : List Directory) (first : ℕ) (row
   pub values : (number place : ℕ) → value_at (lookup (is_at (nat_cmp number)) (numbered first row)) place ≡ value_at (lookup (is_at (nat_cmp number)) (numbered old_first old)) place
   pub start : old_first ≤ first
   pub end : first + length row ≤ old_first + length old
-  pub short : All (λ directory. AreShort directory.items) old → All (λ directory. AreShort directory.items) row
+  pub short : All (λ directory. ArePagesApart directory.items) old → All (λ directory. ArePagesApart directory.items) row

@@ -1,5 +1,5 @@
 ghost use Rattle.std.specs.Prelude.{◌≡◌, ◌<◌, ◌*◌, ◌^◌, ◌++◌, ℕ, [], OnOk, OnErr, OnSome, IfNone, cond, length, nat_eq};
-ghost use Rattle.page_map.specs.Pages.{AreShort, free, value_of, number_in, number_at, entries_by};
+ghost use Rattle.page_map.specs.Pages.{ArePagesApart, free, value_for_number, number_in, number_in_pages, entries_by};
 
 use crate::page::{KEYS, add_entries, put_in, replace_in, take_from, value_in};
 use fx_base::NoMemory;
@@ -13,7 +13,7 @@ pub(crate) const SPAN: u64 = PAGES * KEYS;
 
 /// The value at this place. Takes no memory.
 pub(crate) fn find_at(pages: &Vec<Vec<u64>>, place: u64) -> Option<u64>
-    ensures { result ≡ value_of (number_at pages.now.items place) }
+    ensures { result ≡ value_for_number (number_in_pages pages.now.items place) }
 {
     let number = (place / KEYS) as usize;
     if number < pages.len() {
@@ -31,9 +31,9 @@ pub(crate) fn put_at(
     value: u64,
 ) -> Result<(), NoMemory>
     requires { place < 2048 }
-    ensures ok { OnOk result ((k : ℕ) → number_at pages.new.items k ≡ cond (nat_eq place k) value (number_at pages.old.items k)) }
-    ensures err { OnErr result ((k : ℕ) → number_at pages.new.items k ≡ number_at pages.old.items k) }
-    ensures short { AreShort pages.old.items → AreShort pages.new.items }
+    ensures ok { OnOk result ((k : ℕ) → number_in_pages pages.new.items k ≡ cond (nat_eq place k) value (number_in_pages pages.old.items k)) }
+    ensures err { OnErr result ((k : ℕ) → number_in_pages pages.new.items k ≡ number_in_pages pages.old.items k) }
+    ensures short { ArePagesApart pages.old.items → ArePagesApart pages.new.items }
 {
     let number = (place / KEYS) as usize;
     reach(alloc, pages, number)?;
@@ -45,7 +45,7 @@ fn reach(alloc: Global, pages: &mut Vec<Vec<u64>>, number: usize) -> Result<(), 
     requires { number < 32 }
     ensures reached { OnOk result (number < length pages.new.items) }
     ensures kept { (page place : ℕ) → number_in pages.new.items page place ≡ number_in pages.old.items page place }
-    ensures short { AreShort pages.old.items → AreShort pages.new.items }
+    ensures short { ArePagesApart pages.old.items → ArePagesApart pages.new.items }
 {
     for _count in pages.len()..number + 1 {
         pages.push(Vec::new(alloc))?;
@@ -56,10 +56,10 @@ fn reach(alloc: Global, pages: &mut Vec<Vec<u64>>, number: usize) -> Result<(), 
 /// Puts a value in the place of the one that stands there, and gives that; where there is none, nothing changes.
 /// Takes no memory.
 pub(crate) fn replace_at(pages: &mut Vec<Vec<u64>>, place: u64, value: u64) -> Option<u64>
-    ensures before { result ≡ value_of (number_at pages.old.items place) }
-    ensures some { OnSome result ((k : ℕ) → number_at pages.new.items k ≡ cond (nat_eq place k) value (number_at pages.old.items k)) }
-    ensures none { IfNone result ((k : ℕ) → number_at pages.new.items k ≡ number_at pages.old.items k) }
-    ensures short { AreShort pages.old.items → AreShort pages.new.items }
+    ensures before { result ≡ value_for_number (number_in_pages pages.old.items place) }
+    ensures some { OnSome result ((k : ℕ) → number_in_pages pages.new.items k ≡ cond (nat_eq place k) value (number_in_pages pages.old.items k)) }
+    ensures none { IfNone result ((k : ℕ) → number_in_pages pages.new.items k ≡ number_in_pages pages.old.items k) }
+    ensures short { ArePagesApart pages.old.items → ArePagesApart pages.new.items }
 {
     let number = (place / KEYS) as usize;
     if number < pages.len() {
@@ -71,9 +71,9 @@ pub(crate) fn replace_at(pages: &mut Vec<Vec<u64>>, place: u64, value: u64) -> O
 
 /// Takes out the value at this place, and the pages without values at the end of the directory. Takes no memory.
 pub(crate) fn take_at(alloc: Global, pages: &mut Vec<Vec<u64>>, place: u64) -> Option<u64>
-    ensures taken { result ≡ value_of (number_at pages.old.items place) }
-    ensures rest { (k : ℕ) → number_at pages.new.items k ≡ cond (nat_eq place k) free (number_at pages.old.items k) }
-    ensures short { AreShort pages.old.items → AreShort pages.new.items }
+    ensures taken { result ≡ value_for_number (number_in_pages pages.old.items place) }
+    ensures rest { (k : ℕ) → number_in_pages pages.new.items k ≡ cond (nat_eq place k) free (number_in_pages pages.old.items k) }
+    ensures short { ArePagesApart pages.old.items → ArePagesApart pages.new.items }
 {
     let number = (place / KEYS) as usize;
     if number >= pages.len() {
@@ -87,7 +87,7 @@ pub(crate) fn take_at(alloc: Global, pages: &mut Vec<Vec<u64>>, place: u64) -> O
 /// Takes off the pages without values at the end of the directory.
 fn drop_last(pages: &mut Vec<Vec<u64>>)
     ensures kept { (page place : ℕ) → number_in pages.new.items page place ≡ number_in pages.old.items page place }
-    ensures short { AreShort pages.old.items → AreShort pages.new.items }
+    ensures short { ArePagesApart pages.old.items → ArePagesApart pages.new.items }
 {
     while let Some(last) = pages.last() {
         if !last.is_empty() {
@@ -104,7 +104,7 @@ pub(crate) fn add_pages(
     pages: &[Vec<u64>],
 ) -> Result<(), NoMemory>
     requires number { number < 2 ^ 53 }
-    requires short { AreShort pages.now }
+    requires short { ArePagesApart pages.now }
     ensures { OnOk result (entries.new.items ≡ entries.old.items ++ entries_by (2048 * number) pages.now []) }
 {
     let first = number * PAGES;

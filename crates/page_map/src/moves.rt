@@ -2,8 +2,8 @@ ghost use Rattle.std.specs.Prelude.{◌≡◌, ◌<◌, ◌+◌, ◌^◌, ◌↔
 ghost use Rattle.std.specs.BTreeMap.{is_at};
 ghost use Rattle.std.specs.Map.{lookup};
 ghost use Rattle.std.specs.Ordering.{nat_cmp};
-ghost use Rattle.page_map.specs.Pages.{Directory, AreDirectories, AreShort, value_at};
-ghost use Rattle.page_map.specs.Rows.{AreHeld, IsNear, held};
+ghost use Rattle.page_map.specs.Pages.{Directory, AreDirectories, ArePagesApart, value_at};
+ghost use Rattle.page_map.specs.Rows.{AreDirectoriesApart, IsNear, held};
 ghost use Rattle.page_map.specs.Parts.{AreParts, map_of};
 
 use crate::run::{Run, STRIDE};
@@ -85,7 +85,7 @@ fn retreat(run: &mut Run, tree: &mut Tree) -> Result<(), NoMemory>
 fn send(tree: &mut Tree, number: u64, pages: Vec<Vec<u64>>) -> Result<(), Vec<Vec<u64>>>
     requires are { AreDirectories tree.old.entries }
     requires number { number < 2 ^ 53 }
-    requires short { AreShort pages.items }
+    requires short { ArePagesApart pages.items }
     requires none { lookup (is_at (nat_cmp number)) tree.old.entries ≡ None }
     ensures are { AreDirectories tree.new.entries }
     ensures sent { OnOk result ((place : ℕ) → value_at (lookup (is_at (nat_cmp number)) tree.new.entries) place ≡ value_at (Some pages) place) }
@@ -108,7 +108,7 @@ fn send(tree: &mut Tree, number: u64, pages: Vec<Vec<u64>>) -> Result<(), Vec<Ve
 /// A run without directories begins at this number.
 fn begin_at(run: &mut Run, number: u64)
     requires { number < 2 ^ 53 }
-    ensures are { (tree : List (ℕ × Directory)) → AreHeld run.old.first run.old.directories.items tree → AreHeld run.new.first run.new.directories.items tree }
+    ensures are { (tree : List (ℕ × Directory)) → AreDirectoriesApart run.old.first run.old.directories.items tree → AreDirectoriesApart run.new.first run.new.directories.items tree }
     ensures same { (tree : List (ℕ × Directory)) → held run.new.first run.new.directories.items tree ≡ held run.old.first run.old.directories.items tree }
 {
     if run.directories.is_empty() {
@@ -151,7 +151,7 @@ fn advance(alloc: Global, run: &mut Run, tree: &mut Tree) -> Result<(), NoMemory
 /// Takes the directory of this number out of the tree; where none is there, one without values. Takes no memory.
 fn take_or_blank(alloc: Global, tree: &mut Tree, number: u64) -> Vec<Vec<u64>>
     ensures taken { (place : ℕ) → value_at (Some result) place ≡ value_at (lookup (is_at (nat_cmp number)) tree.old.entries) place }
-    ensures short { AreDirectories tree.old.entries → AreShort result.items }
+    ensures short { AreDirectories tree.old.entries → ArePagesApart result.items }
     ensures rest { (other : ℕ) → lookup (is_at (nat_cmp other)) tree.new.entries ≡ cond (is_at (nat_cmp number) other) None (lookup (is_at (nat_cmp other)) tree.old.entries) }
     ensures are { AreDirectories tree.old.entries → AreDirectories tree.new.entries }
 {

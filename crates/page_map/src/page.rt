@@ -1,5 +1,5 @@
 ghost use Rattle.std.specs.Prelude.{◌≡◌, ◌≢◌, ◌<◌, ◌≤◌, ◌*◌, ◌^◌, ◌++◌, ℕ, [], OnOk, OnErr, OnSome, IfNone, cond, length, slice_index_or, nat_eq};
-ghost use Rattle.page_map.specs.Pages.{free, value_of, entries_from};
+ghost use Rattle.page_map.specs.Pages.{free, value_for_number, entries_from};
 
 use fx_base::NoMemory;
 use std::alloc::Global;
@@ -12,7 +12,7 @@ pub(crate) const FREE: u64 = u64::MAX;
 
 /// The value at this place. Takes no memory.
 pub(crate) fn value_in(page: &Vec<u64>, place: usize) -> Option<u64>
-    ensures value { result ≡ value_of (slice_index_or page.now.items place free) }
+    ensures value { result ≡ value_for_number (slice_index_or page.now.items place free) }
     ensures within { OnSome result (place < length page.now.items) }
 {
     if place < page.len() && page[place] != FREE {
@@ -39,7 +39,7 @@ pub(crate) fn put_in(page: &mut Vec<u64>, place: usize, value: u64) -> Result<()
 /// Puts a value in the place of the one that stands there, and gives that; where there is none, nothing changes.
 /// Takes no memory.
 pub(crate) fn replace_in(page: &mut Vec<u64>, place: usize, value: u64) -> Option<u64>
-    ensures before { result ≡ value_of (slice_index_or page.old.items place free) }
+    ensures before { result ≡ value_for_number (slice_index_or page.old.items place free) }
     ensures some { OnSome result ((k : ℕ) → slice_index_or page.new.items k free ≡ cond (nat_eq place k) value (slice_index_or page.old.items k free)) }
     ensures none { IfNone result (page.new.items ≡ page.old.items) }
     ensures short { length page.old.items ≤ 64 → length page.new.items ≤ 64 }
@@ -52,7 +52,7 @@ pub(crate) fn replace_in(page: &mut Vec<u64>, place: usize, value: u64) -> Optio
 /// Takes out the value at this place, and the free places at the end of the page; a page without values gives its memory back.
 /// Takes no memory.
 pub(crate) fn take_from(alloc: Global, page: &mut Vec<u64>, place: usize) -> Option<u64>
-    ensures taken { result ≡ value_of (slice_index_or page.old.items place free) }
+    ensures taken { result ≡ value_for_number (slice_index_or page.old.items place free) }
     ensures rest { (k : ℕ) → slice_index_or page.new.items k free ≡ cond (nat_eq place k) free (slice_index_or page.old.items k free) }
     ensures short { length page.old.items ≤ 64 → length page.new.items ≤ 64 }
 {

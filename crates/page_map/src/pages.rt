@@ -2,7 +2,7 @@ ghost use Rattle.std.specs.Prelude.{◌≡◌, ◌≢◌, ◌<◌, ◌+◌, ◌^
 ghost use Rattle.std.specs.FinMap as map;
 ghost use Rattle.std.specs.List.{All};
 ghost use Rattle.std.specs.Map.{keys_of, values_of};
-ghost use Rattle.page_map.specs.Pages.{AreShort, entries_of, free};
+ghost use Rattle.page_map.specs.Pages.{ArePagesApart, entries_of, free};
 ghost use Rattle.page_map.specs.Rows.{among};
 ghost use Rattle.page_map.specs.Parts.{AreParts, map_of};
 
@@ -34,10 +34,10 @@ pub struct PageMap {
 impl Model for PageMap {
     ghost use Rattle.std.specs.FinMap as map;
     ghost use Rattle.std.specs.Coded.{coded_ℕ};
-    ghost use Rattle.page_map.specs.Pages.{Numbers};
+    ghost use Rattle.page_map.specs.Pages.{NumberMap};
     ghost use Rattle.page_map.specs.Parts.{AreParts, map_of};
 
-    ghost Value = { Numbers };
+    ghost Value = { NumberMap };
 
     ghost coded = { map.code coded_ℕ coded_ℕ };
 
@@ -174,7 +174,7 @@ fn add_directories(
     directories: Range<'_, u64, Vec<Vec<u64>>>,
 ) -> Result<(), NoMemory>
     requires numbers { All (λ number. number < 2 ^ 53) (keys_of directories) }
-    requires short { All (λ directory. AreShort directory.items) (values_of directories) }
+    requires short { All (λ directory. ArePagesApart directory.items) (values_of directories) }
     ensures { OnOk result (entries.new.items ≡ entries.old.items ++ entries_of directories.entry) }
 {
     for (number, pages) in directories {

@@ -3,7 +3,7 @@ ghost use Rattle.std.specs.BTreeMap.{is_at};
 ghost use Rattle.std.specs.List.{All};
 ghost use Rattle.std.specs.Map.{lookup};
 ghost use Rattle.std.specs.Ordering.{nat_cmp};
-ghost use Rattle.page_map.specs.Pages.{AreShort, entries_of};
+ghost use Rattle.page_map.specs.Pages.{ArePagesApart, entries_of};
 ghost use Rattle.page_map.specs.Rows.{IsTrimmed, numbered};
 
 use crate::directory::add_pages;
@@ -100,7 +100,7 @@ impl Run {
     /// Adds the keys of the row that have a value, with their values.
     pub(crate) fn add_row(&self, entries: &mut Vec<(u64, u64)>) -> Result<(), NoMemory>
         requires end { self.now.first + length self.now.directories.items ≤ 2 ^ 53 }
-        requires short { All (λ directory. AreShort directory.items) self.now.directories.items }
+        requires short { All (λ directory. ArePagesApart directory.items) self.now.directories.items }
         ensures { OnOk result (entries.new.items ≡ entries.old.items ++ entries_of (numbered self.now.first self.now.directories.items)) }
     {
         for (place, pages) in self.directories.iter().enumerate() {

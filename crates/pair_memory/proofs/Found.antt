@@ -1,21 +1,13 @@
 -- What joins a row or a candidate is found under the join values that are sought for it.
-use Rattle.pair_memory.proofs.Common.{◌≡◌, ◌∙◌, sym, ap, refl, subst, List, [], ◌∷◌, Bool, true, false, ◌&&◌, ◌||◌, Some, None, is_some, Ordering, eq_by_cmp, Value, same_value, equal_values, Named, Row, row_cmp, name_cmp, Pattern, JoinIndex, bucket_at, at, Look, joins, row_value, candidate_value, row_kept, unjoined, row_joins, name_joins, stands_in, rows_sought, candidates_sought, is_among, name_kept}
+use Rattle.pair_memory.proofs.Common.{◌≡◌, ◌∙◌, sym, ap, refl, subst, List, [], ◌∷◌, Bool, true, false, ◌&&◌, ◌||◌, Some, None, is_some, Ordering, eq_by_cmp}
+use Rattle.pair_memory.proofs.Common.{Value, same_value, equal_values, Named, Row, row_cmp, name_cmp, Pattern, JoinIndex, bucket_at, at, Look, joins, row_value}
+use Rattle.pair_memory.proofs.Common.{candidate_value, row_kept, unjoined, row_joins, name_joins, stands_in, rows_sought, candidates_sought, is_value_among}
+use Rattle.pair_memory.proofs.Common.{name_kept}
+use Rattle.std.proofs.Math.Bool.{and-false, or-false}
 use Rattle.std.specs.List.Sorted.{IsStrictlySortedBy}
 use Rattle.join_tests.proofs.Meeting.{row_sought, candidate_sought}
 use Rattle.pair_memory.specs.Joined.{joined}
 use Rattle.pair_memory.proofs.Joining.{row_decides, name_decides, splits_alike, splits_or}
-
-and_nothing : (a : Bool) → (a && false) ≡ false
-and_nothing true = refl
-and_nothing false = refl
-
-and_true : (a : Bool) → (a && true) ≡ a
-and_true true = refl
-and_true false = refl
-
-or_nothing : (a : Bool) → (a || false) ≡ a
-or_nothing true = refl
-or_nothing false = refl
 
 or_same : (a : Bool) → (a || a) ≡ a
 or_same true = refl
@@ -25,11 +17,11 @@ or_same false = refl
 
 alone : (a h j : Bool) → (j ≡ true → a ≡ h) → (a && (j && true)) ≡ (h && j)
 alone a h true is = ap (λ x. x && true) (is refl)
-alone a h false is = and_nothing a ∙ sym (and_nothing h)
+alone a h false is = and-false a ∙ sym (and-false h)
 
 alone_left : (a h x j : Bool) → (x ≡ true → j ≡ true → a ≡ h) → (a && (x && (j && true))) ≡ (h && (x && j))
 alone_left a h true j is = alone a h j (is refl)
-alone_left a h false j is = and_nothing a ∙ sym (and_nothing h)
+alone_left a h false j is = and-false a ∙ sym (and-false h)
 
 alone_right : (x a h j : Bool) → (x ≡ true → j ≡ true → a ≡ h) → (x && (a && (j && true))) ≡ (x && (h && j))
 alone_right true a h j is = alone a h j (is refl)
@@ -38,16 +30,16 @@ alone_right false a h j is = refl
 -- two values: a and b are whether it stands under the one and the other, p and q whether they are its join value
 
 both : (a b h j p q : Bool) → (p ≡ true → a ≡ h) → (q ≡ true → b ≡ h) → (j ≡ true → (p || (q || false)) ≡ true) → ((a && (j && p)) || (b && (j && q))) ≡ (h && j)
-both a b h false p q first second some = ap (λ x. x || (b && false)) (and_nothing a) ∙ and_nothing b ∙ sym (and_nothing h)
+both a b h false p q first second some = ap (λ x. x || (b && false)) (and-false a) ∙ and-false b ∙ sym (and-false h)
 both a b h true true true first second some = ap (λ x. (x && true) || (b && true)) (first refl) ∙ ap (λ x. (h && true) || (x && true)) (second refl) ∙ or_same (h && true)
-both a b h true true false first second some = ap (λ x. (a && true) || x) (and_nothing b) ∙ or_nothing (a && true) ∙ ap (λ x. x && true) (first refl)
-both a b h true false true first second some = ap (λ x. x || (b && true)) (and_nothing a) ∙ ap (λ x. x && true) (second refl)
+both a b h true true false first second some = ap (λ x. (a && true) || x) (and-false b) ∙ or-false (a && true) ∙ ap (λ x. x && true) (first refl)
+both a b h true false true first second some = ap (λ x. x || (b && true)) (and-false a) ∙ ap (λ x. x && true) (second refl)
 both a b h true false false first second some = let f : false ≡ true = some refl in cc
 
 both_left : (a b h x j p q : Bool) → (p ≡ true → a ≡ h) → (q ≡ true → b ≡ h) → (x ≡ true → j ≡ true → (p || (q || false)) ≡ true)
     → ((a && (x && (j && p))) || (b && (x && (j && q)))) ≡ (h && (x && j))
 both_left a b h true j p q first second some = both a b h j p q first second (some refl)
-both_left a b h false j p q first second some = ap (λ x. x || (b && false)) (and_nothing a) ∙ and_nothing b ∙ sym (and_nothing h)
+both_left a b h false j p q first second some = ap (λ x. x || (b && false)) (and-false a) ∙ and-false b ∙ sym (and-false h)
 
 both_right : (x a b h j p q : Bool) → (p ≡ true → a ≡ h) → (q ≡ true → b ≡ h) → (x ≡ true → j ≡ true → (p || (q || false)) ≡ true)
     → ((x && (a && (j && p))) || (x && (b && (j && q)))) ≡ (x && (h && j))
@@ -62,8 +54,8 @@ module _ {S : Type 0} (p : Pattern) (left : JoinIndex Value Row S) (look : Look)
   row_here v l e = ap (λ w. is_some (at same_value row_cmp left w l)) (sym (equal_values (row_value p look l) v e))
 
   module _ (who : Named) where
-    among_rows : (values : List Value) → rows_sought p look who ≡ values → (l : Row) → joins p look l who ≡ true → is_among values (row_value p look l) ≡ true
-    among_rows values is l e = subst (λ vs. is_among vs (row_value p look l) ≡ true) is (row_sought p look l who e)
+    among_rows : (values : List Value) → rows_sought p look who ≡ values → (l : Row) → joins p look l who ≡ true → is_value_among values (row_value p look l) ≡ true
+    among_rows values is l e = subst (λ vs. is_value_among vs (row_value p look l) ≡ true) is (row_sought p look l who e)
 
     -- for the version that is compared with the candidate
     joins_who : (l : Row) (c : Named) → eq_by_cmp name_cmp who c ≡ true → joins p look l c ≡ true → joins p look l who ≡ true
@@ -71,7 +63,7 @@ module _ {S : Type 0} (p : Pattern) (left : JoinIndex Value Row S) (look : Look)
 
     module _ (v : Value) (is : rows_sought p look who ≡ v ∷ []) where
       row_in : (l : Row) → joins p look l who ≡ true → stands_in row_cmp (bucket_at same_value left v) l ≡ row_kept p left look l
-      row_in l e = row_here v l (sym (or_nothing (same_value (row_value p look l) v)) ∙ among_rows (v ∷ []) is l e)
+      row_in l e = row_here v l (sym (or-false (same_value (row_value p look l) v)) ∙ among_rows (v ∷ []) is l e)
 
       pub rows_alone : (r : Row) → joined (row_joins p look None) (stands_in row_cmp (bucket_at same_value left v)) (eq_by_cmp name_cmp who) r
           ≡ joined (joins p look) (row_kept p left look) (eq_by_cmp name_cmp who) r
@@ -108,15 +100,15 @@ module _ (p : Pattern) (right : JoinIndex Value Named (Unit {0})) (look : Look) 
   name_here v c e = ap (λ w. is_some (at same_value name_cmp right w c)) (sym (equal_values (candidate_value p look c) v e))
 
   module _ (row : Row) where
-    among_names : (values : List Value) → candidates_sought p look row ≡ values → (c : Named) → joins p look row c ≡ true → is_among values (candidate_value p look c) ≡ true
-    among_names values is c e = subst (λ vs. is_among vs (candidate_value p look c) ≡ true) is (candidate_sought p look row c e)
+    among_names : (values : List Value) → candidates_sought p look row ≡ values → (c : Named) → joins p look row c ≡ true → is_value_among values (candidate_value p look c) ≡ true
+    among_names values is c e = subst (λ vs. is_value_among vs (candidate_value p look c) ≡ true) is (candidate_sought p look row c e)
 
     joins_row : (l : Row) (c : Named) → eq_by_cmp row_cmp row l ≡ true → joins p look l c ≡ true → joins p look row c ≡ true
     joins_row l c x e = ap (λ r. joins p look r c) ((row_decides row l).0 x) ∙ e
 
     module _ (v : Value) (is : candidates_sought p look row ≡ v ∷ []) where
       name_in : (c : Named) → joins p look row c ≡ true → stands_in name_cmp (bucket_at same_value right v) c ≡ name_kept p right look c
-      name_in c e = name_here v c (sym (or_nothing (same_value (candidate_value p look c) v)) ∙ among_names (v ∷ []) is c e)
+      name_in c e = name_here v c (sym (or-false (same_value (candidate_value p look c) v)) ∙ among_names (v ∷ []) is c e)
 
       pub names_alone : (r : Row) → joined (name_joins p look None) (eq_by_cmp row_cmp row) (stands_in name_cmp (bucket_at same_value right v)) r
           ≡ joined (joins p look) (eq_by_cmp row_cmp row) (name_kept p right look) r

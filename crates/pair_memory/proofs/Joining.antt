@@ -1,22 +1,22 @@
 -- Rows that are made by one fact more.
-use Rattle.pair_memory.proofs.Common.{◌≡◌, ◌∙◌, sym, ap, refl, subst, List, [], ◌∷◌, Bool, true, false, ◌&&◌, ◌||◌, Option, Some, None, is_some, option_map, is_at, Ordering, eq_by_cmp, is_some-lookup, Named, Row, row_cmp, has, same_equiv, name_cmp, name_equiv, found, with_name, split_last, unjoined, splits, has_name, is_eq, row_exact, name_exact, front_of}
+use Rattle.pair_memory.proofs.Common.{◌≡◌, ◌∙◌, sym, ap, refl, subst, List, [], ◌∷◌, Bool, true, false, ◌&&◌, ◌||◌, Option, Some, None, is_some, option_map}
+use Rattle.pair_memory.proofs.Common.{is_at, eq_by_cmp, is_some-lookup, Named, Row, row_cmp, has, same_equiv, name_cmp, name_equiv, found, with_name}
+use Rattle.pair_memory.proofs.Common.{split_last, unjoined, splits, has_name, row_exact, name_exact, front_of}
+use Rattle.std.proofs.lemmas.Bool.{and_from, and_parts}
+use Rattle.std.proofs.Math.Bool.{and-false, or-false, or_assoc}
 use Rattle.std.specs.Bool.{Decides}
-use Rattle.std.specs.declared.cmp.Ordering.TheVariants.{Less, Equal, Greater}
 use Rattle.std.proofs.lemmas.Bool.Decides.{same_from_decides}
 use Rattle.alpha_memory.specs.declared.bucket.Bucket.TheVariants.{One}
 use Rattle.pair_memory.specs.Joined.{joined}
 use Rattle.pair_memory.proofs.Lasts.{split_snoc, is_snoc}
-
-equal_from : (o : Ordering) → is_eq o ≡ true → o ≡ Equal
-equal_from Less e = let f : false ≡ true = e in cc
-equal_from Equal e = refl
-equal_from Greater e = let f : false ≡ true = e in cc
+use Rattle.fx_base.proofs.Orders.{is_eq-true}
+use Rattle.fx_base.proofs.Tests.{and_or_and}
 
 pub row_decides : (a b : Row) → Decides (eq_by_cmp row_cmp a b) (a ≡ b)
-row_decides a b = (λ e. row_exact a b (equal_from (row_cmp a b) e), λ e. subst (λ c. eq_by_cmp row_cmp a c ≡ true) e (same_equiv.refl a))
+row_decides a b = (λ e. row_exact a b (is_eq-true (row_cmp a b) e), λ e. subst (λ c. eq_by_cmp row_cmp a c ≡ true) e (same_equiv.refl a))
 
 pub name_decides : (a b : Named) → Decides (eq_by_cmp name_cmp a b) (a ≡ b)
-name_decides a b = (λ e. name_exact a b (equal_from (name_cmp a b) e), λ e. subst (λ c. eq_by_cmp name_cmp a c ≡ true) e (name_equiv.refl a))
+name_decides a b = (λ e. name_exact a b (is_eq-true (name_cmp a b) e), λ e. subst (λ c. eq_by_cmp name_cmp a c ≡ true) e (name_equiv.refl a))
 
 abbrev row_of : List Named → Row → Row
 row_of facts row = record { facts = facts; values = row.values }
@@ -33,10 +33,6 @@ unjoined_is row (Some q) s p e =
 pub from_unjoined : (row : Row) (p : Row × Named) → unjoined row ≡ Some p → row ≡ with_name p.0 p.1
 from_unjoined row p e = unjoined_is row (split_last row.facts) refl p e
 
-both_true : (a b : Bool) → (a && b) ≡ true → (a ≡ true) × (b ≡ true)
-both_true true b e = (refl, e)
-both_true false b e = let f : false ≡ true = e in cc
-
 -- the test that a row is the one with this fact more
 abbrev is_pair : Row → Named → Row → Named → Bool
 is_pair l who front last = eq_by_cmp row_cmp front l && eq_by_cmp name_cmp last who
@@ -44,17 +40,14 @@ is_pair l who front last = eq_by_cmp row_cmp front l && eq_by_cmp name_cmp last 
 pair_from : (row l : Row) (who : Named) (o : Option (Row × Named)) → unjoined row ≡ o → splits (is_pair l who) o ≡ true → row ≡ with_name l who
 pair_from row l who None e h = let f : false ≡ true = h in cc
 pair_from row l who (Some p) e h =
-    let k = both_true (eq_by_cmp row_cmp p.0 l) (eq_by_cmp name_cmp p.1 who) h in
+    let k = and_parts (eq_by_cmp row_cmp p.0 l) (eq_by_cmp name_cmp p.1 who) h in
     from_unjoined row p e ∙ ap (λ r. with_name r p.1) ((row_decides p.0 l).0 k.0) ∙ ap (λ c. with_name l c) ((name_decides p.1 who).0 k.1)
-
-truths : (a b : Bool) → a ≡ true → b ≡ true → (a && b) ≡ true
-truths a b e f = ap (λ x. x && b) e ∙ f
 
 pub is_with : (row l : Row) (who : Named) → eq_by_cmp row_cmp row (with_name l who) ≡ splits (is_pair l who) (unjoined row)
 is_with row l who =
     same_from_decides _ _ (row_decides row (with_name l who)) (
       pair_from row l who (unjoined row) refl,
-      λ e. subst (λ r. splits (is_pair l who) (unjoined r) ≡ true) (sym e) (subst (λ o. splits (is_pair l who) o ≡ true) (sym (unjoined_with l who)) (truths _ _ (same_equiv.refl l) (name_equiv.refl who))),
+      λ e. subst (λ r. splits (is_pair l who) (unjoined r) ≡ true) (sym e) (subst (λ o. splits (is_pair l who) o ≡ true) (sym (unjoined_with l who)) (and_from _ _ (same_equiv.refl l) (name_equiv.refl who))),
     )
 
 -- ---- one turn of a loop over the rows, or the candidates, of a bucket
@@ -78,18 +71,10 @@ or_and true true false = refl
 or_and true false false = refl
 or_and false n b = refl
 
-or_and_right : (d a n q : Bool) → (d && ((a || n) && q)) ≡ ((d && (a && q)) || (d && (n && q)))
-or_and_right true a n q = or_and a n q
-or_and_right false a n q = refl
-
 under : (x y q v : Bool) → (x ≡ true → y ≡ true → q ≡ v) → (x && (y && q)) ≡ ((x && y) && v)
 under true true q v h = h refl refl
 under true false q v h = refl
 under false y q v h = refl
-
-or_assoc : (a b c : Bool) → ((a || b) || c) ≡ (a || (b || c))
-or_assoc true b c = refl
-or_assoc false b c = refl
 
 -- what one turn makes is among what is found, and no longer to come
 pub one_more : (one was now after all total : Bool) → all ≡ (one || after) → (was || all) ≡ total → now ≡ (was || one) → (now || after) ≡ total
@@ -123,7 +108,7 @@ module _ (pass : Row → Named → Bool) where
       → joined pass (eq_by_cmp row_cmp l) (has_name (who ∷ next)) r ≡ ((eq_by_cmp row_cmp r (with_name l who) && pass l who) || joined pass (eq_by_cmp row_cmp l) (has_name next) r)
   unfolding joined
   more_names l who next r =
-      splits_alike _ _ (λ m c. or_and_right (eq_by_cmp row_cmp l m) (eq_by_cmp name_cmp c who) (has_name next c) (pass m c)) (unjoined r)
+      splits_alike _ _ (λ m c. and_or_and (eq_by_cmp row_cmp l m) (eq_by_cmp name_cmp c who) (has_name next c) (pass m c)) (unjoined r)
       ∙ splits_or _ _ (unjoined r)
       ∙ ap (λ b. b || splits (λ m c. eq_by_cmp row_cmp l m && (has_name next c && pass m c)) (unjoined r)) (pair_passes_right l who (unjoined r) ∙ ap (λ b. b && pass l who) (sym (is_with r l who)))
 
@@ -132,14 +117,6 @@ module _ (pass : Row → Named → Bool) where
 none_split : (t : Row → Named → Bool) → ((l : Row) (c : Named) → t l c ≡ false) → (o : Option (Row × Named)) → splits t o ≡ false
 none_split t h None = refl
 none_split t h (Some p) = h p.0 p.1
-
-and_nothing : (a : Bool) → (a && false) ≡ false
-and_nothing true = refl
-and_nothing false = refl
-
-or_nothing : (a : Bool) → (a || false) ≡ a
-or_nothing true = refl
-or_nothing false = refl
 
 -- sets that answer alike make the same rows
 pub joined_alike : (pass : Row → Named → Bool) (left left_too : Row → Bool) (right right_too : Named → Bool) → ((l : Row) → left l ≡ left_too l) → ((c : Named) → right c ≡ right_too c)
@@ -154,7 +131,7 @@ no_left pass right r = none_split _ (λ l c. refl) (unjoined r)
 
 no_right : (pass : Row → Named → Bool) (left : Row → Bool) (r : Row) → joined pass left (has_name []) r ≡ false
 unfolding joined
-no_right pass left r = none_split _ (λ l c. and_nothing (left l)) (unjoined r)
+no_right pass left r = none_split _ (λ l c. and-false (left l)) (unjoined r)
 
 module _ (pass : Row → Named → Bool) (found : List Row) (r : Row) where
   pub rows_begin : (keys : List Row) (left : Row → Bool) (right : Named → Bool) → found ≡ [] → ((q : Row) → left q ≡ has keys q)
@@ -171,12 +148,12 @@ module _ (pass : Row → Named → Bool) (found : List Row) (r : Row) where
 
   pub rows_end : (rest : List Row) (right : Named → Bool) (total : Bool) → rest ≡ [] → (has found r || joined pass (has rest) right r) ≡ total → has found r ≡ total
   rows_end rest right total none so_far =
-      sym (or_nothing (has found r)) ∙ ap (λ b. has found r || b) (sym (no_left pass right r))
+      sym (or-false (has found r)) ∙ ap (λ b. has found r || b) (sym (no_left pass right r))
       ∙ ap (λ (rows : List Row). has found r || joined pass (has rows) right r) (sym none) ∙ so_far
 
   pub names_end : (rest : List Named) (left : Row → Bool) (total : Bool) → rest ≡ [] → (has found r || joined pass left (has_name rest) r) ≡ total → has found r ≡ total
   names_end rest left total none so_far =
-      sym (or_nothing (has found r)) ∙ ap (λ b. has found r || b) (sym (no_right pass left r))
+      sym (or-false (has found r)) ∙ ap (λ b. has found r || b) (sym (no_right pass left r))
       ∙ ap (λ (names : List Named). has found r || joined pass left (has_name names) r) (sym none) ∙ so_far
 
 -- ---- a bucket of one row, or of one candidate
@@ -184,14 +161,14 @@ module _ (pass : Row → Named → Bool) (found : List Row) (r : Row) where
 module _ (pass : Row → Named → Bool) {S : Type 0} (l : Row) (who : Named) (kept : S) (r : Row) where
   pub one_row : (eq_by_cmp row_cmp r (with_name l who) && pass l who) ≡ joined pass (λ q. is_some (found row_cmp (One l kept) q)) (eq_by_cmp name_cmp who) r
   one_row =
-      sym (or_nothing (eq_by_cmp row_cmp r (with_name l who) && pass l who))
+      sym (or-false (eq_by_cmp row_cmp r (with_name l who) && pass l who))
       ∙ ap (λ b. (eq_by_cmp row_cmp r (with_name l who) && pass l who) || b) (sym (no_left pass (eq_by_cmp name_cmp who) r))
       ∙ sym (more_rows pass l [] who r)
       ∙ joined_alike pass (has (l ∷ [])) (λ q. is_some (found row_cmp (One l kept) q)) (eq_by_cmp name_cmp who) (eq_by_cmp name_cmp who) (λ q. sym (is_some-lookup (is_at (row_cmp q)) ((l, kept) ∷ []))) (λ c. refl) r
 
   pub one_name : (eq_by_cmp row_cmp r (with_name l who) && pass l who) ≡ joined pass (eq_by_cmp row_cmp l) (λ q. is_some (found name_cmp (One who kept) q)) r
   one_name =
-      sym (or_nothing (eq_by_cmp row_cmp r (with_name l who) && pass l who))
+      sym (or-false (eq_by_cmp row_cmp r (with_name l who) && pass l who))
       ∙ ap (λ b. (eq_by_cmp row_cmp r (with_name l who) && pass l who) || b) (sym (no_right pass (eq_by_cmp row_cmp l) r))
       ∙ sym (more_names pass l who [] r)
       ∙ joined_alike pass (eq_by_cmp row_cmp l) (eq_by_cmp row_cmp l) (has_name (who ∷ [])) (λ q. is_some (found name_cmp (One who kept) q)) (λ q. refl) (λ q. sym (is_some-lookup (is_at (name_cmp q)) ((who, kept) ∷ []))) r
@@ -203,7 +180,7 @@ none_left pass left right h r = none_split _ (λ l c. ap (λ b. b && (right c &&
 
 pub none_right : (pass : Row → Named → Bool) (left : Row → Bool) (right : Named → Bool) → ((c : Named) → right c ≡ false) → (r : Row) → joined pass left right r ≡ false
 unfolding joined
-none_right pass left right h r = none_split _ (λ l c. ap (λ b. left l && (b && pass l c)) (h c) ∙ and_nothing (left l)) (unjoined r)
+none_right pass left right h r = none_split _ (λ l c. ap (λ b. left l && (b && pass l c)) (h c) ∙ and-false (left l)) (unjoined r)
 
 -- ---- a row that is made, as a row with one fact more
 

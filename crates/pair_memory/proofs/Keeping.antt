@@ -1,15 +1,14 @@
 -- What is kept after a change at one row, or at one candidate.
-use Rattle.pair_memory.proofs.Common.{◌≡◌, ◌∙◌, sym, ap, refl, subst, Bool, true, false, cond, not, ◌&&◌, ◌||◌, Option, Some, None, is_some, eq_by_cmp, Value, same_value, Named, Row, row_cmp, name_cmp, Pattern, JoinIndex, at, Look, joins, row_value, candidate_value, Memories, joined, has_left, has_right, made, Keeps, same_itself, left_at}
+use Rattle.pair_memory.proofs.Common.{◌≡◌, ◌∙◌, sym, ap, refl, subst, Bool, true, false, cond, not, ◌&&◌, ◌||◌, Option, Some, None, is_some, eq_by_cmp, Value}
+use Rattle.pair_memory.proofs.Common.{same_value, Named, Row, row_cmp, name_cmp, Pattern, JoinIndex, at, Look, joins, row_value, candidate_value, Memories}
+use Rattle.pair_memory.proofs.Common.{joined, has_left, has_right, made, KeepsMemories, same_itself, left_at}
+use Rattle.std.proofs.lemmas.Bool.{and_parts}
 use Rattle.pair_memory.proofs.Joining.{row_decides, name_decides, joined_alike}
 
 absorbed : (a b : Bool) → (b ≡ true → a ≡ true) → (a && b) ≡ b
 absorbed a true h = ap (λ x. x && true) (h refl)
 absorbed true false h = refl
 absorbed false false h = refl
-
-both_of : (a b : Bool) → (a && b) ≡ true → (a ≡ true) × (b ≡ true)
-both_of true b e = (refl, e)
-both_of false b e = let f : false ≡ true = e in cc
 
 module _ {K S : Type 0} (eq : K → K → Bool) (exact : (a b : K) → eq a b ≡ true → a ≡ b) (value : K → Value) (key : K) (found : Value) (old new : Value → K → Option S) (w : Option S)
     (is : found ≡ value key) (rest : (v : Value) (k : K) → new v k ≡ cond (same_value found v && eq key k) w (old v k)) where
@@ -24,7 +23,7 @@ module _ {K S : Type 0} (eq : K → K → Bool) (exact : (a b : K) → eq a b �
 
   stays : (v : Value) (k : K) (b : Bool) → (same_value found v && eq key k) ≡ b → is_some (cond b w (old v k)) ≡ true → (is_some (old v k) ≡ true → same_value (value k) v ≡ true) → same_value (value k) v ≡ true
   stays v k true e kept before =
-      let h = both_of (same_value found v) (eq key k) e in
+      let h = and_parts (same_value found v) (eq key k) e in
       subst (λ k. same_value (value k) v ≡ true) (exact key k h.1) (subst (λ j. same_value j v ≡ true) is h.0)
   stays v k false e kept before = before kept
 
@@ -69,7 +68,7 @@ module _ {S : Type 0} (m : Memories S) (look : Look) (row : Row) (value : Value)
   pub left_changed : (r : Row) → left_at (with_left m index) look r ≡ cond (eq_by_cmp row_cmp row r) w (left_at m look r)
   left_changed = at_changed (eq_by_cmp row_cmp) (λ a b. (row_decides a b).0) (row_value m.pattern look) row value (at same_value row_cmp m.left) (at same_value row_cmp index) w is changed
 
-  pub left_keeps : (left : Row → Bool) → ((r : Row) → is_some (cond (eq_by_cmp row_cmp row r) w (left_at m look r)) ≡ left r) → Keeps m (with_left m index) look left (has_right m look)
+  pub left_keeps : (left : Row → Bool) → ((r : Row) → is_some (cond (eq_by_cmp row_cmp row r) w (left_at m look r)) ≡ left r) → KeepsMemories m (with_left m index) look left (has_right m look)
   left_keeps left h = record {
     pattern = refl;
     rows = λ r. ap is_some (left_changed r) ∙ h r;
@@ -84,7 +83,7 @@ module _ {S : Type 0} (m : Memories S) (look : Look) (who : Named) (value : Valu
     (changed : (v : Value) (c : Named) → at same_value name_cmp index v c ≡ cond (same_value value v && eq_by_cmp name_cmp who c) w (at same_value name_cmp m.right v c)) where
   -- the candidates that are kept after a change at one
   pub right_keeps : (right : Named → Bool)
-      → ((c : Named) → is_some (cond (eq_by_cmp name_cmp who c) w (at same_value name_cmp m.right (candidate_value m.pattern look c) c)) ≡ right c) → Keeps m (with_right m index) look (has_left m look) right
+      → ((c : Named) → is_some (cond (eq_by_cmp name_cmp who c) w (at same_value name_cmp m.right (candidate_value m.pattern look c) c)) ≡ right c) → KeepsMemories m (with_right m index) look (has_left m look) right
   right_keeps right h = record {
     pattern = refl;
     rows = λ r. refl;
@@ -96,7 +95,7 @@ module _ {S : Type 0} (m : Memories S) (look : Look) (who : Named) (value : Valu
   }
 
 -- the rows that are made after a change
-pub made_after : {S : Type 0} (before after : Memories S) (look : Look) (left : Row → Bool) (right : Named → Bool) → Keeps before after look left right → (r : Row) → made after look r ≡ joined (joins before.pattern look) left right r
+pub made_after : {S : Type 0} (before after : Memories S) (look : Look) (left : Row → Bool) (right : Named → Bool) → KeepsMemories before after look left right → (r : Row) → made after look r ≡ joined (joins before.pattern look) left right r
 made_after before after look left right keeps r =
     ap (λ (p : Pattern). joined (joins p look) (has_left after look) (has_right after look) r) keeps.pattern
     ∙ joined_alike (joins before.pattern look) (has_left after look) left (has_right after look) right keeps.rows keeps.names r

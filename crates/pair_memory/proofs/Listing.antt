@@ -1,15 +1,12 @@
 -- The left rows as a list.
-use Rattle.pair_memory.proofs.Common.{◌≡◌, ◌∙◌, sym, ap, refl, List, Bool, true, false, is_some, Value, equal_values, same_value, Row, row_cmp, has, at, Look, Memories, has_left, AreKeys, Agrees}
-
-same_either : (a b : Bool) → (a ≡ true → b ≡ true) → (b ≡ true → a ≡ true) → a ≡ b
-same_either true b f g = sym (f refl)
-same_either false true f g = g refl
-same_either false false f g = refl
+use Rattle.pair_memory.proofs.Common.{◌≡◌, ◌∙◌, ap, List, is_some, Value, equal_values, same_value, Row, row_cmp, has, at, Look, Memories, has_left, AreKeys}
+use Rattle.pair_memory.proofs.Common.{Agrees}
+use Rattle.fx_base.proofs.Tests.{same_test}
 
 -- where each row stands under its own join value, the keys are the rows that are kept
 pub keys_kept : {S : Type 0} (m : Memories S) (look : Look) (rows : List Row) → AreKeys same_value row_cmp m.left rows → Agrees m look → (row : Row) → has rows row ≡ has_left m look row
 keys_kept m look rows keys agrees row =
-    same_either (has rows row) (has_left m look row)
+    same_test (has rows row) (has_left m look row)
     (λ e.
     let found = (keys row).0 e in
     ap (λ (value : Value). is_some (at same_value row_cmp m.left value row)) (equal_values _ _ (agrees.rows found.0 row found.1)) ∙ found.1)

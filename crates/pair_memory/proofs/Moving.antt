@@ -1,5 +1,7 @@
 -- What is kept is seen alike in two stores that have the same facts at the tags that are kept.
-use Rattle.pair_memory.proofs.Common.{◌≡◌, ◌∙◌, sym, ap, refl, subst, ℕ, zero, suc, List, [], ◌∷◌, map, Bool, true, false, cond, Option, Some, None, is_some, option_map, Value, same_value, equal_values, Named, Row, row_cmp, name_cmp, Pattern, Look, at, has_left, has_right, option_and_then, is_version, version_at, versions_at, tuple_at, passes_given, kept_under, AlikeOn, MoveLaw}
+use Rattle.pair_memory.proofs.Common.{◌≡◌, ◌∙◌, sym, ap, refl, subst, ℕ, zero, suc, List, [], ◌∷◌, map, Bool, true, false, cond, Option, Some, None, is_some}
+use Rattle.pair_memory.proofs.Common.{option_map, Value, same_value, equal_values, Named, Row, row_cmp, name_cmp, Pattern, Look, at, has_left, has_right}
+use Rattle.pair_memory.proofs.Common.{option_and_then, is_named_version, version_at, versions_at, tuple_at, passes_given, kept_under, AlikeOn, MemoryMoveLaw}
 use Rattle.fx_base.specs.declared.fact.Fact.{Fact}
 use Rattle.rule_model.specs.Lent.{named_at, bound_in, tuple_of}
 use Rattle.rule_model.specs.Tests.{field_of}
@@ -10,8 +12,9 @@ use Rattle.join_tests.specs.Joins.{joins}
 use Rattle.join_tests.specs.declared.time_key.TimeKey.{TimeKey}
 use Rattle.join_tests.specs.Keys.{join_keys, earlier_value, given_or_true}
 use Rattle.join_tests.specs.TimeKeys.{time_key}
-use Rattle.join_tests.specs.Slots.{moment_at}
+use Rattle.join_tests.specs.Slots.{moment_at_point}
 use Rattle.join_tests.specs.Kept.{row_value, candidate_value}
+use Rattle.fx_base.proofs.Sequences.{is_some-false}
 
 module _ (look other : Look) where
   pub named_alike : (names : List Named) → AlikeOn look other names → (k : ℕ) → named_at look names k ≡ named_at other names k
@@ -26,15 +29,15 @@ module _ (look other : Look) where
   row_value_alike : (p : Pattern) (row : Row) → AlikeOn look other row.facts → row_value p look row ≡ row_value p other row
   unfolding row_value
   row_value_alike p row h =
-      λ i. kept_under (map (λ (key : JoinKey). given_or_true (side_alike key.side row h i)) (join_keys p)) (time_key p) (λ (key : TimeKey). moment_at key.event (named_alike row.facts h key.fact i))
+      λ i. kept_under (map (λ (key : JoinKey). given_or_true (side_alike key.side row h i)) (join_keys p)) (time_key p) (λ (key : TimeKey). moment_at_point key.event (named_alike row.facts h key.fact i))
 
   candidate_value_alike : (p : Pattern) (who : Named) → look who.tag ≡ other who.tag → candidate_value p look who ≡ candidate_value p other who
   unfolding candidate_value
   candidate_value_alike p who h =
-      ap (λ found. kept_under (map (λ (key : JoinKey). given_or_true (field_of found key.field)) (join_keys p)) (time_key p) (λ (key : TimeKey). moment_at key.own found)) h
+      ap (λ found. kept_under (map (λ (key : JoinKey). given_or_true (field_of found key.field)) (join_keys p)) (time_key p) (λ (key : TimeKey). moment_at_point key.own found)) h
 
   version_alike : (named : Named) → look named.tag ≡ other named.tag → version_at look named ≡ version_at other named
-  version_alike named h = ap (option_and_then (λ (f : Fact). cond (is_version named f) (Some f) None)) h
+  version_alike named h = ap (option_and_then (λ (f : Fact). cond (is_named_version named f) (Some f) None)) h
 
   versions_alike : (names : List Named) → AlikeOn look other names → versions_at look names ≡ versions_at other names
   versions_alike [] h = refl
@@ -47,10 +50,6 @@ module _ (look other : Look) where
   joins_alike p row who h e =
       ap (λ all. passes_given p (option_map (λ facts. tuple_of facts row.values) all) (version_at look who)) (versions_alike row.facts h)
       ∙ ap (passes_given p (tuple_at other row)) (version_alike who e)
-
-is_none : {X : Type 0} (o : Option X) → is_some o ≡ false → o ≡ None
-is_none None e = refl
-is_none (Some x) e = let f : true ≡ false = e in cc
 
 -- one memory: f and g are the join values in the two stores
 module _ {K S : Type 0} (kept : Value → K → Option S) (f g : K → Value) (agrees : (v : Value) (k : K) → is_some (kept v k) ≡ true → same_value (f k) v ≡ true) (alike : (k : K) → is_some (kept (f k) k) ≡ true → f k ≡ g k) where
@@ -67,12 +66,12 @@ module _ {K S : Type 0} (kept : Value → K → Option S) (f g : K → Value) (a
 
   same_by : (k : K) (b : Bool) → is_some (kept (f k) k) ≡ b → kept (g k) k ≡ kept (f k) k
   same_by k true e = ap (λ v. kept v k) (sym (alike k e))
-  same_by k false e = is_none (kept (g k) k) (not_there k e (is_some (kept (g k) k)) refl) ∙ sym (is_none (kept (f k) k) e)
+  same_by k false e = is_some-false (kept (g k) k) (not_there k e (is_some (kept (g k) k)) refl) ∙ sym (is_some-false (kept (f k) k) e)
 
   pub same_kept : (k : K) → kept (g k) k ≡ kept (f k) k
   same_kept k = same_by k (is_some (kept (f k) k)) refl
 
-pub move_law : (S : Type 0) → MoveLaw S
+pub move_law : (S : Type 0) → MemoryMoveLaw S
 move_law S m look other agrees alike =
     let p = m.pattern in
     let rows_alike : (row : Row) → has_left m look row ≡ true → row_value p look row ≡ row_value p other row = λ row e. row_value_alike look other p row (alike.rows row e) in

@@ -1,5 +1,8 @@
 -- Left rows that are kept once for several nodes, and the candidates of each.
-use Rattle.pair_memory.proofs.Common.{◌≡◌, ◌∙◌, sym, ap, refl, ℕ, ◌+◌, ◌<◌, length, take, get_or, List, [], ◌∷◌, ◌++◌, Bool, true, false, cond, not, ◌&&◌, ◌||◌, list_any, eq_by_cmp, list_any-append, list_any_more, Named, Row, row_cmp, has, same_equiv, name_cmp, name_equiv, Value, same_value, Pattern, Look, row_value, candidate_value, Memories, unjoined, has_name, has_left, has_right, Keeps, beside, RowsLeave, RowsCome, NamesLeave, NamesCome, IsBeside}
+use Rattle.pair_memory.proofs.Common.{◌≡◌, ◌∙◌, sym, ap, refl, ℕ, ◌+◌, ◌<◌, length, take, get_or, List, [], ◌∷◌, ◌++◌, Bool, true, false, cond, not, ◌&&◌, ◌||◌}
+use Rattle.pair_memory.proofs.Common.{list_any, eq_by_cmp, list_any-append, list_any_more, Named, Row, row_cmp, has, same_equiv, name_cmp, name_equiv, Value}
+use Rattle.pair_memory.proofs.Common.{same_value, Pattern, Look, row_value, candidate_value, Memories, unjoined, has_name, has_left, has_right, KeepsMemories}
+use Rattle.pair_memory.proofs.Common.{beside, RowsLeave, RowsCome, NamesLeave, NamesCome, LooksWhereKept}
 use Rattle.join_tests.specs.declared.row_key.RowKey.{RowKey}
 use Rattle.join_tests.specs.RowKeys.{value_by}
 use Rattle.join_tests.proofs.Siding.{kept_by}
@@ -8,10 +11,11 @@ use Rattle.pair_memory.specs.declared.left_rows.LeftRows.{LeftRows}
 use Rattle.pair_memory.specs.Joined.{joined}
 use Rattle.pair_memory.proofs.Joining.{name_decides, splits_alike, splits_or}
 use Rattle.pair_memory.proofs.Turning.{keeps_then, less_more, more_more, any_name}
+use Rattle.fx_base.proofs.Tests.{and_or_and}
 
 -- ---- where a row is kept
 
-pub value_beside : (left : LeftRows) (c : Candidates) (look : Look) (row : Row) → IsBeside left c → value_by left.key look row ≡ row_value c.pattern look row
+pub value_beside : (left : LeftRows) (c : Candidates) (look : Look) (row : Row) → LooksWhereKept left c → value_by left.key look row ≡ row_value c.pattern look row
 value_beside left c look row is = ap (λ (key : RowKey). value_by key look row) (sym is) ∙ sym (kept_by look row c.pattern)
 
 -- ---- nothing goes and nothing comes
@@ -24,7 +28,7 @@ pub more_none : (a : Bool) → a ≡ (a || false)
 more_none true = refl
 more_none false = refl
 
-pub keeps_itself : {S : Type 0} (m : Memories S) (look : Look) (left : Row → Bool) (right : Named → Bool) → ((r : Row) → has_left m look r ≡ left r) → ((c : Named) → has_right m look c ≡ right c) → Keeps m m look left right
+pub keeps_itself : {S : Type 0} (m : Memories S) (look : Look) (left : Row → Bool) (right : Named → Bool) → ((r : Row) → has_left m look r ≡ left r) → ((c : Named) → has_right m look c ≡ right c) → KeepsMemories m m look left right
 keeps_itself m look left right h k = record { pattern = refl; rows = h; names = k; agrees = λ before. before }
 
 pub no_rows_leave : (left : LeftRows) (look : Look) → RowsLeave left left look []
@@ -43,7 +47,7 @@ no_names_come c look left = keeps_itself (beside left c) look _ _ (λ r. refl) (
 
 module _ (first next last : LeftRows) (look : Look) (rows : List Row) (i : ℕ) (below : i < length rows) (any row : Row) (is : row ≡ get_or rows i any) (key : next.key ≡ first.key) where
   pub row_leaves_too : RowsLeave first next look (take i rows)
-      → ((c : Candidates) → IsBeside next c → Keeps (beside next c) (beside last c) look (λ r. has_left (beside next c) look r && not (eq_by_cmp row_cmp row r)) (has_right (beside next c) look))
+      → ((c : Candidates) → LooksWhereKept next c → KeepsMemories (beside next c) (beside last c) look (λ r. has_left (beside next c) look r && not (eq_by_cmp row_cmp row r)) (has_right (beside next c) look))
       → RowsLeave first last look (take (i + 1) rows)
   row_leaves_too before turn c beside_it =
       keeps_then (beside first c) (beside next c) (beside last c) look _ _ _ _ _ _ (before c beside_it) (turn c (beside_it ∙ sym key))
@@ -51,7 +55,7 @@ module _ (first next last : LeftRows) (look : Look) (rows : List Row) (i : ℕ) 
       (before c beside_it).names
 
   pub row_comes_too : RowsCome first next look (take i rows)
-      → ((c : Candidates) → IsBeside next c → Keeps (beside next c) (beside last c) look (λ r. has_left (beside next c) look r || eq_by_cmp row_cmp row r) (has_right (beside next c) look))
+      → ((c : Candidates) → LooksWhereKept next c → KeepsMemories (beside next c) (beside last c) look (λ r. has_left (beside next c) look r || eq_by_cmp row_cmp row r) (has_right (beside next c) look))
       → RowsCome first last look (take (i + 1) rows)
   row_comes_too before turn c beside_it =
       keeps_then (beside first c) (beside next c) (beside last c) look _ _ _ _ _ _ (before c beside_it) (turn c (beside_it ∙ sym key))
@@ -62,14 +66,14 @@ module _ (first next last : LeftRows) (look : Look) (rows : List Row) (i : ℕ) 
 
 module _ (first next last : Candidates) (look : Look) (names : List Named) (i : ℕ) (below : i < length names) (who : Named) (is : who ≡ get_or names i any_name) where
   pub name_leaves_too : NamesLeave first next look (take i names)
-      → ((left : LeftRows) → Keeps (beside left next) (beside left last) look (has_left (beside left next) look) (λ c. has_right (beside left next) look c && not (eq_by_cmp name_cmp who c)))
+      → ((left : LeftRows) → KeepsMemories (beside left next) (beside left last) look (has_left (beside left next) look) (λ c. has_right (beside left next) look c && not (eq_by_cmp name_cmp who c)))
       → NamesLeave first last look (take (i + 1) names)
   name_leaves_too before turn left =
       keeps_then (beside left first) (beside left next) (beside left last) look _ _ _ _ _ _ (before left) (turn left) (before left).rows
       (λ c. less_more (eq_by_cmp name_cmp) name_equiv.symm names i below any_name who is c (has_right (beside left first) look c) (has_right (beside left next) look c) ((before left).names c))
 
   pub name_comes_too : NamesCome first next look (take i names)
-      → ((left : LeftRows) → Keeps (beside left next) (beside left last) look (has_left (beside left next) look) (λ c. has_right (beside left next) look c || eq_by_cmp name_cmp who c))
+      → ((left : LeftRows) → KeepsMemories (beside left next) (beside left last) look (has_left (beside left next) look) (λ c. has_right (beside left next) look c || eq_by_cmp name_cmp who c))
       → NamesCome first last look (take (i + 1) names)
   name_comes_too before turn left =
       keeps_then (beside left first) (beside left next) (beside left last) look _ _ _ _ _ _ (before left) (turn left) (before left).rows
@@ -140,10 +144,6 @@ or_and true true false = refl
 or_and true false false = refl
 or_and false n b = refl
 
-or_and_right : (d a n q : Bool) → (d && ((a || n) && q)) ≡ ((d && (a && q)) || (d && (n && q)))
-or_and_right true a n q = or_and a n q
-or_and_right false a n q = refl
-
 module _ (pass : Row → Named → Bool) (found more now : List Row) (added : now ≡ found ++ more) (r : Row) where
   pub rows_made_too : (rows : List Row) (i : ℕ) → i < length rows → (any row : Row) → row ≡ get_or rows i any → (right : Named → Bool)
       → has found r ≡ joined pass (has (take i rows)) right r → has more r ≡ joined pass (eq_by_cmp row_cmp row) right r → has now r ≡ joined pass (has (take (i + 1) rows)) right r
@@ -162,5 +162,5 @@ module _ (pass : Row → Named → Bool) (found more now : List Row) (added : no
       ap (λ (all : List Row). has all r) added ∙ list_any-append (eq_by_cmp row_cmp r) found more
       ∙ ap (λ b. b || has more r) so_far ∙ ap (λ b. joined pass left (has_name (take i names)) r || b) turn
       ∙ sym (splits_or (λ l c. left l && (has_name (take i names) c && pass l c)) (λ l c. left l && (eq_by_cmp name_cmp who c && pass l c)) (unjoined r))
-      ∙ splits_alike _ _ (λ l c. sym (or_and_right (left l) (has_name (take i names) c) (eq_by_cmp name_cmp who c) (pass l c))
+      ∙ splits_alike _ _ (λ l c. sym (and_or_and (left l) (has_name (take i names) c) (eq_by_cmp name_cmp who c) (pass l c))
       ∙ ap (λ b. left l && (b && pass l c)) (ap (λ b. has_name (take i names) c || b) (name_equiv.symm who c ∙ ap (eq_by_cmp name_cmp c) is) ∙ sym (list_any_more (eq_by_cmp name_cmp c) names i any_name below))) (unjoined r)

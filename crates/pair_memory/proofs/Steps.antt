@@ -2,6 +2,7 @@
 use Rattle.pair_memory.proofs.Common.{◌≡◌, ◌∙◌, ap, refl, Bool, true, false, not, ◌&&◌, ◌||◌, has, row_naming, cleaned, remembered}
 use Rattle.pair_memory.specs.Steps.{StepsLaw, ForgetsLaw}
 use Rattle.pair_memory.proofs.Worlds.{forgotten_more}
+use Rattle.fx_base.proofs.Tests.{and_not_not}
 
 -- a set after its difference
 stepped : (a b : Bool) → ((a && not (a && not b)) || (b && not a)) ≡ b
@@ -28,15 +29,10 @@ steps_law S m n look rows rows_now names names_now forgotten left right stands r
   agrees = changed.agrees stands.agrees;
 }
 
-names_less : (r f o : Bool) → ((r && not f) && not o) ≡ (r && not (f || o))
-names_less false f o = refl
-names_less true true o = refl
-names_less true false o = refl
-
 -- what memories stand for after their old candidates and rows are dropped
 pub forgets_law : (S : Type 0) → ForgetsLaw S
 forgets_law S m n look rows names forgotten old dropped stands drops keeps = record {
   rows = λ r. keeps.rows r ∙ ap (λ b. b && not (has dropped r)) (stands.rows r) ∙ forgotten_more (rows r) forgotten old r (has dropped r) (drops r);
-  names = λ c. keeps.names c ∙ ap (λ b. b && not (old c)) (stands.names c) ∙ names_less (names c) (forgotten c) (old c);
+  names = λ c. keeps.names c ∙ ap (λ b. b && not (old c)) (stands.names c) ∙ and_not_not (names c) (forgotten c) (old c);
   agrees = keeps.agrees stands.agrees;
 }

@@ -1,11 +1,10 @@
 -- What memories that stand for left rows and candidates of the world make, and what they stand for after a step or after forgetting.
-use Rattle.pair_memory.proofs.Common.{◌≡◌, ◌∙◌, sym, ap, refl, List, [], ◌∷◌, Bool, true, false, not, ◌&&◌, ◌||◌, Option, Some, None, list_any, list_any-append, Named, Row, Look, joins, Memories, with_name, unjoined, splits, has_left, has_right, made, cleaned, remembered, clean, either, PassesAlike, StandsFor}
+use Rattle.pair_memory.proofs.Common.{◌≡◌, ◌∙◌, sym, ap, refl, List, [], ◌∷◌, Bool, true, false, not, ◌&&◌, ◌||◌, Option, Some, None, list_any, list_any-append}
+use Rattle.pair_memory.proofs.Common.{Named, Row, Look, joins, Memories, with_name, unjoined, splits, has_left, has_right, made, cleaned, remembered, clean}
+use Rattle.pair_memory.proofs.Common.{either, PassesAlike, StandsFor}
+use Rattle.std.proofs.Math.Bool.{and-false}
 use Rattle.pair_memory.specs.Joined.{joined}
 use Rattle.pair_memory.proofs.Joining.{joined_alike, from_unjoined}
-
-and_nothing : (a : Bool) → (a && false) ≡ false
-and_nothing true = refl
-and_nothing false = refl
 
 not_or : (a b : Bool) → not (a || (b || false)) ≡ (not a && not b)
 not_or true b = refl
@@ -18,9 +17,9 @@ clean_with facts row who = ap not (list_any-append facts row.facts (who ∷ []))
 
 kept_pairs : (a k b n q p : Bool) → ((a && k) ≡ true → (b && n) ≡ true → q ≡ p) → ((a && k) && ((b && n) && q)) ≡ ((a && (b && p)) && (k && n))
 kept_pairs false k b n q p h = refl
-kept_pairs true false b n q p h = sym (and_nothing (b && p))
+kept_pairs true false b n q p h = sym (and-false (b && p))
 kept_pairs true true false n q p h = refl
-kept_pairs true true true false q p h = sym (and_nothing p)
+kept_pairs true true true false q p h = sym (and-false p)
 kept_pairs true true true true true true h = refl
 kept_pairs true true true true true false h = let e : true ≡ false = h refl refl in e
 kept_pairs true true true true false true h = let e : false ≡ true = h refl refl in e
@@ -53,7 +52,7 @@ clean_either facts others (n ∷ names) = parts (facts n) (others n) (list_any (
   where
     parts : (f o e fs os : Bool) → not e ≡ (not fs && not os) → not ((f || o) || e) ≡ (not (f || fs) && not (o || os))
     parts true o e fs os h = refl
-    parts false true e fs os h = sym (and_nothing (not fs))
+    parts false true e fs os h = sym (and-false (not fs))
     parts false false e fs os h = h
 
 pub forgotten_more : (l : Bool) (facts others : Named → Bool) (row : Row) (gone : Bool) → ((l && clean facts row) ≡ true → gone ≡ not (clean others row)) → ((l && clean facts row) && not gone) ≡ (l && clean (either facts others) row)

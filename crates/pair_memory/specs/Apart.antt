@@ -12,7 +12,7 @@ use Rattle.pair_memory.specs.declared.candidates.Candidates.{Candidates}
 use Rattle.pair_memory.specs.declared.left_rows.LeftRows.{LeftRows}
 use Rattle.pair_memory.specs.declared.memories.Memories.{Memories}
 use Rattle.pair_memory.specs.Joined.{has_name}
-use Rattle.pair_memory.specs.Memories.{name_kept, has_left, has_right, Keeps}
+use Rattle.pair_memory.specs.Memories.{name_kept, has_left, has_right, KeepsMemories}
 
 -- the row is kept
 abbrev pub has_row : LeftRows → Look → Row → Bool
@@ -27,8 +27,8 @@ abbrev pub beside : LeftRows → Candidates → Memories (Unit {0})
 beside left c = record { pattern = c.pattern; left = left.rows; right = c.names }
 
 -- the pattern of the candidates looks for rows where they are kept
-abbrev pub IsBeside : LeftRows → Candidates → Type 0
-IsBeside left c = row_key c.pattern ≡ left.key
+abbrev pub LooksWhereKept : LeftRows → Candidates → Type 0
+LooksWhereKept left c = row_key c.pattern ≡ left.key
 
 -- whether something is there, or whether it is not
 abbrev pub is_so : Bool → Bool → Bool
@@ -37,20 +37,20 @@ is_so false b = not b
 
 -- the left rows after these went: to each node that has them
 abbrev pub RowsLeave : LeftRows → LeftRows → Look → List Row → Type 0
-RowsLeave before after look rows = (c : Candidates) → IsBeside before c
-    → Keeps (beside before c) (beside after c) look (λ r. has_left (beside before c) look r && not (has rows r)) (has_right (beside before c) look)
+RowsLeave before after look rows = (c : Candidates) → LooksWhereKept before c
+    → KeepsMemories (beside before c) (beside after c) look (λ r. has_left (beside before c) look r && not (has rows r)) (has_right (beside before c) look)
 
 -- and after they came
 abbrev pub RowsCome : LeftRows → LeftRows → Look → List Row → Type 0
-RowsCome before after look rows = (c : Candidates) → IsBeside before c
-    → Keeps (beside before c) (beside after c) look (λ r. has_left (beside before c) look r || has rows r) (has_right (beside before c) look)
+RowsCome before after look rows = (c : Candidates) → LooksWhereKept before c
+    → KeepsMemories (beside before c) (beside after c) look (λ r. has_left (beside before c) look r || has rows r) (has_right (beside before c) look)
 
 -- the candidates after these went: beside any left rows
 abbrev pub NamesLeave : Candidates → Candidates → Look → List Named → Type 0
 NamesLeave before after look names = (left : LeftRows)
-    → Keeps (beside left before) (beside left after) look (has_left (beside left before) look) (λ c. has_right (beside left before) look c && not (has_name names c))
+    → KeepsMemories (beside left before) (beside left after) look (has_left (beside left before) look) (λ c. has_right (beside left before) look c && not (has_name names c))
 
 -- and after they came
 abbrev pub NamesCome : Candidates → Candidates → Look → List Named → Type 0
 NamesCome before after look names = (left : LeftRows)
-    → Keeps (beside left before) (beside left after) look (has_left (beside left before) look) (λ c. has_right (beside left before) look c || has_name names c)
+    → KeepsMemories (beside left before) (beside left after) look (has_left (beside left before) look) (λ c. has_right (beside left before) look c || has_name names c)

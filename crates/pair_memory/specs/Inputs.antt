@@ -6,7 +6,7 @@ use Rattle.row_delta.specs.declared.delta.Delta.{Delta}
 use Rattle.row_delta.specs.Rows.{has}
 use Rattle.join_tests.specs.Joins.{Look}
 use Rattle.pair_memory.specs.declared.memories.Memories.{Memories}
-use Rattle.pair_memory.specs.Memories.{has_left, has_right, Keeps}
+use Rattle.pair_memory.specs.Memories.{has_left, has_right, KeepsMemories}
 
 -- the row that names a candidate alone
 abbrev pub row_naming : Named → Row
@@ -26,6 +26,6 @@ pub record IsNameDifference (old new : Named → Bool) (delta : Delta) : Type 0 
 
 -- the memories after a step: the left rows and the candidates without those that went and with those that came
 abbrev pub IsStepped : {S : Type 0} → Memories S → Memories S → Look → Delta → Delta → Type 0
-IsStepped before after look left right = Keeps before after look
+IsStepped before after look left right = KeepsMemories before after look
     (λ row. (has_left before look row && not (has left.gone row)) || has left.come row)
     (λ who. (has_right before look who && not (has right.gone (row_naming who))) || has right.come (row_naming who))

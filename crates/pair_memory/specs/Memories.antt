@@ -45,7 +45,7 @@ abbrev pub made : {S : Type 0} → Memories S → Look → Row → Bool
 made m look = joined (joins m.pattern look) (has_left m look) (has_right m look)
 
 -- after a change of the memories these rows and these candidates are kept, and still stand where they are looked up
-pub record Keeps {S : Type 0} (before after : Memories S) (look : Look) (left : Row → Bool) (right : Named → Bool) : Type 0 where
+pub record KeepsMemories {S : Type 0} (before after : Memories S) (look : Look) (left : Row → Bool) (right : Named → Bool) : Type 0 where
   pub pattern : after.pattern ≡ before.pattern
   pub rows : (row : Row) → has_left after look row ≡ left row
   pub names : (who : Named) → has_right after look who ≡ right who

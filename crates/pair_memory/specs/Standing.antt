@@ -54,7 +54,7 @@ pub record LooksAlike {S : Type 0} (m : Memories S) (look other : Look) : Type 0
 
 -- Memories that agree with the one agree with the other, where both have the same facts at the tags that are kept; and both show the
 -- same in them.
-abbrev pub MoveLaw : Type 0 → Type 0
-MoveLaw S = (m : Memories S) (look other : Look) → Agrees m look → LooksAlike m look other
+abbrev pub MemoryMoveLaw : Type 0 → Type 0
+MemoryMoveLaw S = (m : Memories S) (look other : Look) → Agrees m look → LooksAlike m look other
     → Agrees m other × ((row : Row) → left_at m other row ≡ left_at m look row) × ((who : Named) → has_right m other who ≡ has_right m look who)
     × ((row : Row) (who : Named) → has_left m look row ≡ true → has_right m look who ≡ true → joins m.pattern other row who ≡ joins m.pattern look row who)

@@ -4,10 +4,10 @@ use Rattle.row_delta.specs.declared.row.Named.{Named}
 use Rattle.row_delta.specs.declared.row.Row.{Row}
 use Rattle.row_delta.specs.declared.delta.Delta.{Delta}
 use Rattle.row_delta.specs.Rows.{has}
-use Rattle.row_change.specs.Changes.{Leads}
+use Rattle.row_change.specs.Changes.{LeadsRows}
 use Rattle.join_tests.specs.Joins.{Look}
 use Rattle.pair_memory.specs.declared.memories.Memories.{Memories}
-use Rattle.pair_memory.specs.Memories.{has_left, has_right, Keeps}
+use Rattle.pair_memory.specs.Memories.{has_left, has_right, KeepsMemories}
 use Rattle.pair_memory.specs.Standing.{clean, cleaned, either, remembered, StandsFor}
 use Rattle.pair_memory.specs.Inputs.{IsNameDifference, IsStepped}
 
@@ -16,7 +16,7 @@ use Rattle.pair_memory.specs.Inputs.{IsNameDifference, IsStepped}
 abbrev pub StepsLaw : Type 0 → Type 0
 StepsLaw S = (m n : Memories S) (look : Look) (rows rows_now : Row → Bool) (names names_now forgotten : Named → Bool) (left right : Delta)
     → StandsFor m look rows names forgotten
-    → Leads (cleaned rows forgotten) (cleaned rows_now forgotten) left.gone left.come → IsNameDifference (remembered names forgotten) (remembered names_now forgotten) right
+    → LeadsRows (cleaned rows forgotten) (cleaned rows_now forgotten) left.gone left.come → IsNameDifference (remembered names forgotten) (remembered names_now forgotten) right
     → IsStepped m n look left right → StandsFor n look rows_now names_now forgotten
 
 -- After old candidates are dropped, and the left rows that name an old fact, the memories stand for the same rows and candidates with the
@@ -24,5 +24,5 @@ StepsLaw S = (m n : Memories S) (look : Look) (rows rows_now : Row → Bool) (na
 abbrev pub ForgetsLaw : Type 0 → Type 0
 ForgetsLaw S = (m n : Memories S) (look : Look) (rows : Row → Bool) (names forgotten old : Named → Bool) (dropped : List Row)
     → StandsFor m look rows names forgotten → ((row : Row) → cleaned rows forgotten row ≡ true → has dropped row ≡ not (clean old row))
-    → Keeps m n look (λ row. has_left m look row && not (has dropped row)) (λ who. has_right m look who && not (old who))
+    → KeepsMemories m n look (λ row. has_left m look row && not (has dropped row)) (λ who. has_right m look who && not (old who))
     → StandsFor n look rows names (either forgotten old)

@@ -6,8 +6,8 @@ use Rattle.row_delta.specs.declared.row.Row.{Row}
 use Rattle.pair_memory.specs.Joined.{split_last}
 
 -- a row with one value more
-abbrev pub with_value : Row → ℤ → Row
-with_value row v = record { facts = row.facts; values = row.values ++ v ∷ [] }
+abbrev pub with_row_value : Row → ℤ → Row
+with_row_value row v = record { facts = row.facts; values = row.values ++ v ∷ [] }
 
 -- the row of the front of its values, and the last one
 abbrev pub value_front : Row → (List ℤ × ℤ) → Row × ℤ

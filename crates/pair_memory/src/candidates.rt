@@ -12,7 +12,7 @@ ghost use Rattle.join_tests.specs.Joins.{joins};
 ghost use Rattle.join_tests.specs.Kept.{candidate_value};
 ghost use Rattle.pair_memory.specs.declared.left_rows.LeftRows.{LeftRows};
 ghost use Rattle.pair_memory.specs.Joined.{joined, has_name};
-ghost use Rattle.pair_memory.specs.Memories.{has_left, has_right, Keeps};
+ghost use Rattle.pair_memory.specs.Memories.{has_left, has_right, KeepsMemories};
 ghost use Rattle.pair_memory.specs.Apart.{has_candidate, beside, is_so, NamesLeave, NamesCome};
 
 use crate::left_rows::{LeftRows, is_so};
@@ -162,7 +162,7 @@ impl Candidates {
 
     fn take<F: Facts>(&mut self, who: Named, facts: &F)
         ensures pattern { self.new.pattern ≡ self.old.pattern }
-        ensures keeps { (left : LeftRows) → Keeps (beside left self.old) (beside left self.new) (F.map facts.now)
+        ensures keeps { (left : LeftRows) → KeepsMemories (beside left self.old) (beside left self.new) (F.map facts.now)
             (has_left (beside left self.old) (F.map facts.now)) (λ c. has_right (beside left self.old) (F.map facts.now) c && not (eq_by_cmp name_cmp who c)) }
         ensures under { (value : Value) (c : Named) → is_some (at same_value name_cmp self.new.names value c) ≡ true → is_some (at same_value name_cmp self.old.names value c) ≡ true }
     {
@@ -172,7 +172,7 @@ impl Candidates {
 
     fn put<F: Facts>(&mut self, alloc: Global, who: Named, facts: &F) -> Result<(), NoMemory>
         ensures pattern { OnOk result (self.new.pattern ≡ self.old.pattern) }
-        ensures keeps { OnOk result ((left : LeftRows) → Keeps (beside left self.old) (beside left self.new) (F.map facts.now)
+        ensures keeps { OnOk result ((left : LeftRows) → KeepsMemories (beside left self.old) (beside left self.new) (F.map facts.now)
             (has_left (beside left self.old) (F.map facts.now)) (λ c. has_right (beside left self.old) (F.map facts.now) c || eq_by_cmp name_cmp who c)) }
         ensures under { OnOk result ((value : Value) (c : Named) → is_some (at same_value name_cmp self.new.names value c)
             ≡ (is_some (at same_value name_cmp self.old.names value c) || (same_value (candidate_value self.old.pattern (F.map facts.now) who) value && eq_by_cmp name_cmp who c))) }

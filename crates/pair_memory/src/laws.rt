@@ -3,8 +3,8 @@ ghost use Rattle.std.specs.Prelude.{◌≡◌, ◌&&◌, Bool, true, ℤ};
 ghost use Rattle.row_delta.specs.declared.row.Named.{Named};
 ghost use Rattle.row_delta.specs.declared.row.Row.{Row};
 ghost use Rattle.pair_memory.specs.Joined.{with_name, joined};
-ghost use Rattle.pair_memory.specs.Valued.{with_value, valued};
-ghost use Rattle.pair_memory.specs.Standing.{MoveLaw};
+ghost use Rattle.pair_memory.specs.Valued.{with_row_value, valued};
+ghost use Rattle.pair_memory.specs.Standing.{MemoryMoveLaw};
 ghost use Rattle.pair_memory.specs.Steps.{StepsLaw, ForgetsLaw};
 
 /// A row that is made is a row of the one set with a fact of the other that passes for it, and each such row is made.
@@ -18,14 +18,14 @@ pub fn a_joined_row_has_one_fact_more()
 /// A test of a row without its last value, and of that value, holds of a row with one value more where it holds of the row and the
 /// value, and of no other rows.
 pub fn a_valued_row_has_one_value_more()
-    ensures made { (test : Row → ℤ → Bool) (row : Row) (v : ℤ) → valued test (with_value row v) ≡ test row v }
+    ensures made { (test : Row → ℤ → Bool) (row : Row) (v : ℤ) → valued test (with_row_value row v) ≡ test row v }
     ensures from { (test : Row → ℤ → Bool) (made : Row) → valued test made ≡ true
-        → (row : Row) × (v : ℤ) × (made ≡ with_value row v) × (test row v ≡ true) }
+        → (row : Row) × (v : ℤ) × (made ≡ with_row_value row v) × (test row v ≡ true) }
 {}
 
 /// Two stores with the same facts at the tags that are kept show the same in the memories.
 pub fn memories_look_at_kept_tags_alone()
-    ensures { MoveLaw (Unit {0}) }
+    ensures { MemoryMoveLaw (Unit {0}) }
 {}
 
 /// Whatever a node keeps for its left rows: after a step that is given true differences, it stands for the new rows and candidates.

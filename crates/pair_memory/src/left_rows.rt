@@ -7,8 +7,8 @@ ghost use Rattle.row_delta.specs.Rows.{has, row_cmp};
 ghost use Rattle.alpha_memory.specs.JoinIndex.{at};
 ghost use Rattle.join_tests.specs.Joins.{Look};
 ghost use Rattle.pair_memory.specs.declared.candidates.Candidates.{Candidates};
-ghost use Rattle.pair_memory.specs.Memories.{has_left, has_right, Keeps};
-ghost use Rattle.pair_memory.specs.Apart.{has_row, beside, is_so, IsBeside, RowsLeave, RowsCome};
+ghost use Rattle.pair_memory.specs.Memories.{has_left, has_right, KeepsMemories};
+ghost use Rattle.pair_memory.specs.Apart.{has_row, beside, is_so, LooksWhereKept, RowsLeave, RowsCome};
 
 use crate::partners::add_passed;
 use alpha_memory::JoinIndex;
@@ -107,7 +107,7 @@ impl LeftRows {
 
     fn take<F: Facts>(&mut self, row: &Row, facts: &F)
         ensures key { self.new.key ≡ self.old.key }
-        ensures keeps { (c : Candidates) → IsBeside self.old c → Keeps (beside self.old c) (beside self.new c) (F.map facts.now)
+        ensures keeps { (c : Candidates) → LooksWhereKept self.old c → KeepsMemories (beside self.old c) (beside self.new c) (F.map facts.now)
             (λ r. has_left (beside self.old c) (F.map facts.now) r && not (eq_by_cmp row_cmp row.now r)) (has_right (beside self.old c) (F.map facts.now)) }
     {
         let value = self.key.row_value(row, facts);
@@ -116,7 +116,7 @@ impl LeftRows {
 
     fn put<F: Facts>(&mut self, alloc: Global, row: &Row, facts: &F) -> Result<(), NoMemory>
         ensures key { OnOk result (self.new.key ≡ self.old.key) }
-        ensures keeps { OnOk result ((c : Candidates) → IsBeside self.old c → Keeps (beside self.old c) (beside self.new c) (F.map facts.now)
+        ensures keeps { OnOk result ((c : Candidates) → LooksWhereKept self.old c → KeepsMemories (beside self.old c) (beside self.new c) (F.map facts.now)
             (λ r. has_left (beside self.old c) (F.map facts.now) r || eq_by_cmp row_cmp row.now r) (has_right (beside self.old c) (F.map facts.now))) }
     {
         let value = self.key.row_value(row, facts).into_value(alloc)?;

@@ -8,7 +8,7 @@ ghost use Rattle.row_delta.specs.Rows.{has, row_cmp, InOrder};
 ghost use Rattle.row_delta.specs.NameOrder.{name_cmp};
 ghost use Rattle.join_tests.specs.Joins.{Look, joins};
 ghost use Rattle.pair_memory.specs.Joined.{joined, has_name};
-ghost use Rattle.pair_memory.specs.Memories.{left_at, has_left, has_right, Keeps};
+ghost use Rattle.pair_memory.specs.Memories.{left_at, has_left, has_right, KeepsMemories};
 ghost use Rattle.pair_memory.specs.Standing.{no_rows, no_names, StandsFor};
 ghost use Rattle.pair_memory.specs.Under.{row_joins, name_joins, stands_in};
 ghost use Rattle.fx_base.specs.Values.{same_value};
@@ -69,7 +69,7 @@ impl<S: Drop> Memories<S> {
     pub fn take_left<F: Facts>(&mut self, row: &Row, facts: &F) -> Option<S>
         ensures taken { result ≡ left_at self.old (F.map facts.now) row.now }
         ensures left { (r : Row) → left_at self.new (F.map facts.now) r ≡ cond (eq_by_cmp row_cmp row.now r) None (left_at self.old (F.map facts.now) r) }
-        ensures keeps { Keeps self.old self.new (F.map facts.now)
+        ensures keeps { KeepsMemories self.old self.new (F.map facts.now)
             (λ r. has_left self.old (F.map facts.now) r && not (eq_by_cmp row_cmp row.now r)) (has_right self.old (F.map facts.now)) }
     {
         let value = self.pattern.row_value(row, facts);
@@ -86,7 +86,7 @@ impl<S: Drop> Memories<S> {
     ) -> Result<Option<S>, NoMemory>
         ensures before { IfOk result (λ before. before ≡ left_at self.old (F.map facts.now) row) }
         ensures left { OnOk result ((r : Row) → left_at self.new (F.map facts.now) r ≡ cond (eq_by_cmp row_cmp row r) (Some kept) (left_at self.old (F.map facts.now) r)) }
-        ensures keeps { OnOk result (Keeps self.old self.new (F.map facts.now)
+        ensures keeps { OnOk result (KeepsMemories self.old self.new (F.map facts.now)
             (λ r. has_left self.old (F.map facts.now) r || eq_by_cmp row_cmp row r) (has_right self.old (F.map facts.now))) }
     {
         let value = self.pattern.row_value(&row, facts).into_value(alloc)?;
@@ -99,7 +99,7 @@ impl<S: Drop> Memories<S> {
     pub fn exchange_left<F: Facts>(&mut self, row: &Row, kept: S, facts: &F) -> Result<S, S>
         ensures before { IfOk result (λ before. left_at self.old (F.map facts.now) row.now ≡ Some before) }
         ensures left { OnOk result ((r : Row) → left_at self.new (F.map facts.now) r ≡ cond (eq_by_cmp row_cmp row.now r) (Some kept) (left_at self.old (F.map facts.now) r)) }
-        ensures keeps { OnOk result (Keeps self.old self.new (F.map facts.now) (has_left self.old (F.map facts.now)) (has_right self.old (F.map facts.now))) }
+        ensures keeps { OnOk result (KeepsMemories self.old self.new (F.map facts.now) (has_left self.old (F.map facts.now)) (has_right self.old (F.map facts.now))) }
         ensures absent { OnErr result (left_at self.old (F.map facts.now) row.now ≡ None) }
         ensures back { IfErr result (λ given. given ≡ kept) }
     {
@@ -114,7 +114,7 @@ impl<S: Drop> Memories<S> {
     pub fn take_right<F: Facts>(&mut self, who: Named, facts: &F) -> bool
         ensures taken { result ≡ has_right self.old (F.map facts.now) who }
         ensures left { (r : Row) → left_at self.new (F.map facts.now) r ≡ left_at self.old (F.map facts.now) r }
-        ensures keeps { Keeps self.old self.new (F.map facts.now)
+        ensures keeps { KeepsMemories self.old self.new (F.map facts.now)
             (has_left self.old (F.map facts.now)) (λ c. has_right self.old (F.map facts.now) c && not (eq_by_cmp name_cmp who c)) }
     {
         let value = self.pattern.candidate_value(who, facts);
@@ -130,7 +130,7 @@ impl<S: Drop> Memories<S> {
     ) -> Result<bool, NoMemory>
         ensures before { IfOk result (λ before. before ≡ has_right self.old (F.map facts.now) who) }
         ensures left { OnOk result ((r : Row) → left_at self.new (F.map facts.now) r ≡ left_at self.old (F.map facts.now) r) }
-        ensures keeps { OnOk result (Keeps self.old self.new (F.map facts.now)
+        ensures keeps { OnOk result (KeepsMemories self.old self.new (F.map facts.now)
             (has_left self.old (F.map facts.now)) (λ c. has_right self.old (F.map facts.now) c || eq_by_cmp name_cmp who c)) }
     {
         let value = self.pattern.candidate_value(who, facts).into_value(alloc)?;

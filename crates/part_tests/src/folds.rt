@@ -61,3 +61,13 @@ fn values_are_kept(rt: HostRuntime) -> Result<(), Fail> {
     assert_eq!(rt; fold.values(rt.alloc())?.as_slice(), [3, 5].as_slice());
     Ok(())
 }
+
+#[test]
+fn held_values_are_told_and_counted(rt: HostRuntime) -> Result<(), Fail> {
+    let mut fold = AnyFold::new(rt.alloc(), FoldKind::Average);
+    fold.add(5)?;
+    fold.add(5)?;
+    assert_eq!(rt; fold.count(), 2);
+    assert_eq!(rt; (fold.holds(5), fold.holds(3)), (true, false));
+    Ok(())
+}

@@ -1,5 +1,6 @@
-use due_queue::DueQueue;
+use due_queue::{DueMap, DueQueue};
 use fx_base::NoMemory;
+use std::ops::Bound;
 use std::test::Fail;
 
 /// Lets keys wait that do not wait yet.
@@ -19,5 +20,23 @@ fn due_keys_come_in_the_order_of_their_moments(rt: HostRuntime) -> Result<(), Fa
     assert_eq!(rt; queue.take_due(5)?.as_slice(), [2, 1].as_slice());
     assert!(rt; queue.cancel(3));
     assert!(rt; !queue.cancel(3));
+    Ok(())
+}
+
+#[test]
+fn a_key_that_is_put_again_waits_for_its_new_moment(rt: HostRuntime) -> Result<(), Fail> {
+    let mut waiting: DueMap<i64, u64, u64> = DueMap::new(rt.alloc());
+    waiting.put(5, 1, 10)?;
+    waiting.put(3, 2, 20)?;
+    waiting.put(9, 1, 11)?;
+    assert_eq!(rt;
+        waiting.due(rt.alloc(), Bound::Unbounded)?.as_slice(),
+        [2, 1].as_slice()
+    );
+    assert!(rt; waiting.take_due(Bound::Excluded(3)).is_none());
+    assert_eq!(rt; waiting.take_due(Bound::Included(3)), Some((3, 2, 20)));
+    assert_eq!(rt; waiting.moment(1), Some(9));
+    assert_eq!(rt; waiting.first(), Some((9, 1)));
+    assert_eq!(rt; waiting.cancel(1), Some((9, 11)));
     Ok(())
 }

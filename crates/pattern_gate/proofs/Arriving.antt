@@ -1,14 +1,17 @@
 -- The facts that are meant, as they go and come.
-use Rattle.pattern_gate.proofs.Common.{◌≡◌, ◌∙◌, sym, ap, refl, subst, inl, inr, ℕ, ◌==◌, ℤ, List, [], ◌∷◌, ◌++◌, map, Bool, true, false, cond, not, ◌&&◌, ◌||◌, Option, Some, None, arith, option_to_list, filter, list_any, nat_cmp, Less, Decides-eqb, nat_tests, In, Fact, HaveDistinctTags, name_of, Pattern, of_map, in_right, filter_same, MayPass, MayStart, Arrival, named_of, after, WindowKind, Whole, Time, Length, arrival_of, is_meant, is_given_meant, is_one_meant, less_fact, less_facts, more_fact, more_facts, LetsAllGo, LetsCome, LetsAllCome, AllByRecursion, append_assoc, append-nil, map-append, in_map, in_left, filter_swap, MayGo, has_tag, shares_tag}
+use Rattle.pattern_gate.proofs.Common.{◌≡◌, ◌∙◌, sym, ap, refl, subst, inl, inr, ℕ, ◌==◌, ℤ, List, [], ◌∷◌, ◌++◌, map, Bool, true, false, cond, not, ◌&&◌, ◌||◌}
+use Rattle.pattern_gate.proofs.Common.{Option, Some, None, arith, option_to_list, filter, list_any, AllByRecursion, nat_cmp, Less, Decides-eqb, nat_tests, In}
+use Rattle.pattern_gate.proofs.Common.{Fact, HaveDistinctTags, name_of, Pattern, of_map, in_right, in_map, in_left, filter_same, filter_swap, MayPass, MayStart}
+use Rattle.pattern_gate.proofs.Common.{MayGo, Arrival, named_of, after, has_tag, WindowKind, arrival_of, is_meant, is_given_meant, is_one_meant, less_fact}
+use Rattle.pattern_gate.proofs.Common.{less_facts, more_fact, more_facts, LetsAllGo, LetsCome, LetsAllCome, append_assoc, append-nil, map-append, shares_tag}
+use Rattle.pattern_gate.proofs.Common.{Tag, AllOf, of_filter, in_filter, passed, distinct_filtered}
+use Rattle.window_gate.specs.declared.change.WindowKind.TheVariants.{Whole, Time, Length}
 use Rattle.std.specs.List.Sorted.{IsStrictlySortedBy}
 use Rattle.std.proofs.lemmas.List.Elements.{filter-append}
-use Rattle.fx_base.specs.declared.ids.Tag.{Tag}
-use Rattle.rule_model.proofs.Named.{AllOf, of_filter}
 use Rattle.rule_model.proofs.Once.{one_fact}
-use Rattle.rule_model.proofs.Order.{in_filter, passed}
-use Rattle.rule_world.proofs.Fresh.{distinct_filtered}
 use Rattle.condition_rows.proofs.Ends.{in_name}
 use Rattle.window_gate.specs.declared.change.GateChange.TheVariants.{Come, Gone}
+use Rattle.fx_base.proofs.Sequences.{filter-all}
 
 -- ---- filters
 
@@ -35,11 +38,6 @@ pub filter_among : {A : Type 0} (test other : A → Bool) (xs : List A) → ((x 
 filter_among test other [] h = refl
 filter_among test other (x ∷ xs) h =
     ap (λ b. cond b (x ∷ filter test xs) (filter test xs)) (h x (inl refl)) ∙ ap (λ ys. cond (other x) (x ∷ ys) ys) (filter_among test other xs (λ y i. h y (inr i)))
-
--- a filter that all members pass
-pub filter_all : {A : Type 0} (test : A → Bool) (xs : List A) → ((x : A) → In x xs → test x ≡ true) → filter test xs ≡ xs
-filter_all test [] h = refl
-filter_all test (x ∷ xs) h = ap (λ b. cond b (x ∷ filter test xs) (filter test xs)) (h x (inl refl)) ∙ ap (λ ys. x ∷ ys) (filter_all test xs (λ y i. h y (inr i)))
 
 -- no member passes
 none_passes : {A : Type 0} (test : A → Bool) (xs : List A) → ((x : A) → In x xs → test x ≡ false) → list_any test xs ≡ false
@@ -124,7 +122,7 @@ module _ (q : Pattern) where
   less_by facts d f i true e =
       filter_made (λ (a : Arrival). not (has_tag f.tag.0 a.named)) arrival_of (filter (is_meant q) facts) ∙ ap (map arrival_of) (filter_swap (is_other f) (is_meant q) facts)
   less_by facts d f i false e =
-      ap (map arrival_of) (sym (filter_swap (is_meant q) (is_other f) facts ∙ filter_all (is_other f) (filter (is_meant q) facts) (stays facts d f i e)))
+      ap (map arrival_of) (sym (filter_swap (is_meant q) (is_other f) facts ∙ filter-all (is_other f) (filter (is_meant q) facts) (stays facts d f i e)))
 
   -- what is left is what is meant of the other facts
   less_one : (facts : List Fact) → HaveDistinctTags facts → (f : Fact) → In f facts → less_fact q (meant facts) f ≡ meant (filter (is_other f) facts)
@@ -149,7 +147,7 @@ module _ (q : Pattern) where
       in_filter (is_other f) g facts (ap not (apart f g (λ t. d.0 (subst (λ (u : Tag). In u (map (λ (h : Fact). h.tag) gone)) (sym t) (in_map (λ (h : Fact). h.tag) g gone i))))) (all g (inr i))
 
   pub less_all : (gone facts : List Fact) → HaveDistinctTags facts → HaveDistinctTags gone → AllOf facts gone → less_facts q (meant facts) gone ≡ meant (left facts gone)
-  less_all [] facts d once all = ap meant (sym (filter_all (λ (g : Fact). not (shares_tag [] g)) facts (λ g i. refl)))
+  less_all [] facts d once all = ap meant (sym (filter-all (λ (g : Fact). not (shares_tag [] g)) facts (λ g i. refl)))
   less_all (f ∷ gone) facts d once all =
       ap (λ arrivals. less_facts q arrivals gone) (less_one facts d f (all f (inl refl)))
       ∙ less_all gone (filter (is_other f) facts) (distinct_filtered (is_other f) facts d) once.1 (still_there facts f gone once all)

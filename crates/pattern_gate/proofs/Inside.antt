@@ -1,13 +1,14 @@
 -- What is inside the window of a pattern is what is of its candidates.
-use Rattle.pattern_gate.proofs.Common.{◌≡◌, ◌∙◌, sym, ap, refl, ℕ, nat_lt, ℤ, List, [], ◌∷◌, map, length, Bool, true, false, cond, ◌&&◌, arith, filter, nat_cmp, Less, nat_tests, In, Fact, has, Named, fits, candidates, Snapshot, name_of, Pattern, WindowTag, Program, filter_same, row_naming, candidates_of, named_of, inside, rows_inside, arrival_of, arrivals, kind_of, length-map, is_inside}
-use Rattle.std.specs.List.Sorted.{IsStrictlySortedBy}
-use Rattle.rule_model.specs.declared.condition.WindowTag.TheVariants.{Whole, Time, Length}
+use Rattle.pattern_gate.proofs.Common.{◌≡◌, ◌∙◌, sym, ap, refl, ℕ, nat_lt, ℤ, List, [], ◌∷◌, map, length, Bool, true, false, cond, ◌&&◌, arith, filter, nat_cmp}
+use Rattle.pattern_gate.proofs.Common.{Less, nat_tests, In, Fact, has, Named, fits, candidates, is_inside, Snapshot, name_of, Pattern, WindowTag, Program}
+use Rattle.pattern_gate.proofs.Common.{filter_same, row_naming, candidates_of, named_of, inside, rows_inside, arrival_of, arrivals, window_kind_of, length-map}
+use Rattle.pattern_gate.proofs.Common.{IsStrictlySortedBy, Whole, Time, Length}
 use Rattle.pair_memory.specs.Joined.{has_name}
 use Rattle.condition_rows.proofs.Joined.{candidates_named}
-use Rattle.window_gate.specs.declared.change.WindowKind.TheVariants as kind
 use Rattle.window_gate.proofs.Insides.{inside_whole, inside_time, is_recent}
 use Rattle.window_gate.proofs.Singles.{has-single}
 use Rattle.pattern_gate.proofs.Arriving.{map_if, filter_made, filter_both, filter_among, number, rises, rising_rest, rising}
+use Rattle.window_gate.specs.declared.change.WindowKind.TheVariants as kind
 
 and_true : (b : Bool) → b ≡ (b && true)
 and_true true = refl
@@ -72,7 +73,7 @@ named_arrivals (f ∷ facts) = ap (λ names. name_of f ∷ names) (named_arrival
 
 module _ (p : Program) (q : Pattern) (s : Snapshot) (rise : IsStrictlySortedBy nat_cmp (map number s.facts)) where
   -- what is inside is what arrived of the candidates
-  pub inside_are : (w : WindowTag) → inside (kind_of w) s.clock (arrivals p q s) ≡ map arrival_of (filter (λ f. fits p q s.clock f && is_inside p q w s.clock s.facts f) s.facts)
+  pub inside_are : (w : WindowTag) → inside (window_kind_of w) s.clock (arrivals p q s) ≡ map arrival_of (filter (λ f. fits p q s.clock f && is_inside p q w s.clock s.facts f) s.facts)
   inside_are Whole = inside_whole s.clock (arrivals p q s) ∙ ap (map arrival_of) (filter_same (fits p q s.clock) (λ f. fits p q s.clock f && true) s.facts (λ f. and_true (fits p q s.clock f)))
   inside_are (Time span) =
       inside_time span s.clock (arrivals p q s) ∙ filter_made (is_recent span s.clock) arrival_of (filter (fits p q s.clock) s.facts)
@@ -80,8 +81,8 @@ module _ (p : Program) (q : Pattern) (s : Snapshot) (rise : IsStrictlySortedBy n
   inside_are (Length count) = inside_latest (fits p q s.clock) count s.clock s.facts rise
 
   -- the rows inside name the candidates
-  pub rows_named : (who : Named) → has (rows_inside (kind_of q.window) s.clock (arrivals p q s)) (row_naming who) ≡ candidates_of p q s who
+  pub rows_named : (who : Named) → has (rows_inside (window_kind_of q.window) s.clock (arrivals p q s)) (row_naming who) ≡ candidates_of p q s who
   rows_named who =
-      has-single who (map named_of (inside (kind_of q.window) s.clock (arrivals p q s)))
+      has-single who (map named_of (inside (window_kind_of q.window) s.clock (arrivals p q s)))
       ∙ ap (λ names. has_name names who) (ap (map named_of) (inside_are q.window) ∙ named_arrivals (candidates p q s))
       ∙ candidates_named p s (rising s.facts rise) q who

@@ -3,3 +3,4 @@ pub mod Turning
 pub mod Arriving
 pub mod Inside
 pub mod Moving
+pub mod Fronts

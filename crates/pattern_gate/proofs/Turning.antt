@@ -1,5 +1,9 @@
 -- What a turn does to what has changed so far, and to what is left of the facts that go.
-use Rattle.pattern_gate.proofs.Common.{◌≡◌, ◌∙◌, sym, ap, refl, subst, ℕ, ◌+◌, ◌<◌, ◌≤◌, ℤ, List, [], ◌∷◌, length, drop, get_or, Bool, true, false, not, Some, ◌&&◌, ◌||◌, Bor, list_any, Fact, IsBetween, has, Delta, Row, lent, Pattern, no_rows, Stands, window_of, Arrival, rows_inside, WindowKind, Whole, Time, Length, PatternGate, is_meant, less_fact, less_facts, more_fact, more_facts, LetsAllGo, LetsCome, LetsAllCome, Reaches, at_drop_more, at_drop_all, Leads, without, along, LetsGo}
+use Rattle.pattern_gate.proofs.Common.{◌≡◌, ◌∙◌, sym, ap, refl, subst, ℕ, ◌+◌, ◌<◌, ◌≤◌, ℤ, List, [], ◌∷◌, length, drop, get_or, Bool, true, false, not, Some}
+use Rattle.pattern_gate.proofs.Common.{◌&&◌, ◌||◌, Bor, list_any, Fact, IsBetween, has, Delta, Row, lent, Pattern, no_rows, StandsForArrivals, window_of}
+use Rattle.pattern_gate.proofs.Common.{Arrival, rows_inside, WindowKind, PatternGate, is_meant, less_fact, less_facts, more_fact, more_facts, LetsAllGo}
+use Rattle.pattern_gate.proofs.Common.{LetsCome, LetsAllCome, ReachesArrivals, LetsGo, at_drop_more, at_drop_all, LeadsRows, without, along}
+use Rattle.window_gate.specs.declared.change.WindowKind.TheVariants.{Whole, Time, Length}
 use Rattle.row_delta.specs.DifferenceLaws.{between_applicable}
 use Rattle.row_change.specs.declared.change.Change.{Change}
 use Rattle.row_change.proofs.Alike.{leads_alike}
@@ -14,9 +18,9 @@ led false false = refl
 -- the rows of a difference go and come
 pub led_on : (old : Row → Bool) (before now : List Row) (delta : Delta) → IsBetween before now delta
     → (goes comes : List Row) → goes ≡ delta.gone → comes ≡ delta.come → (gone gone_next gone_now come come_next come_now : List Row)
-    → ((old now : Row → Bool) → Leads old now gone come → ((row : Row) → has goes row ≡ true → now row ≡ true) → Leads old (without now goes) gone_next come_next)
-    → ((old now : Row → Bool) → Leads old now gone_next come_next → ((row : Row) → has comes row ≡ true → now row ≡ false) → Leads old (along now comes) gone_now come_now)
-    → Leads old (has before) gone come → Leads old (has now) gone_now come_now
+    → ((old now : Row → Bool) → LeadsRows old now gone come → ((row : Row) → has goes row ≡ true → now row ≡ true) → LeadsRows old (without now goes) gone_next come_next)
+    → ((old now : Row → Bool) → LeadsRows old now gone_next come_next → ((row : Row) → has comes row ≡ true → now row ≡ false) → LeadsRows old (along now comes) gone_now come_now)
+    → LeadsRows old (has before) gone come → LeadsRows old (has now) gone_now come_now
 led_on old before now delta is goes comes are_gone are_come gone gone_next gone_now come come_next come_now leave arrive leads =
     let fits = between_applicable {old = before} {new = now} {delta = delta} is in
     let left = leave old (has before) leads (λ row e. fits.gone row (ap (λ rows. has rows row) (sym are_gone) ∙ e)) in
@@ -33,14 +37,14 @@ led_on old before now delta is goes comes are_gone are_come gone gone_next gone_
 -- while facts go: for some arrivals that are left the gate stands, and with those that are still to go it ends at the same
 pub record IsLeft (old : Row → Bool) (kind : WindowKind) (pattern : Pattern) (clock : ℤ) (gate : PatternGate) (change : Change) (gone : List Fact) (end : List Arrival) : Type 0 where
   pub arrivals : List Arrival
-  pub reaches : Reaches old kind gate change arrivals clock
+  pub reaches : ReachesArrivals old kind gate change arrivals clock
   pub goes : LetsAllGo kind pattern clock arrivals gone
   pub ends : less_facts pattern arrivals gone ≡ end
 
 -- one of them goes
 going : (old : Row → Bool) (kind : WindowKind) (pattern : Pattern) (clock : ℤ) (gate gate_now : PatternGate) (change change_now : Change) (f : Fact) (gone : List Fact) (end : List Arrival)
-    → ((old : Row → Bool) (kind : WindowKind) (arrivals : List Arrival) → Reaches old kind gate change arrivals clock → LetsGo kind pattern clock arrivals f
-    → Reaches old kind gate_now change_now (less_fact pattern arrivals f) clock)
+    → ((old : Row → Bool) (kind : WindowKind) (arrivals : List Arrival) → ReachesArrivals old kind gate change arrivals clock → LetsGo kind pattern clock arrivals f
+    → ReachesArrivals old kind gate_now change_now (less_fact pattern arrivals f) clock)
     → IsLeft old kind pattern clock gate change (f ∷ gone) end → IsLeft old kind pattern clock gate_now change_now gone end
 going old kind pattern clock gate gate_now change change_now f gone end goes left = record {
   arrivals = less_fact pattern left.arrivals f;
@@ -51,8 +55,8 @@ going old kind pattern clock gate gate_now change change_now f gone end goes lef
 
 pub one_goes : (old : Row → Bool) (kind : WindowKind) (pattern : Pattern) (clock : ℤ) (gate gate_now : PatternGate) (change change_now : Change) (f : Bor Fact) (gone : List (Bor Fact)) (end : List Arrival)
     (i : ℕ) → i < length gone → f ≡ get_or gone i f
-    → ((old : Row → Bool) (kind : WindowKind) (arrivals : List Arrival) → Reaches old kind gate change arrivals clock → LetsGo kind pattern clock arrivals f.now
-    → Reaches old kind gate_now change_now (less_fact pattern arrivals f.now) clock)
+    → ((old : Row → Bool) (kind : WindowKind) (arrivals : List Arrival) → ReachesArrivals old kind gate change arrivals clock → LetsGo kind pattern clock arrivals f.now
+    → ReachesArrivals old kind gate_now change_now (less_fact pattern arrivals f.now) clock)
     → IsLeft old kind pattern clock gate change (lent (drop i gone)) end → IsLeft old kind pattern clock gate_now change_now (lent (drop (i + 1) gone)) end
 one_goes old kind pattern clock gate gate_now change change_now f gone end i lt is goes left =
     let cut : lent (drop i gone) ≡ f.now ∷ lent (drop (i + 1) gone) = at_drop_more lent gone i f lt ∙ ap (λ (g : Bor Fact). g.now ∷ lent (drop (i + 1) gone)) (sym is) in
@@ -61,24 +65,24 @@ one_goes old kind pattern clock gate gate_now change change_now f gone end i lt 
 
 -- all of them went
 pub all_went : (old : Row → Bool) (kind : WindowKind) (pattern : Pattern) (clock : ℤ) (gate : PatternGate) (change : Change) (gone : List (Bor Fact)) (end : List Arrival) (i : ℕ) → length gone ≤ i
-    → IsLeft old kind pattern clock gate change (lent (drop i gone)) end → Reaches old kind gate change end clock
+    → IsLeft old kind pattern clock gate change (lent (drop i gone)) end → ReachesArrivals old kind gate change end clock
 all_went old kind pattern clock gate change gone end i over left =
     let done = subst (λ (facts : List Fact). IsLeft old kind pattern clock gate change facts end) (at_drop_all lent gone i over) left in
-    subst (λ (arrivals : List Arrival). Reaches old kind gate change arrivals clock) done.ends done.reaches
+    subst (λ (arrivals : List Arrival). ReachesArrivals old kind gate change arrivals clock) done.ends done.reaches
 
 -- ---- the facts that come
 
 -- while facts come: for some arrivals so far the gate stands, and with those that are still to come it ends at the same
 pub record IsExpected (old : Row → Bool) (kind : WindowKind) (pattern : Pattern) (clock : ℤ) (gate : PatternGate) (change : Change) (come : List Fact) (end : List Arrival) : Type 0 where
   pub arrivals : List Arrival
-  pub reaches : Reaches old kind gate change arrivals clock
+  pub reaches : ReachesArrivals old kind gate change arrivals clock
   pub comes : LetsAllCome kind pattern clock arrivals come
   pub ends : more_facts pattern arrivals come ≡ end
 
 -- one of them comes
 coming : (old : Row → Bool) (kind : WindowKind) (pattern : Pattern) (clock : ℤ) (gate gate_now : PatternGate) (change change_now : Change) (f : Fact) (come : List Fact) (end : List Arrival)
-    → ((old : Row → Bool) (kind : WindowKind) (arrivals : List Arrival) → Reaches old kind gate change arrivals clock → LetsCome kind pattern clock arrivals (Some f)
-    → Reaches old kind gate_now change_now (more_fact pattern arrivals (Some f)) clock)
+    → ((old : Row → Bool) (kind : WindowKind) (arrivals : List Arrival) → ReachesArrivals old kind gate change arrivals clock → LetsCome kind pattern clock arrivals (Some f)
+    → ReachesArrivals old kind gate_now change_now (more_fact pattern arrivals (Some f)) clock)
     → IsExpected old kind pattern clock gate change (f ∷ come) end → IsExpected old kind pattern clock gate_now change_now come end
 coming old kind pattern clock gate gate_now change change_now f come end comes left = record {
   arrivals = more_fact pattern left.arrivals (Some f);
@@ -89,8 +93,8 @@ coming old kind pattern clock gate gate_now change change_now f come end comes l
 
 pub one_comes : (old : Row → Bool) (kind : WindowKind) (pattern : Pattern) (clock : ℤ) (gate gate_now : PatternGate) (change change_now : Change) (f : Bor Fact) (come : List (Bor Fact)) (end : List Arrival)
     (i : ℕ) → i < length come → f ≡ get_or come i f
-    → ((old : Row → Bool) (kind : WindowKind) (arrivals : List Arrival) → Reaches old kind gate change arrivals clock → LetsCome kind pattern clock arrivals (Some f.now)
-    → Reaches old kind gate_now change_now (more_fact pattern arrivals (Some f.now)) clock)
+    → ((old : Row → Bool) (kind : WindowKind) (arrivals : List Arrival) → ReachesArrivals old kind gate change arrivals clock → LetsCome kind pattern clock arrivals (Some f.now)
+    → ReachesArrivals old kind gate_now change_now (more_fact pattern arrivals (Some f.now)) clock)
     → IsExpected old kind pattern clock gate change (lent (drop i come)) end → IsExpected old kind pattern clock gate_now change_now (lent (drop (i + 1) come)) end
 one_comes old kind pattern clock gate gate_now change change_now f come end i lt is comes left =
     let cut : lent (drop i come) ≡ f.now ∷ lent (drop (i + 1) come) = at_drop_more lent come i f lt ∙ ap (λ (g : Bor Fact). g.now ∷ lent (drop (i + 1) come)) (sym is) in
@@ -99,10 +103,10 @@ one_comes old kind pattern clock gate gate_now change change_now f come end i lt
 
 -- all of them came
 pub all_came : (old : Row → Bool) (kind : WindowKind) (pattern : Pattern) (clock : ℤ) (gate : PatternGate) (change : Change) (come : List (Bor Fact)) (end : List Arrival) (i : ℕ) → length come ≤ i
-    → IsExpected old kind pattern clock gate change (lent (drop i come)) end → Reaches old kind gate change end clock
+    → IsExpected old kind pattern clock gate change (lent (drop i come)) end → ReachesArrivals old kind gate change end clock
 all_came old kind pattern clock gate change come end i over left =
     let done = subst (λ (facts : List Fact). IsExpected old kind pattern clock gate change facts end) (at_drop_all lent come i over) left in
-    subst (λ (arrivals : List Arrival). Reaches old kind gate change arrivals clock) done.ends done.reaches
+    subst (λ (arrivals : List Arrival). ReachesArrivals old kind gate change arrivals clock) done.ends done.reaches
 
 -- ---- a gate without arrivals
 
@@ -112,8 +116,8 @@ nothing_inside (Time millis) now row = refl
 nothing_inside (Length size) now row = refl
 
 -- where nothing has changed, the gate has none of the rows
-pub reaches_nothing : (kind : WindowKind) (gate : PatternGate) (change : Change) (now : ℤ) → window_of gate.gate ≡ kind → Stands gate.gate [] now
-    → ((rows : Row → Bool) → Leads rows rows change.gone.keys change.come.keys) → Reaches no_rows kind gate change [] now
+pub reaches_nothing : (kind : WindowKind) (gate : PatternGate) (change : Change) (now : ℤ) → window_of gate.gate ≡ kind → StandsForArrivals gate.gate [] now
+    → ((rows : Row → Bool) → LeadsRows rows rows change.gone.keys change.come.keys) → ReachesArrivals no_rows kind gate change [] now
 reaches_nothing kind gate change now is stands leads = record {
   window = is;
   stands = stands;

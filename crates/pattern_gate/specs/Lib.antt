@@ -1,3 +1,4 @@
 pub mod Moves
 pub mod Gates
 pub mod Turns
+pub mod Fronts

@@ -24,7 +24,7 @@ abbrev pub shares_tag : List Fact → Fact → Bool
 shares_tag facts f = list_any (λ (g : Fact). g.tag.0 == f.tag.0) facts
 
 -- The clock and the floors move on or stand, some facts go, and one may come, which is the latest.
-pub record Moves (p : Program) (s next : Snapshot) (gone : List Fact) (come : Option Fact) : Type 0 where
+pub record MovesSnapshot (p : Program) (s next : Snapshot) (gone : List Fact) (come : Option Fact) : Type 0 where
   pub before : IsOrderly p s
   pub after : IsOrderly p next
   pub clock : s.clock ≤ℤ next.clock

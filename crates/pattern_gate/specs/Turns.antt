@@ -5,14 +5,14 @@ use Rattle.fx_base.specs.declared.fact.Fact.{Fact}
 use Rattle.row_delta.specs.declared.row.Row.{Row}
 use Rattle.row_delta.specs.Rows.{has}
 use Rattle.row_change.specs.declared.change.Change.{Change}
-use Rattle.row_change.specs.Changes.{Leads}
+use Rattle.row_change.specs.Changes.{LeadsRows}
 use Rattle.rule_model.specs.declared.condition.Pattern.{Pattern}
 use Rattle.rule_model.specs.Tests.{tests_hold}
 use Rattle.rule_model.specs.Tuples.{name_of, unbound}
 use Rattle.window_gate.specs.declared.change.GateChange.TheVariants.{Come, Gone, Clock}
 use Rattle.window_gate.specs.declared.change.WindowKind.{WindowKind}
 use Rattle.window_gate.specs.Windows.{Arrival, after, rows_inside}
-use Rattle.window_gate.specs.Standing.{Stands, Takes, window_of}
+use Rattle.window_gate.specs.Standing.{StandsForArrivals, TakesChange, window_of}
 use Rattle.pattern_gate.specs.declared.gate.PatternGate.{PatternGate}
 
 -- the fact is of the pattern's type and entry point, and passes the constant tests
@@ -53,7 +53,7 @@ more_facts pattern arrivals (f ∷ come) = more_facts pattern (more_fact pattern
 
 -- a fact that is meant may go
 abbrev pub LetsGo : WindowKind → Pattern → ℤ → List Arrival → Fact → Type 0
-LetsGo window pattern clock arrivals f = is_meant pattern f ≡ true → Takes window arrivals clock (Gone (name_of f)) clock
+LetsGo window pattern clock arrivals f = is_meant pattern f ≡ true → TakesChange window arrivals clock (Gone (name_of f)) clock
 
 -- so may these, one after the other
 abbrev pub LetsAllGo : WindowKind → Pattern → ℤ → List Arrival → List Fact → Type 0
@@ -63,7 +63,7 @@ LetsAllGo window pattern clock arrivals (f ∷ gone) = LetsGo window pattern clo
 -- a fact that is meant may come
 abbrev pub LetsCome : WindowKind → Pattern → ℤ → List Arrival → Option Fact → Type 0
 LetsCome window pattern clock arrivals None = Unit {0}
-LetsCome window pattern clock arrivals (Some f) = is_meant pattern f ≡ true → Takes window arrivals clock (Come (name_of f) f.times.start) clock
+LetsCome window pattern clock arrivals (Some f) = is_meant pattern f ≡ true → TakesChange window arrivals clock (Come (name_of f) f.times.start) clock
 
 -- so may these, one after the other
 abbrev pub LetsAllCome : WindowKind → Pattern → ℤ → List Arrival → List Fact → Type 0
@@ -72,7 +72,7 @@ LetsAllCome window pattern clock arrivals (f ∷ come) = LetsCome window pattern
 
 -- a step: the clock moves, then facts go, then one comes
 pub record TakesStep (window : WindowKind) (pattern : Pattern) (arrivals : List Arrival) (was : ℤ) (gone : List Fact) (come : Option Fact) (clock : ℤ) : Type 0 where
-  pub moves : Takes window arrivals was Clock clock
+  pub moves : TakesChange window arrivals was Clock clock
   pub goes : LetsAllGo window pattern clock arrivals gone
   pub comes : LetsCome window pattern clock (less_facts pattern arrivals gone) come
 
@@ -80,7 +80,7 @@ pub record TakesStep (window : WindowKind) (pattern : Pattern) (arrivals : List 
 
 -- the gate has this window and stands for these arrivals at this moment, and what has changed so far leads from the old rows to those
 -- inside
-pub record Reaches (old : Row → Bool) (kind : WindowKind) (gate : PatternGate) (change : Change) (arrivals : List Arrival) (now : ℤ) : Type 0 where
+pub record ReachesArrivals (old : Row → Bool) (kind : WindowKind) (gate : PatternGate) (change : Change) (arrivals : List Arrival) (now : ℤ) : Type 0 where
   pub window : window_of gate.gate ≡ kind
-  pub stands : Stands gate.gate arrivals now
-  pub leads : Leads old (has (rows_inside kind now arrivals)) change.gone.keys change.come.keys
+  pub stands : StandsForArrivals gate.gate arrivals now
+  pub leads : LeadsRows old (has (rows_inside kind now arrivals)) change.gone.keys change.come.keys

@@ -18,10 +18,10 @@ ghost use Rattle.condition_rows.specs.Sets.{candidates_of};
 ghost use Rattle.condition_rows.specs.Looks.{empty_snapshot};
 ghost use Rattle.window_gate.specs.declared.change.WindowKind.{WindowKind};
 ghost use Rattle.window_gate.specs.Windows.{Arrival, after, rows_inside};
-ghost use Rattle.window_gate.specs.Standing.{LeavesAt, Stands, Takes, window_of};
-ghost use Rattle.pattern_gate.specs.Moves.{IsOrderly, Moves, at_clock};
-ghost use Rattle.pattern_gate.specs.Gates.{GateStands, LeavesBy, arrival_of, has_good_window, kind_of};
-ghost use Rattle.pattern_gate.specs.Turns.{is_meant, is_given_meant, is_one_meant, less_fact, less_facts, more_fact, more_facts, LetsGo, LetsAllGo, LetsCome, LetsAllCome, TakesStep, Reaches};
+ghost use Rattle.window_gate.specs.Standing.{LeavesAt, StandsForArrivals, TakesChange, window_of};
+ghost use Rattle.pattern_gate.specs.Moves.{IsOrderly, MovesSnapshot, at_clock};
+ghost use Rattle.pattern_gate.specs.Gates.{GateStands, LeavesBy, arrival_of, has_good_window, window_kind_of};
+ghost use Rattle.pattern_gate.specs.Turns.{is_meant, is_given_meant, is_one_meant, less_fact, less_facts, more_fact, more_facts, LetsGo, LetsAllGo, LetsCome, LetsAllCome, TakesStep, ReachesArrivals};
 
 use fx_base::{Fact, Millis, NoMemory};
 use row_change::Change;
@@ -77,7 +77,7 @@ impl PatternGate {
         ensures candidates { (p : Program) (pattern : Pattern) (s : Snapshot) (clock : ℤ) → GateStands p pattern self.now s → IsOrderly p s → IsOrderly p (at_clock s clock)
             → s.clock ≤ℤ clock → IfSome result (λ at. clock <ℤ at) → (who : Named) → candidates_of p pattern (at_clock s clock) who ≡ candidates_of p pattern s who }
         ensures leaves { (p : Program) (pattern : Pattern) (s : Snapshot) → GateStands p pattern self.now s → IsOrderly p s
-            → IfSome result (λ at. (f : Fact) × In f (candidates p pattern s) × LeavesAt (kind_of pattern.window) (arrival_of f) at) }
+            → IfSome result (λ at. (f : Fact) × In f (candidates p pattern s) × LeavesAt (window_kind_of pattern.window) (arrival_of f) at) }
     {
         self.gate.quiet_until()
     }
@@ -94,9 +94,9 @@ impl PatternGate {
     ) -> bool
         ensures meant { IsTrue result → is_one_meant pattern.now (lent gone.now) (option_map (λ f. f.now) come.entry) ≡ false }
         ensures stands { IsTrue result → (p : Program) (s next : Snapshot) → GateStands p pattern.now self.now s
-            → Moves p s next (lent gone.now) (option_map (λ f. f.now) come.entry) → next.clock ≡ clock → GateStands p pattern.now self.now next }
+            → MovesSnapshot p s next (lent gone.now) (option_map (λ f. f.now) come.entry) → next.clock ≡ clock → GateStands p pattern.now self.now next }
         ensures candidates { IsTrue result → (p : Program) (s next : Snapshot) → GateStands p pattern.now self.now s
-            → Moves p s next (lent gone.now) (option_map (λ f. f.now) come.entry) → next.clock ≡ clock → (who : Named) → candidates_of p pattern.now next who ≡ candidates_of p pattern.now s who }
+            → MovesSnapshot p s next (lent gone.now) (option_map (λ f. f.now) come.entry) → next.clock ≡ clock → (who : Named) → candidates_of p pattern.now next who ≡ candidates_of p pattern.now s who }
         ensures leaves { result ≡ false → is_one_meant pattern.now (lent gone.now) (option_map (λ f. f.now) come.entry) ≡ false
             → (p : Program) (s : Snapshot) → GateStands p pattern.now self.now s → IsOrderly p s → LeavesBy p pattern.now s clock }
     {
@@ -117,9 +117,9 @@ impl PatternGate {
         clock: Millis,
     ) -> Result<Delta, NoMemory>
         ensures stands { OnOk result ((s next : Snapshot) → has_good_window program.now pattern.now ≡ true → GateStands program.now pattern.now self.old s
-            → Moves program.now s next (lent gone.now) (option_map (λ f. f.now) come.entry) → next.clock ≡ clock → GateStands program.now pattern.now self.new next) }
+            → MovesSnapshot program.now s next (lent gone.now) (option_map (λ f. f.now) come.entry) → next.clock ≡ clock → GateStands program.now pattern.now self.new next) }
         ensures difference { IfOk result (λ delta. (s next : Snapshot) → has_good_window program.now pattern.now ≡ true → GateStands program.now pattern.now self.old s
-            → Moves program.now s next (lent gone.now) (option_map (λ f. f.now) come.entry) → next.clock ≡ clock
+            → MovesSnapshot program.now s next (lent gone.now) (option_map (λ f. f.now) come.entry) → next.clock ≡ clock
             → IsNameDifference (candidates_of program.now pattern.now s) (candidates_of program.now pattern.now next) delta) }
     {
         let delta = self.advanced(alloc, pattern, gone, come, clock)?;
@@ -136,10 +136,10 @@ impl PatternGate {
         clock: Millis,
     ) -> Result<Delta, NoMemory>
         ensures window { OnOk result (window_of self.new.gate ≡ window_of self.old.gate) }
-        ensures stands { OnOk result ((arrivals : List Arrival) (was : ℤ) → Stands self.old.gate arrivals was
+        ensures stands { OnOk result ((arrivals : List Arrival) (was : ℤ) → StandsForArrivals self.old.gate arrivals was
             → TakesStep (window_of self.old.gate) pattern.now arrivals was (lent gone.now) (option_map (λ f. f.now) come.entry) clock
-            → Stands self.new.gate (more_fact pattern.now (less_facts pattern.now arrivals (lent gone.now)) (option_map (λ f. f.now) come.entry)) clock) }
-        ensures difference { IfOk result (λ delta. (arrivals : List Arrival) (was : ℤ) → Stands self.old.gate arrivals was
+            → StandsForArrivals self.new.gate (more_fact pattern.now (less_facts pattern.now arrivals (lent gone.now)) (option_map (λ f. f.now) come.entry)) clock) }
+        ensures difference { IfOk result (λ delta. (arrivals : List Arrival) (was : ℤ) → StandsForArrivals self.old.gate arrivals was
             → TakesStep (window_of self.old.gate) pattern.now arrivals was (lent gone.now) (option_map (λ f. f.now) come.entry) clock
             → IsDifference (has (rows_inside (window_of self.old.gate) was arrivals))
             (has (rows_inside (window_of self.old.gate) clock (more_fact pattern.now (less_facts pattern.now arrivals (lent gone.now)) (option_map (λ f. f.now) come.entry)))) delta) }
@@ -161,8 +161,8 @@ impl PatternGate {
         clock: Millis,
     ) -> Result<(), NoMemory>
         ensures window { OnOk result (window_of self.new.gate ≡ window_of self.old.gate) }
-        ensures reaches { OnOk result ((old : Row → Bool) (window : WindowKind) (arrivals : List Arrival) → Reaches old window self.old change.old arrivals clock
-            → LetsAllGo window pattern.now clock arrivals (lent gone.now) → Reaches old window self.new change.new (less_facts pattern.now arrivals (lent gone.now)) clock) }
+        ensures reaches { OnOk result ((old : Row → Bool) (window : WindowKind) (arrivals : List Arrival) → ReachesArrivals old window self.old change.old arrivals clock
+            → LetsAllGo window pattern.now clock arrivals (lent gone.now) → ReachesArrivals old window self.new change.new (less_facts pattern.now arrivals (lent gone.now)) clock) }
     {
         for fact in gone {
             self.fact_goes(alloc, change, pattern, fact, clock)?;
@@ -179,8 +179,8 @@ impl PatternGate {
         clock: Millis,
     ) -> Result<(), NoMemory>
         ensures window { OnOk result (window_of self.new.gate ≡ window_of self.old.gate) }
-        ensures reaches { OnOk result ((old : Row → Bool) (window : WindowKind) (arrivals : List Arrival) → Reaches old window self.old change.old arrivals clock
-            → LetsGo window pattern.now clock arrivals fact.now → Reaches old window self.new change.new (less_fact pattern.now arrivals fact.now) clock) }
+        ensures reaches { OnOk result ((old : Row → Bool) (window : WindowKind) (arrivals : List Arrival) → ReachesArrivals old window self.old change.old arrivals clock
+            → LetsGo window pattern.now clock arrivals fact.now → ReachesArrivals old window self.new change.new (less_fact pattern.now arrivals fact.now) clock) }
     {
         if !is_meant(pattern, fact) {
             return Ok(());
@@ -197,8 +197,8 @@ impl PatternGate {
         clock: Millis,
     ) -> Result<(), NoMemory>
         ensures window { OnOk result (window_of self.new.gate ≡ window_of self.old.gate) }
-        ensures reaches { OnOk result ((old : Row → Bool) (window : WindowKind) (arrivals : List Arrival) → Reaches old window self.old change.old arrivals clock
-            → LetsAllCome window pattern.now clock arrivals (lent come.now) → Reaches old window self.new change.new (more_facts pattern.now arrivals (lent come.now)) clock) }
+        ensures reaches { OnOk result ((old : Row → Bool) (window : WindowKind) (arrivals : List Arrival) → ReachesArrivals old window self.old change.old arrivals clock
+            → LetsAllCome window pattern.now clock arrivals (lent come.now) → ReachesArrivals old window self.new change.new (more_facts pattern.now arrivals (lent come.now)) clock) }
     {
         for fact in come {
             self.fact_comes(alloc, change, pattern, Some(fact), clock)?;
@@ -215,9 +215,9 @@ impl PatternGate {
         clock: Millis,
     ) -> Result<(), NoMemory>
         ensures window { OnOk result (window_of self.new.gate ≡ window_of self.old.gate) }
-        ensures reaches { OnOk result ((old : Row → Bool) (window : WindowKind) (arrivals : List Arrival) → Reaches old window self.old change.old arrivals clock
+        ensures reaches { OnOk result ((old : Row → Bool) (window : WindowKind) (arrivals : List Arrival) → ReachesArrivals old window self.old change.old arrivals clock
             → LetsCome window pattern.now clock arrivals (option_map (λ f. f.now) come.entry)
-            → Reaches old window self.new change.new (more_fact pattern.now arrivals (option_map (λ f. f.now) come.entry)) clock) }
+            → ReachesArrivals old window self.new change.new (more_fact pattern.now arrivals (option_map (λ f. f.now) come.entry)) clock) }
     {
         match come {
             Some(fact) => {
@@ -240,8 +240,8 @@ impl PatternGate {
         clock: Millis,
     ) -> Result<(), NoMemory>
         ensures window { OnOk result (window_of self.new.gate ≡ window_of self.old.gate) }
-        ensures reaches { OnOk result ((old : Row → Bool) (window : WindowKind) (arrivals : List Arrival) (was : ℤ) → Reaches old window self.old change.old arrivals was
-            → Takes window arrivals was event.now clock → Reaches old window self.new change.new (after arrivals event.now) clock) }
+        ensures reaches { OnOk result ((old : Row → Bool) (window : WindowKind) (arrivals : List Arrival) (was : ℤ) → ReachesArrivals old window self.old change.old arrivals was
+            → TakesChange window arrivals was event.now clock → ReachesArrivals old window self.new change.new (after arrivals event.now) clock) }
     {
         let delta = self.gate.turn(alloc, event, clock)?;
         let Delta { gone, come } = delta;
@@ -262,7 +262,7 @@ fn is_before(clock: Millis, moment: Option<Millis>) -> bool
 }
 
 fn kind_of(window: WindowTag) -> WindowKind
-    ensures { result ≡ kind_of window }
+    ensures { result ≡ window_kind_of window }
 {
     match window {
         WindowTag::Whole => WindowKind::Whole,

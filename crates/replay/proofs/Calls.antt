@@ -1,5 +1,13 @@
 -- What a call does, by what its parts did.
-use Rattle.replay.proofs.Common.{◌≡◌, ◌≢◌, ◌⊎◌, inl, inr, ◌<◌, ◌≤◌, ◌^◌, ℕ, List, [], length, Option, Some, None, option_map, refl, sym, ap, subst, ◌∙◌, arith, String, Global, IfSome, Rose, append, AppendsFront, count_after, IsFound, Asked, RuleFile, Load, Mode, Run, Check, Lives, Proof, Save, rules_text, Program, Script, Limit, Gives, Fires, Counts, progress_behind, Outcome, RunSetting, RunState, at_end, first_state, setting_of, state_in, StoppedAtRead, Beginning, First, Behind, Refusal, CheckpointCode, Reading, Accepted, Refused, RefusesFor, RunsIn, ShelfSeen, Outside, seen, wanted_told, TellsScript, MayEnd, RunOf, Says, checkpoint_text, usage, reading, refusal_text, Report, Reports, IsReport, IsWritten, IsLong, IsStopped, TakesFor, checkpoint_report, Wanted, Files, usage_line, refuses, refuses_checkpoint, runs, resumes, saves, saves_on, accepts, tells_lives, proves, sums_up, wanted_at, wanted_by, wanted_from, rules_in, wanted_by_file, wanted_by_reading, IfRefuses, ReadsFile, RunsScript, IsUnfit, ReadFails, MayRefuse}
+use Rattle.replay.proofs.Common.{◌≡◌, ◌≢◌, ◌⊎◌, inl, inr, ◌<◌, ◌≤◌, ◌^◌, ℕ, List, [], length, Option, Some, None, option_map, refl, sym, ap, subst, ◌∙◌, arith}
+use Rattle.replay.proofs.Common.{String, Global, IfSome, Rose, append, AppendsFront, count_after, IsOnShelf, Asked, RuleFile, Load, Mode, Run, Check, Lives}
+use Rattle.replay.proofs.Common.{Proof, Save, rules_text, Program, Script, Limit, Gives, Fires, Counts, progress_behind, Outcome, RunSetting, RunState, at_end}
+use Rattle.replay.proofs.Common.{first_state, setting_of, state_in, StoppedAtRead, Beginning, First, Behind, Refusal, CheckpointCode, Reading, Accepted}
+use Rattle.replay.proofs.Common.{Refused, RefusesFor, RunsIn, ShelfSeen, Outside, seen, wanted_told, TellsScript, MayEnd, RunOf, Says, checkpoint_text, usage}
+use Rattle.replay.proofs.Common.{reading, refusal_text, Report, Reports, IsReport, IsWritten, IsLong, IsStopped, TakesFor, checkpoint_report, Wanted, Files}
+use Rattle.replay.proofs.Common.{usage_line, refuses, refuses_checkpoint, runs, resumes, saves, saves_on, accepts, tells_lives, proves, sums_up, wanted_at}
+use Rattle.replay.proofs.Common.{wanted_by, wanted_from, wanted_rules, wanted_by_file, wanted_by_reading, IfRefuses, ReadsFile, RunsScript, IsUnfit, ReadFails}
+use Rattle.replay.proofs.Common.{MayRefuse}
 use Rattle.command_words.specs.Asked.{asked_by}
 use Rattle.script_run.specs.Run.{run as run_lines}
 use Rattle.script_run.proofs.Ahead.{run_ended, append_nothing}
@@ -111,9 +119,9 @@ pub refuses_since : {told told' : Option Files} {before between after : List ℕ
     → RefusesFor told' between after mode name → RefusesFor told before after mode name
 refuses_since {told} {told'} {before} {between} {after} {mode} {name} same counts (run, it, named, cause) = (run, it, named, here cause)
   where
-    here : Rose (between it) (after it) ⊎ IsFound told' it → Rose (before it) (after it) ⊎ IsFound told it
+    here : Rose (between it) (after it) ⊎ IsOnShelf told' it → Rose (before it) (after it) ⊎ IsOnShelf told it
     here (inl rose) = inl (rose_since (counts it) rose)
-    here (inr found) = inr (subst (λ (t : Option Files). IsFound t it) same found)
+    here (inr found) = inr (subst (λ (t : Option Files). IsOnShelf t it) same found)
 
 -- a rule file that is missing or refused
 pub refused_done : (gives : Gives) (fires : Fires) (counts : Counts) (name : List ℕ) (mode : Mode) (limit : ℕ) (image : Option (List ℕ)) (refusal : Refusal) (first last : ShelfSeen) (left : Option (List ℕ))
@@ -351,7 +359,7 @@ unread_load number limit (Refused refusal) left script = tt
 script_unasked : (asked : Option Asked) (files : Files) (left : Option (List ℕ)) (script : List ℕ) → NoRun asked → TellsScript (wanted_by asked files) left script
 unfolding wanted_by_name wanted_by_number
 script_unasked None files left script no_run = tt
-script_unasked (Some (RuleFile name mode limit image)) files left script no_run = unread_file mode limit image files (rules_in (files name)) (files name) left script no_run
+script_unasked (Some (RuleFile name mode limit image)) files left script no_run = unread_file mode limit image files (wanted_rules (files name)) (files name) left script no_run
 script_unasked (Some (Load number limit)) files left script no_run = unread_load number limit (reading rules_text) left script
 
 no_file_no_run : (asked : Option Asked) → IfSome asked (λ it. ¬ ReadsFile it) → NoRun asked

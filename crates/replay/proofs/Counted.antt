@@ -1,19 +1,18 @@
 -- The lines of a text, one after the other, and how many of them begin with some bytes.
-use Rattle.replay.proofs.Common.{◌≡◌, ◌≢◌, inl, inr, ◌<◌, ◌≤◌, ◌+◌, ◌++◌, ◌==◌, ℕ, List, [], ◌∷◌, length, take, drop, true, cond, Some, None, refl, sym, ap, ◌∙◌, arith, fold, starts_with, append-nil, take-append-drop, IsExhausted, IsFirstEnd, lines_with}
+use Rattle.replay.proofs.Common.{◌≡◌, ◌≢◌, inl, inr, ◌<◌, ◌≤◌, ◌+◌, ◌++◌, ◌==◌, ℕ, List, [], ◌∷◌, length, take, drop, true, cond, Some, None, refl, sym, ap}
+use Rattle.replay.proofs.Common.{◌∙◌, arith, fold, starts_with, append-nil, take-append-drop, IsExhausted, IsFirstEnd, lines_with}
+use Rattle.std.proofs.lemmas.Option.{same_Some}
 use Rattle.std.proofs.lemmas.Bool.{eqb-true}
 use Rattle.memchr.specs.Find.{IsFirstByte, is_byte}
 use Rattle.fx_io.specs.Lines.{lines_of}
-use Rattle.fx_io.specs.Answers.{Reads, TakesLine, Answers}
+use Rattle.fx_io.specs.Answers.{ReadsBytes, TakesLine, Answers}
 use Rattle.fx_io.specs.declared.line.Line.TheVariants.{Whole}
 use Rattle.fx_io.proofs.Ahead.{answers_ahead}
 use Rattle.fx_io.proofs.Ends.{first_end_found}
 
 -- nothing of a source that is empty was read
-nothing_read : Reads [] 0 0 0 0 (Some []) (Some [])
+nothing_read : ReadsBytes [] 0 0 0 0 (Some []) (Some [])
 nothing_read = record { taken = refl; given = refl; left = refl }
-
-some_is : {A : Type 0} (x y : A) → Some x ≡ Some y → x ≡ y
-some_is x y e = cc
 
 -- what a reader of lines takes of bytes is their first line
 first_taken : (line bytes kept : List ℕ) → TakesLine line bytes kept ((0 ≤ 0) × IsExhausted (Some [])) → lines_of bytes ≡ line ∷ lines_of kept
@@ -21,7 +20,7 @@ first_taken line bytes kept takes =
     let whole : TakesLine line (bytes ++ []) kept ((0 ≤ 0) × IsExhausted (Some [])) = rw (append-nil bytes) takes in
     let answers : Answers (length line) (Whole line) (Some (lines_of (bytes ++ []))) (Some (lines_of (kept ++ []))) =
     answers_ahead [] bytes kept 0 0 0 0 (Some []) (Some []) nothing_read (length line) 0 (Whole line) (omega arith, whole) in
-    let first : lines_of (bytes ++ []) ≡ line ∷ lines_of (kept ++ []) = some_is _ _ answers.1 in
+    let first : lines_of (bytes ++ []) ≡ line ∷ lines_of (kept ++ []) = same_Some _ _ answers.1 in
     ap lines_of (sym (append-nil bytes)) ∙ first ∙ ap (λ (more : List ℕ). line ∷ lines_of more) (append-nil kept)
 
 not_nothing : (text : List ℕ) → 0 < length text → text ≢ []

@@ -1,5 +1,5 @@
 -- The bytes of a file, piece by piece.
-use Rattle.replay.proofs.Common.{◌≡◌, ◌≤◌, ◌+◌, ◌++◌, ℕ, List, length, take, drop, Option, Some, None, sym, ap, ◌∙◌, arith, IfSome, take-append-le, take_all}
+use Rattle.replay.proofs.Common.{◌≡◌, ◌≤◌, ◌+◌, ◌++◌, ℕ, List, length, take, drop, Option, Some, None, sym, ap, ◌∙◌, arith, IfSome, take-append-le}
 use Rattle.std.proofs.Math.Seq.{take-add}
 
 pub take_front : (n : ℕ) (piece rest : List ℕ) → n ≤ length piece → take n (piece ++ rest) ≡ take n piece

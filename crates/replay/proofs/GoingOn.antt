@@ -1,5 +1,9 @@
 -- The run behind the image of an earlier one is the rest of the run of both scripts as one.
-use Rattle.replay.proofs.Common.{◌≡◌, inl, inr, ◌≤◌, ◌++◌, ℕ, List, Option, Some, sym, ap, ◌∙◌, arith, lines_of, Image, RunPart, LifeTable, Program, AreLives, empty_world, Gives, Fires, Counts, first_part, part_at, run_on, Outcome, RunSetting, setting_of, then_run, whole_run, script_joined, whole_behind, GoesOn, IsImageOfRun, IsRest, Report, Reports, IsBehind, IsReport, IsRunBehind, IsRunStatus, outcome_report, run_status, Wanted, usage_line, refuses, refuses_checkpoint, runs, resumes, saves, saves_on, accepts, tells_lives, proves, sums_up}
+use Rattle.replay.proofs.Common.{◌≡◌, inl, inr, ◌≤◌, ◌++◌, ℕ, List, Option, Some, sym, ap, ◌∙◌, arith, lines_of, Image, RunPart, LifeTable, Program, AreLives}
+use Rattle.replay.proofs.Common.{empty_world, Gives, Fires, Counts, first_part, run_part_at, run_on, Outcome, RunSetting, setting_of, then_run, whole_run}
+use Rattle.replay.proofs.Common.{script_joined, whole_behind, GoesOn, IsImageOfRun, IsRest, Report, Reports, IsToldBehind, IsReport, IsRunBehind, IsRunStatus}
+use Rattle.replay.proofs.Common.{outcome_report, run_status, Wanted, usage_line, refuses, refuses_checkpoint, runs, resumes, saves, saves_on, accepts}
+use Rattle.replay.proofs.Common.{tells_lives, proves, sums_up}
 use Rattle.replay.proofs.Tables.{by_table}
 
 module _ (gives : Gives) (fires : Fires) (counts : Counts) (limit : ℕ) (p : Program) (table : LifeTable) (first second : List ℕ) (image : Image)
@@ -18,11 +22,11 @@ module _ (gives : Gives) (fires : Fires) (counts : Counts) (limit : ℕ) (p : Pr
       = sym (ap (λ (o : Outcome). o.comes_to) (whole_behind setting rules (lines_of first))) ∙ is.comes_to in
       whole_behind setting rules (lines_of (first ++ second))
       ∙ script_joined setting empty_world (first_part rules) first second is.state is.ends comes
-      ∙ ap (λ (o : Outcome). then_run o.bytes (run_on setting is.state.world (part_at limit (first_part rules) is.state.progress) (lines_of second))) (sym (whole_behind setting rules (lines_of first)))
+      ∙ ap (λ (o : Outcome). then_run o.bytes (run_on setting is.state.world (run_part_at limit (first_part rules) is.state.progress) (lines_of second))) (sym (whole_behind setting rules (lines_of first)))
       ∙ ap (λ (part : RunPart). then_run (whole_run setting (lines_of first)).bytes (run_on setting is.state.world part (lines_of second))) (sym is.run)
 
   by_report : (before after : Option (List ℕ)) (status : ℕ) (r : Report) → Reports before after status r → status ≤ 4
-      → IsBehind p table image IsRunStatus (IsRunBehind gives fires counts limit p table image second) r
+      → IsToldBehind p table image IsRunStatus (IsRunBehind gives fires counts limit p table image second) r
       → IsRest gives fires counts limit p table first second before after status
   by_report before after status r said low (inl unfit) = absurd (let nine : r.status ≡ 9 = ap (λ (q : Report). q.status) unfit.1 in omega (arith, nine, low, said.1))
   by_report before after status r said low (inr fits) =
@@ -38,7 +42,7 @@ module _ (gives : Gives) (fires : Fires) (counts : Counts) (limit : ℕ) (p : Pr
       → IsRest gives fires counts limit p table first second before after status
   rest_so before after status r are report said low =
       by_report before after status r said low
-      (by_table p (λ (t : LifeTable). IsBehind p t image IsRunStatus (IsRunBehind gives fires counts limit p t image second) r) report.0 table report.1 are report.2)
+      (by_table p (λ (t : LifeTable). IsToldBehind p t image IsRunStatus (IsRunBehind gives fires counts limit p t image second) r) report.0 table report.1 are report.2)
 
 pub goes_on : (gives : Gives) (fires : Fires) (counts : Counts) (w : Wanted) (first second : List ℕ) (before after : Option (List ℕ)) (status : ℕ) (r : Report)
     → IsReport gives fires counts w second r → Reports before after status r → status ≤ 4 → GoesOn gives fires counts w first second before after status

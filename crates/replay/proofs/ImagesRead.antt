@@ -1,5 +1,8 @@
 -- What the file of a checkpoint is, by what was read of it, and where a run begins by that.
-use Rattle.replay.proofs.Common.{◌≡◌, ◌<◌, ◌≤◌, ℕ, Bool, true, false, List, length, nat_lt, Option, Some, None, inl, inr, refl, sym, ap, ◌∙◌, arith, if◌then◌else◌, bytes_eq, nat_tests, Image, image_bytes, IsImage, Mode, Run, Check, Lives, Proof, Save, AreLives, LifeTable, Program, First, Behind, Beginning, CheckpointCode, TooLong, BadImage, OtherRules, CanBegin, RunsIn, IsUnread, Checkpoint, has_image, is_refused, of_decoded, wanted_at, wanted_behind, refuses_checkpoint}
+use Rattle.replay.proofs.Common.{◌≡◌, ◌<◌, ◌≤◌, ℕ, Bool, true, false, List, length, nat_lt, Option, Some, None, inl, inr, refl, sym, ap, ◌∙◌, arith}
+use Rattle.replay.proofs.Common.{if◌then◌else◌, bytes_eq, nat_tests, Image, image_bytes, IsImage, Mode, Run, Check, Lives, Proof, Save, AreLives, LifeTable}
+use Rattle.replay.proofs.Common.{Program, First, Behind, Beginning, CheckpointCode, TooLong, BadImage, OtherRules, CanBegin, RunsIn, IsUnread, Checkpoint}
+use Rattle.replay.proofs.Common.{has_image, is_refused, of_decoded, wanted_at, wanted_behind, refuses_checkpoint}
 use Rattle.checkpoint.specs.Reading.{decoded}
 use Rattle.checkpoint.proofs.Exact.{AreOctets}
 use Rattle.checkpoint.proofs.Whole.{decoded_takes, decoded_again}

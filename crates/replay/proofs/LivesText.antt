@@ -1,5 +1,6 @@
 -- The lines of lives, type by type.
-use Rattle.replay.proofs.Common.{◌≡◌, ◌⊎◌, inl, inr, ◌<◌, ◌++◌, ℕ, zero, suc, List, [], ◌∷◌, length, drop, get_or, refl, sym, ap, ◌∙◌, arith, append_assoc, append-nil, length-append, Life, life_text, lives_text}
+use Rattle.replay.proofs.Common.{◌≡◌, ◌⊎◌, inl, inr, ◌<◌, ◌++◌, ℕ, zero, suc, List, [], ◌∷◌, length, drop, get_or, refl, sym, ap, ◌∙◌, arith, append_assoc}
+use Rattle.replay.proofs.Common.{append-nil, length-append, Life, life_text, lives_text}
 use Rattle.rule_model.specs.declared.program.TypeInfo.{TypeInfo}
 
 -- the first of the rest

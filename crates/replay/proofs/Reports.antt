@@ -1,9 +1,14 @@
 -- What is wanted, by what was found.
-use Rattle.replay.proofs.Common.{◌≡◌, ◌≢◌, inl, inr, ◌≤◌, ◌+◌, ℕ, Bool, true, false, List, length, take, nat_lt, Option, Some, None, refl, sym, ap, subst, ◌∙◌, arith, IfSome, nat_tests, take_all, length-take, IsMissing, IsFound, file_told, AppendsFront, rules_text, file_limit, Mode, Program, Gives, Fires, Counts, Refusal, checkpoint_in, image_limit, is_refused, Reading, Accepted, Refused, reading, whole_file, IsRefused, lines_of, LifeTable, run_on, setting_of, Report, IsBehind, IsDefinite, IsFront, IsFrontOfEach, IsReport, IsRunBehind, IsRunStatus, IsSavedBehind, IsSaveStatus, Wanted, Files, usage_line, refuses, refuses_checkpoint, runs, resumes, saves, saves_on, accepts, tells_lives, proves, sums_up, wanted_by_file, wanted_by_reading, wanted_from, rules_in, IsRefusedFile, HasRefused}
+use Rattle.replay.proofs.Common.{◌≡◌, ◌≢◌, inl, inr, ◌≤◌, ◌+◌, ℕ, Bool, true, false, List, length, take, nat_lt, Option, Some, None, refl, sym, ap, subst, ◌∙◌}
+use Rattle.replay.proofs.Common.{arith, IfSome, nat_tests, take_all, length-take, IsMissing, IsOnShelf, file_told, AppendsFront, rules_text, file_limit, Mode}
+use Rattle.replay.proofs.Common.{Program, Gives, Fires, Counts, Refusal, checkpoint_in, image_limit, Reading, Accepted, Refused, reading, whole_file}
+use Rattle.replay.proofs.Common.{IsRefusedReading, lines_of, LifeTable, run_on, setting_of, Report, IsToldBehind, IsDefinite, IsFront, IsFrontOfEach, IsReport}
+use Rattle.replay.proofs.Common.{IsRunBehind, IsRunStatus, IsSavedBehind, IsSaveStatus, Wanted, Files, usage_line, refuses, refuses_checkpoint, runs, resumes}
+use Rattle.replay.proofs.Common.{saves, saves_on, accepts, tells_lives, proves, sums_up, wanted_by_file, wanted_by_reading, wanted_from, wanted_rules}
+use Rattle.replay.proofs.Common.{IsRefusedFile, HasRefused}
 use Rattle.drl_parse.specs.Parsed.{parsed, parsed_by}
 use Rattle.replay.specs.declared.refusal.RefusalCode.TheVariants.{Missing}
-use Rattle.replay.specs.declared.refused_checkpoint.CheckpointCode.TheVariants.{Missing as NoImage}
-use Rattle.replay.specs.Checkpoints.{checkpoint_of, rules_of}
+use Rattle.replay.specs.Checkpoints.{checkpoint_of, rules_shown}
 use Rattle.replay.specs.Wanted.{wanted_by_name, wanted_by_number}
 use Rattle.replay.proofs.Tables.{behind_one, by_table, one_report, one_saved}
 
@@ -24,11 +29,11 @@ front_by gives fires counts (refuses refusal) script q before after is front = f
 front_by gives fires counts (refuses_checkpoint code) script q before after is front = front_of gives fires counts (refuses_checkpoint code) script q before after tt is front
 front_by gives fires counts (runs limit p) script q before after is front = front_of gives fires counts (runs limit p) script q before after tt is front
 front_by gives fires counts (resumes limit image p) script q before after is front = λ table are r some.
-    let h = by_table p (λ (t : LifeTable). IsBehind p t image IsRunStatus (IsRunBehind gives fires counts limit p t image script) q) is.0 table is.1 are is.2 in
+    let h = by_table p (λ (t : LifeTable). IsToldBehind p t image IsRunStatus (IsRunBehind gives fires counts limit p t image script) q) is.0 table is.1 are is.2 in
     rw (behind_one p table image IsRunStatus (IsRunBehind gives fires counts limit p table image script) (λ w a b h k. h ∙ sym k) q r h some) front
 front_by gives fires counts (saves limit rules p) script q before after is front = front_of gives fires counts (saves limit rules p) script q before after tt is front
 front_by gives fires counts (saves_on limit image p) script q before after is front = λ table are r some.
-    let h = by_table p (λ (t : LifeTable). IsBehind p t image IsSaveStatus (IsSavedBehind gives fires counts limit p t image script) q) is.0 table is.1 are is.2 in
+    let h = by_table p (λ (t : LifeTable). IsToldBehind p t image IsSaveStatus (IsSavedBehind gives fires counts limit p t image script) q) is.0 table is.1 are is.2 in
     rw (behind_one p table image IsSaveStatus (IsSavedBehind gives fires counts limit p table image script)
     (λ w a b h k. one_saved p table limit image.run (run_on (setting_of gives fires counts limit p table) w image.run (lines_of script)).comes_to a b h k) q r h some) front
 front_by gives fires counts (accepts p) script q before after is front = front_of gives fires counts (accepts p) script q before after tt is front
@@ -71,17 +76,17 @@ pub within_taken : (file : List ℕ) → reading (take (file_limit + 1) file) �
 within_taken file = taken_by (nat_lt file_limit (length file)) file refl
 
 -- the text of the rules too
-rules_by : (long : Bool) (file : List ℕ) → nat_lt file_limit (length file) ≡ long → rules_of (take (file_limit + 1) file) ≡ rules_of file
-unfolding parsed parsed_by rules_of
-rules_by false file e = ap rules_of (take_all (file_limit + 1) file (short_file file_limit (length file) e))
+rules_by : (long : Bool) (file : List ℕ) → nat_lt file_limit (length file) ≡ long → rules_shown (take (file_limit + 1) file) ≡ rules_shown file
+unfolding parsed parsed_by rules_shown
+rules_by false file e = ap rules_shown (take_all (file_limit + 1) file (short_file file_limit (length file) e))
 rules_by true file e = rw (long_taken file_limit file e, e) refl
 
-rules_in_read : (o : Option (List ℕ)) (read : List ℕ) → (o ≢ None) → IfSome o (λ file. read ≡ take (file_limit + 1) file) → rules_in o ≡ rules_of read
+rules_in_read : (o : Option (List ℕ)) (read : List ℕ) → (o ≢ None) → IfSome o (λ file. read ≡ take (file_limit + 1) file) → wanted_rules o ≡ rules_shown read
 rules_in_read None read found h = absurd (found refl)
-rules_in_read (Some file) read found h = sym (ap rules_of h ∙ rules_by (nat_lt file_limit (length file)) file refl)
+rules_in_read (Some file) read found h = sym (ap rules_shown h ∙ rules_by (nat_lt file_limit (length file)) file refl)
 
-pub rules_found : (name : List ℕ) (told : Option Files) (files : Files) (read : List ℕ) → told ≡ Some files → IsFound told name → IfSome (file_told told name) (λ file. read ≡ take (file_limit + 1) file)
-    → rules_in (files name) ≡ rules_of read
+pub rules_found : (name : List ℕ) (told : Option Files) (files : Files) (read : List ℕ) → told ≡ Some files → IsOnShelf told name → IfSome (file_told told name) (λ file. read ≡ take (file_limit + 1) file)
+    → wanted_rules (files name) ≡ rules_shown read
 rules_found name told files read e there h =
     let is_found : files name ≢ None = rw e at there in
     let whole : IfSome (files name) (λ file. read ≡ take (file_limit + 1) file) = rw e at h in
@@ -97,7 +102,7 @@ image_in_read : (rules : List ℕ) (o : Option (List ℕ)) (read : List ℕ) →
 image_in_read rules None read found h = absurd (found refl)
 image_in_read rules (Some file) read found h = sym (ap (checkpoint_of rules) h ∙ image_by (nat_lt image_limit (length file)) rules file refl)
 
-pub image_found : (rules name : List ℕ) (told : Option Files) (files : Files) (read : List ℕ) → told ≡ Some files → IsFound told name → IfSome (file_told told name) (λ file. read ≡ take (image_limit + 1) file)
+pub image_found : (rules name : List ℕ) (told : Option Files) (files : Files) (read : List ℕ) → told ≡ Some files → IsOnShelf told name → IfSome (file_told told name) (λ file. read ≡ take (image_limit + 1) file)
     → checkpoint_in rules (files name) ≡ checkpoint_of rules read
 image_found rules name told files read e there h =
     let is_found : files name ≢ None = rw e at there in
@@ -109,7 +114,7 @@ found_reading None read found h = absurd (found refl)
 found_reading (Some file) read found h = (file, refl, sym (within_taken file) ∙ ap reading (sym h))
 
 -- the file that was read
-pub a_file : (of_program : Program → Wanted) (name : List ℕ) (told : Option Files) (files : Files) (read : List ℕ) (found : Reading) → told ≡ Some files → IsFound told name
+pub a_file : (of_program : Program → Wanted) (name : List ℕ) (told : Option Files) (files : Files) (read : List ℕ) (found : Reading) → told ≡ Some files → IsOnShelf told name
     → IfSome (file_told told name) (λ file. read ≡ take (file_limit + 1) file) → reading read ≡ found → wanted_by_name of_program files name ≡ wanted_by_reading of_program found
 unfolding wanted_by_name
 a_file of_program name told files read found e there h is =
@@ -119,15 +124,15 @@ a_file of_program name told files read found e there h is =
     ap (wanted_by_file of_program) r.1 ∙ ap (wanted_by_reading of_program) (r.2 ∙ is)
 
 -- the file that was read is accepted
-pub accepted_file : (mode : Mode) (limit : ℕ) (image : Option (List ℕ)) (name : List ℕ) (told : Option Files) (files : Files) (read : List ℕ) (p : Program) → told ≡ Some files → IsFound told name
+pub accepted_file : (mode : Mode) (limit : ℕ) (image : Option (List ℕ)) (name : List ℕ) (told : Option Files) (files : Files) (read : List ℕ) (p : Program) → told ≡ Some files → IsOnShelf told name
     → IfSome (file_told told name) (λ file. read ≡ take (file_limit + 1) file) → reading read ≡ Accepted p
-    → wanted_by_name (wanted_from mode limit image files (rules_in (files name))) files name ≡ wanted_from mode limit image files (rules_of read) p
+    → wanted_by_name (wanted_from mode limit image files (wanted_rules (files name))) files name ≡ wanted_from mode limit image files (rules_shown read) p
 accepted_file mode limit image name told files read p e there h is =
-    a_file (wanted_from mode limit image files (rules_in (files name))) name told files read (Accepted p) e there h is
+    a_file (wanted_from mode limit image files (wanted_rules (files name))) name told files read (Accepted p) e there h is
     ∙ ap (λ (rules : List ℕ). wanted_from mode limit image files rules p) (rules_found name told files read e there h)
 
 -- the file that was read is refused
-pub refused_file : (name : List ℕ) (told : Option Files) (read : List ℕ) (refusal : Refusal) → IsFound told name → IfSome (file_told told name) (λ file. read ≡ take (file_limit + 1) file)
+pub refused_file : (name : List ℕ) (told : Option Files) (read : List ℕ) (refusal : Refusal) → IsOnShelf told name → IfSome (file_told told name) (λ file. read ≡ take (file_limit + 1) file)
     → reading read ≡ Refused refusal → HasRefused told name
 refused_file name None read refusal there h e = tt
 refused_file name (Some files) read refusal there h e = here (files name) there h
@@ -136,4 +141,4 @@ refused_file name (Some files) read refusal there h e = here (files name) there 
     here None there h = absurd (there refl)
     here (Some file) there h =
         let is : reading file ≡ Refused refusal = sym (within_taken file) ∙ ap reading (sym h) ∙ e in
-        subst IsRefused (sym is) tt
+        subst IsRefusedReading (sym is) tt

@@ -1,5 +1,7 @@
 -- What a rule file is, by the function and by the relation.
-use Rattle.replay.proofs.Common.{◌≡◌, ◌↔◌, ℕ, List, length, Option, Some, None, refl, ap, ◌∙◌, subst, Written, Parsed, IsLexical, file_limit, is_file, outside, too_long, lexical, parsed, obstacle, Failure, failure_of, checked_by, Reading, plain_file, of_checked, of_obstacle, of_parsed, reading}
+use Rattle.replay.proofs.Common.{◌≡◌, ◌↔◌, ℕ, List, length, Option, Some, None, refl, ap, ◌∙◌, subst, Written, Parsed, IsLexical, file_limit, is_file, outside}
+use Rattle.replay.proofs.Common.{too_long, lexical, parsed, obstacle, Failure, failure_of, checked_by, Reading, plain_file, of_checked, of_obstacle, of_parsed}
+use Rattle.replay.proofs.Common.{reading}
 use Rattle.std.specs.Prelude.{◌≤◌, ◌<◌}
 use Rattle.drl_lex.specs.declared.fault.LexCode.{LexCode}
 use Rattle.drl_grammar.specs.Files.{IsFile, IsOutside}

@@ -1,12 +1,19 @@
 -- What a run does, from its beginning.
-use Rattle.replay.proofs.Common.{◌≡◌, Bool, nat_lt, ◌≢◌, ◌⊎◌, inl, inr, ◌<◌, ◌≤◌, ◌+◌, ◌^◌, ℕ, true, false, List, [], length, Option, Some, None, Result, Err, refl, sym, ap, ap₂, subst, ◌∙◌, arith, IfSome, if◌then◌else◌, Rose, append, AppendsFront, count_after, lines_of, Image, RunPart, RuleFile, Mode, Run, Save, LifeTable, Program, AreLives, World, empty_world, Script, Limit, Gives, Fires, Counts, part_at, run_on, Outcome, RunState, setting_of, whole_run, Long, StoppedAtRead, limit_text, first_behind, Beginning, First, Behind, TooLong, Unfit, BeginsIn, CanBegin, IsBeginningFor, part_of, image_bytes, can_go_on, image_limit, ShelfSeen, seen, TellsScript, MayEnd, RunOf, Says, Report, IsReport, IsWritten, IsFront, IsLong, IsRunStatus, IsBehindSome, IsRunBehind, IsSaved, IsSaveStatus, IsStopped, TakesFor, checkpoint_report, fault_status, image_report, outcome_report, run_status, Wanted, wanted_at, MayRefuse}
+use Rattle.replay.proofs.Common.{◌≡◌, Bool, nat_lt, ◌≢◌, ◌⊎◌, inl, inr, ◌<◌, ◌≤◌, ◌+◌, ◌^◌, ℕ, true, false, List, [], length, Option, Some, None, Result, Err}
+use Rattle.replay.proofs.Common.{refl, sym, ap, ap₂, subst, ◌∙◌, arith, IfSome, if◌then◌else◌, Rose, append, AppendsFront, count_after, lines_of, Image}
+use Rattle.replay.proofs.Common.{RunPart, RuleFile, Mode, Run, Save, LifeTable, Program, AreLives, World, empty_world, Script, Limit, Gives, Fires, Counts}
+use Rattle.replay.proofs.Common.{run_part_at, run_on, Outcome, RunState, setting_of, whole_run, Long, StoppedAtRead, limit_text, first_behind, Beginning, First}
+use Rattle.replay.proofs.Common.{Behind, TooLong, Unfit, BeginsIn, CanBegin, IsBeginningFor, part_of, image_bytes, can_go_on, image_limit, ShelfSeen, seen}
+use Rattle.replay.proofs.Common.{TellsScript, MayEnd, RunOf, Says, Report, IsReport, IsWritten, IsFront, IsLong, IsRunStatus, IsBehindSome, IsRunBehind}
+use Rattle.replay.proofs.Common.{IsSaved, IsSaveStatus, IsStopped, TakesFor, checkpoint_report, fault_status, image_report, outcome_report, run_status, Wanted}
+use Rattle.replay.proofs.Common.{wanted_at, MayRefuse}
 use Rattle.image_laws.specs.Images.{IsImageOf}
 use Rattle.script_run.specs.declared.fault.RunFault.{RunFault}
 use Rattle.script_run.specs.declared.fault.RunFault.TheVariants.{ReadFault, WriteFault, NoMemory, ScriptLong}
 use Rattle.script_run.specs.declared.turn.Ended.{Ended}
 use Rattle.script_run.specs.declared.turn.Progress.{Progress}
 use Rattle.script_run.specs.Run.{run as run_lines}
-use Rattle.script_run.specs.Turns.{Takes, AtEnd, Reaches}
+use Rattle.script_run.specs.Turns.{TakesScript, AtEnd, ReachesWorld}
 use Rattle.replay.proofs.Calls.{some_is, written_as, none_written}
 use Rattle.replay.proofs.Reports.{front_none}
 use Rattle.replay.proofs.Tables.{by_table}
@@ -65,12 +72,12 @@ is_long ScriptLong e = refl
 abbrev pub failing : {T : Type 0} → RunFault → Result T RunFault
 failing f = Err f
 
-takes_at : (f : RunFault) (n : ℕ) → Takes (failing f) n → n ≤ 2 ^ 30 + 1 → TakesFor (fault_status f) n
+takes_at : (f : RunFault) (n : ℕ) → TakesScript (failing f) n → n ≤ 2 ^ 30 + 1 → TakesFor (fault_status f) n
 takes_at f n takes most = record {
   most = most;
-  more = λ eight. let t : Takes (failing ScriptLong) n = subst (λ (g : RunFault). Takes (failing g) n) (is_long f eight) takes in t;
+  more = λ eight. let t : TakesScript (failing ScriptLong) n = subst (λ (g : RunFault). TakesScript (failing g) n) (is_long f eight) takes in t;
   done = λ low. absurd (omega (arith, (high f).0, low));
-  failed = λ five. let t : Takes (failing ReadFault) n = subst (λ (g : RunFault). Takes (failing g) n) (is_read_fault f five) takes in t;
+  failed = λ five. let t : TakesScript (failing ReadFault) n = subst (λ (g : RunFault). TakesScript (failing g) n) (is_read_fault f five) takes in t;
 }
 
 -- ---- what is wanted at a beginning
@@ -150,9 +157,9 @@ save_stopped gives fires counts limit (Behind image) p script left before = refl
 
 -- the image of an engine that a run left is the one that is wanted
 pub saved_so : {E : Type 0} (p : Program) (table : LifeTable) (limit : ℕ) (first : RunPart) (stands : E → World → Type 0) (e : E) (progress : Progress) (o : Option RunState) (image : Image)
-    → Reaches stands o (Some (e, progress)) → image.run ≡ part_at limit first progress → ((w : World) → stands e w → IsImageOf p table w image) → IsSaved p table limit first o (image_report image)
+    → ReachesWorld stands o (Some (e, progress)) → image.run ≡ run_part_at limit first progress → ((w : World) → stands e w → IsImageOf p table w image) → IsSaved p table limit first o (image_report image)
 saved_so p table limit first stands e progress None image h run is = absurd h
-saved_so p table limit first stands e progress (Some s) image h run is = (image, is s.world h.1, run ∙ ap (part_at limit first) h.0, refl)
+saved_so p table limit first stands e progress (Some s) image h run is = (image, is s.world h.1, run ∙ ap (run_part_at limit first) h.0, refl)
 
 -- the status of an image that is written
 report_status : (long small faulty : Bool) (bytes : List ℕ)
@@ -166,22 +173,22 @@ pub image_status : (image : Image) → IsSaveStatus (image_report image).status
 image_status image = report_status (nat_lt image_limit (length (image_bytes image))) (can_go_on image) image.run.faulty (image_bytes image)
 
 -- the limit was met
-pub limited_so : {E : Type 0} (p : Program) (table : LifeTable) (limit : ℕ) (first : RunPart) (stands : E → World → Type 0) (o : Option RunState) → Reaches stands o None
+pub limited_so : {E : Type 0} (p : Program) (table : LifeTable) (limit : ℕ) (first : RunPart) (stands : E → World → Type 0) (o : Option RunState) → ReachesWorld stands o None
     → IsSaved p table limit first o (record { bytes = limit_text limit; status = 4 })
 limited_so p table limit first stands None h = refl
 limited_so p table limit first stands (Some s) h = absurd h
 
 -- the same, as far as the script is told
 pub saved_told : {E : Type 0} (p : Program) (table : LifeTable) (limit : ℕ) (first : RunPart) (stands : E → World → Type 0) (e : E) (progress : Progress) (image : Image) (outcome : List ℕ → Outcome)
-    (left : Option (List ℕ)) (text : List ℕ) (ended : Ended) → image.run ≡ part_at limit first progress → ((w : World) → stands e w → IsImageOf p table w image)
-    → IfSome left (λ bytes. (text ≡ (outcome bytes).bytes) × (ended ≡ (outcome bytes).ended) × Reaches stands (outcome bytes).comes_to (Some (e, progress)))
+    (left : Option (List ℕ)) (text : List ℕ) (ended : Ended) → image.run ≡ run_part_at limit first progress → ((w : World) → stands e w → IsImageOf p table w image)
+    → IfSome left (λ bytes. (text ≡ (outcome bytes).bytes) × (ended ≡ (outcome bytes).ended) × ReachesWorld stands (outcome bytes).comes_to (Some (e, progress)))
     → IfSome left (λ bytes. IsSaved p table limit first (outcome bytes).comes_to (image_report image))
 saved_told p table limit first stands e progress image outcome None text ended run is h = tt
 saved_told p table limit first stands e progress image outcome (Some bytes) text ended run is h = saved_so p table limit first stands e progress (outcome bytes).comes_to image h.2 run is
 
 pub limited_told : {E : Type 0} (p : Program) (table : LifeTable) (limit : ℕ) (first : RunPart) (stands : E → World → Type 0) (outcome : List ℕ → Outcome)
     (left : Option (List ℕ)) (text : List ℕ) (ended : Ended)
-    → IfSome left (λ bytes. (text ≡ (outcome bytes).bytes) × (ended ≡ (outcome bytes).ended) × Reaches stands (outcome bytes).comes_to None)
+    → IfSome left (λ bytes. (text ≡ (outcome bytes).bytes) × (ended ≡ (outcome bytes).ended) × ReachesWorld stands (outcome bytes).comes_to None)
     → IfSome left (λ bytes. IsSaved p table limit first (outcome bytes).comes_to (record { bytes = limit_text limit; status = 4 }))
 limited_told p table limit first stands outcome None text ended h = tt
 limited_told p table limit first stands outcome (Some bytes) text ended h = limited_so p table limit first stands (outcome bytes).comes_to h.2
@@ -236,7 +243,7 @@ module _ (gives : Gives) (fires : Fires) (counts : Counts) (name : List ℕ) (im
   -- the run stopped
   pub run_failed : (f : RunFault)
       → ((w : World) → BeginsIn p table b w → IfSome left (λ bytes. AppendsFront before after (run_on (setting_of gives fires counts limit p table) w (part_of b) (lines_of bytes)).bytes))
-      → ((n : ℕ) × (given' ≡ count_after given n) × Takes (failing f) n × (n ≤ 2 ^ 30 + 1))
+      → ((n : ℕ) × (given' ≡ count_after given n) × TakesScript (failing f) n × (n ≤ 2 ^ 30 + 1))
       → (f ≡ ReadFault → Rose faults faults') → (f ≡ WriteFault → Rose failed failed')
       → ((w : World) → BeginsIn p table b w → f ≡ ScriptLong → IfSome left (Long (run_on (setting_of gives fires counts limit p table) w (part_of b))))
       → (f ≡ ScriptLong → IfSome left (λ bytes. 2 ^ 30 < length bytes))
@@ -342,7 +349,7 @@ module _ (gives : Gives) (fires : Fires) (counts : Counts) (name : List ℕ) (im
 
   -- the run stopped before it was saved
   pub save_failed : (f : RunFault)
-      → ((n : ℕ) × (given' ≡ count_after given n) × Takes (failing f) n × (n ≤ 2 ^ 30 + 1))
+      → ((n : ℕ) × (given' ≡ count_after given n) × TakesScript (failing f) n × (n ≤ 2 ^ 30 + 1))
       → (f ≡ ReadFault → Rose faults faults') → f ≢ WriteFault
       → ((w : World) → BeginsIn p table b w → f ≡ ScriptLong → IfSome left (Long (run_on (setting_of gives fires counts limit p table) w (part_of b))))
       → (f ≡ ScriptLong → IfSome left (λ bytes. 2 ^ 30 < length bytes))

@@ -1,18 +1,20 @@
 -- A program has at most one table of lives, and so at most one report.
-use Rattle.replay.proofs.Common.{◌≡◌, ◌⊎◌, inl, inr, ℕ, zero, suc, ℤ, pos, Bool, true, false, List, [], ◌∷◌, length, Option, Some, None, refl, sym, ap, subst, ◌∙◌, arith, slice_get, ◌≤ℤ◌, lines_of, Life, LifeTable, Program, IsLifeOf, AreLives, Gives, Fires, Counts, RunState, setting_of, whole_run, Image, RunPart, World, first_part, Report, IsBehind, IsBehindSome, IsDefinite, IsReport, IsSaved, image_report, outcome_report, summary_report, lives_text, Wanted, usage_line, refuses, refuses_checkpoint, runs, resumes, saves, saves_on, accepts, tells_lives, proves, sums_up}
-use Rattle.std.proofs.lemmas.Int.{ints}
+use Rattle.replay.proofs.Common.{◌≡◌, ◌⊎◌, inl, inr, ℕ, zero, suc, ℤ, pos, List, [], ◌∷◌, length, Option, Some, None, refl, sym, ap, subst, ◌∙◌, arith}
+use Rattle.replay.proofs.Common.{slice_get, ◌≤ℤ◌, lines_of, Life, LifeTable, Program, IsLifeOf, AreLives, Gives, Fires, Counts, RunState, setting_of, whole_run}
+use Rattle.replay.proofs.Common.{Image, RunPart, World, first_part, Report, IsToldBehind, IsBehindSome, IsDefinite, IsReport, IsSaved, image_report}
+use Rattle.replay.proofs.Common.{outcome_report, summary_report, lives_text, Wanted, usage_line, refuses, refuses_checkpoint, runs, resumes, saves, saves_on}
+use Rattle.replay.proofs.Common.{accepts, tells_lives, proves, sums_up}
+use Rattle.std.proofs.lemmas.Bool.{both_ways}
 use Rattle.gen_load.specs.Script.{script_text}
 use Rattle.rule_model.specs.declared.life.Life.TheVariants.{Plain, Explicit, Finite, Infinite}
 use Rattle.rule_model.specs.Types.{is_event, expiry_of}
 use Rattle.rule_lives.specs.Lifetimes.{IsLife, PatternLife}
 use Rattle.rule_lives.specs.Reach.{Limit, finite, infinite, Below}
 use Rattle.image_laws.proofs.One.{one_image}
-
-int_same : (a b : ℤ) → a ≤ℤ b → b ≤ℤ a → a ≡ b
-int_same a b h k = omega (arith, ints)
+use Rattle.fx_base.proofs.Orders.{≤ℤ_antisym}
 
 same_limit : (l m : Limit) → Below l m → Below m l → l ≡ m
-same_limit (finite a) (finite b) h k = ap finite (int_same a b h k)
+same_limit (finite a) (finite b) h k = ap finite (≤ℤ_antisym a b h k)
 same_limit (finite a) infinite h k = absurd k
 same_limit infinite (finite b) h k = absurd h
 same_limit infinite infinite h k = refl
@@ -28,9 +30,6 @@ below_other p ty l m h k = here h.reached
 same_life : (p : Program) (ty : ℕ) (l m : Limit) → IsLife p ty l → IsLife p ty m → l ≡ m
 same_life p ty l m h k = same_limit l m (below_other p ty l m h k) (below_other p ty m l k h)
 
-not_both : (b : Bool) → b ≡ false → b ≡ true → ⊥
-not_both b h k = cc
-
 not_some : (o : Option ℤ) (n : ℤ) → o ≡ Some n → o ≡ None → ⊥
 not_some o n h k = cc
 
@@ -43,18 +42,18 @@ same_finite n m e = cc
 -- a type has one life
 one_life : (p : Program) (ty : ℕ) (a b : Life) → IsLifeOf p ty a → IsLifeOf p ty b → a ≡ b
 one_life p ty Plain Plain h k = refl
-one_life p ty Plain (Explicit n) h k = absurd (not_both (is_event p ty) h k.0)
-one_life p ty Plain (Finite n) h k = absurd (not_both (is_event p ty) h k.event)
-one_life p ty Plain Infinite h k = absurd (not_both (is_event p ty) h k.event)
-one_life p ty (Explicit n) Plain h k = absurd (not_both (is_event p ty) k h.0)
+one_life p ty Plain (Explicit n) h k = absurd (both_ways (is_event p ty) h k.0)
+one_life p ty Plain (Finite n) h k = absurd (both_ways (is_event p ty) h k.event)
+one_life p ty Plain Infinite h k = absurd (both_ways (is_event p ty) h k.event)
+one_life p ty (Explicit n) Plain h k = absurd (both_ways (is_event p ty) k h.0)
 one_life p ty (Explicit n) (Explicit m) h k = ap Explicit (same_some (expiry_of p ty) n m h.1 k.1)
 one_life p ty (Explicit n) (Finite m) h k = absurd (not_some (expiry_of p ty) n h.1 k.unexpired)
 one_life p ty (Explicit n) Infinite h k = absurd (not_some (expiry_of p ty) n h.1 k.unexpired)
-one_life p ty (Finite n) Plain h k = absurd (not_both (is_event p ty) k h.event)
+one_life p ty (Finite n) Plain h k = absurd (both_ways (is_event p ty) k h.event)
 one_life p ty (Finite n) (Explicit m) h k = absurd (not_some (expiry_of p ty) m k.1 h.unexpired)
 one_life p ty (Finite n) (Finite m) h k = ap Finite (same_finite n m (same_life p ty (finite n) (finite m) h k))
 one_life p ty (Finite n) Infinite h k = absurd (let e : finite n ≡ infinite = same_life p ty (finite n) infinite h k in cc)
-one_life p ty Infinite Plain h k = absurd (not_both (is_event p ty) k h.event)
+one_life p ty Infinite Plain h k = absurd (both_ways (is_event p ty) k h.event)
 one_life p ty Infinite (Explicit m) h k = absurd (not_some (expiry_of p ty) m k.1 h.unexpired)
 one_life p ty Infinite (Finite m) h k = absurd (let e : infinite ≡ finite m = same_life p ty infinite (finite m) h k in cc)
 one_life p ty Infinite Infinite h k = refl
@@ -93,7 +92,7 @@ one_saved p table limit first (Some s) r q h k = h.3 ∙ ap image_report (one_im
 
 -- what is written behind an image is what is written in a world of it
 pub behind_one : (p : Program) (table : LifeTable) (image : Image) (Ends : ℕ → Type 0) (Says : World → Report → Type 0) → ((w : World) (r q : Report) → Says w r → Says w q → r ≡ q)
-    → (q r : Report) → IsBehind p table image Ends Says q → IsBehindSome p table image Says r → r ≡ q
+    → (q r : Report) → IsToldBehind p table image Ends Says q → IsBehindSome p table image Says r → r ≡ q
 behind_one p table image Ends Says one q r (inl h) (inl k) = k.1 ∙ sym h.1
 behind_one p table image Ends Says one q r (inl h) (inr k) = absurd (h.0 k.0)
 behind_one p table image Ends Says one q r (inr h) (inl k) = absurd (k.0 h.0)

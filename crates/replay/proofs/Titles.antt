@@ -1,5 +1,6 @@
 -- Under other names of rules a program is one that engines run.
-use Rattle.replay.proofs.Common.{◌≡◌, ◌≤◌, ◌&&◌, ◌||◌, ℕ, suc, Bool, List, [], ◌∷◌, length, drop, refl, sym, ap, ◌∙◌, subst, All, list_all, list_any, Program, first_or, with_titles}
+use Rattle.replay.proofs.Common.{◌≡◌, ◌≤◌, ◌&&◌, ◌||◌, ℕ, suc, Bool, List, [], ◌∷◌, length, drop, refl, sym, ap, ◌∙◌, subst, All, list_all, list_any, Program}
+use Rattle.replay.proofs.Common.{first_or, with_titles}
 use Rattle.std.proofs.lemmas.List.Elements.{All-cons, All-head, All-tail}
 use Rattle.rule_model.specs.declared.program.Rule.{Rule}
 use Rattle.rule_model.specs.Simple.{observes_type}

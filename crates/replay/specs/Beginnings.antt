@@ -1,6 +1,6 @@
 -- Where a run begins, and in which worlds.
 use Rattle.std.specs.Prelude.{◌≡◌, ◌⊎◌, ℕ, List, Option, Some, None}
-use Rattle.fx_io.specs.Outside.{Rose, IsFound}
+use Rattle.fx_io.specs.Outside.{Rose, IsOnShelf}
 use Rattle.command_words.specs.declared.asking.Mode.{Mode}
 use Rattle.command_words.specs.declared.asking.Mode.TheVariants.{Run, Save}
 use Rattle.checkpoint.specs.declared.image.RunPart.{RunPart}
@@ -38,8 +38,8 @@ RunsIn mode = (mode ≡ Run) ⊎ (mode ≡ Save)
 -- with the name of an image, where one is given: a run begins behind the image of a file that is there, if the shelf tells its files
 abbrev pub IsBeginningFor : Option (List ℕ → Option (List ℕ)) → Mode → Option (List ℕ) → Beginning → Type 0
 IsBeginningFor told mode name (First rules) = RunsIn mode → name ≡ None
-IsBeginningFor told mode name (Behind image) = RunsIn mode × (it : List ℕ) × (name ≡ Some it) × IsFound told it
+IsBeginningFor told mode name (Behind image) = RunsIn mode × (it : List ℕ) × (name ≡ Some it) × IsOnShelf told it
 
 -- the checkpoint that is asked for is missing, as the counts of misses say, or is there
 abbrev pub RefusesFor : Option (List ℕ → Option (List ℕ)) → (List ℕ → ℕ) → (List ℕ → ℕ) → Mode → Option (List ℕ) → Type 0
-RefusesFor told before after mode name = RunsIn mode × (it : List ℕ) × (name ≡ Some it) × (Rose (before it) (after it) ⊎ IsFound told it)
+RefusesFor told before after mode name = RunsIn mode × (it : List ℕ) × (name ≡ Some it) × (Rose (before it) (after it) ⊎ IsOnShelf told it)

@@ -10,7 +10,7 @@ use Rattle.rule_model.specs.declared.program.Program.{Program}
 use Rattle.rule_lives.specs.Keeping.{AreLives}
 use Rattle.rule_world.specs.Lawful.{IsLawful}
 use Rattle.script_run.specs.Firings.{Gives, Fires, Counts}
-use Rattle.script_run.specs.Parts.{EndsLine, first_part, part_at}
+use Rattle.script_run.specs.Parts.{EndsLine, first_part, run_part_at}
 use Rattle.script_run.specs.Run.{RunState, setting_of, whole_run}
 use Rattle.replay.specs.Report.{run_status}
 use Rattle.replay.specs.Wanted.{Wanted, refuses_checkpoint, resumes, saves_on}
@@ -30,7 +30,7 @@ pub record IsImageOfRun (gives : Gives) (fires : Fires) (counts : Counts) (limit
   pub comes_to : (whole_run (setting_of gives fires counts limit p table) (lines_of script)).comes_to ≡ Some state
   pub lawful : IsLawful p state.world
   pub is_image : IsImageOf p table state.world image
-  pub run : image.run ≡ part_at limit (first_part image.run.rules) state.progress
+  pub run : image.run ≡ run_part_at limit (first_part image.run.rules) state.progress
 
 -- the bytes that are written, and the status, are those of the run of both scripts as one, without the lines of the first
 pub record IsRest (gives : Gives) (fires : Fires) (counts : Counts) (limit : ℕ) (p : Program) (table : LifeTable) (first second : List ℕ) (before after : Option (List ℕ)) (status : ℕ) : Type 0 where

@@ -7,7 +7,8 @@ use Rattle.script_run.specs.Firings.{Gives, Fires, Counts}
 use Rattle.replay.specs.Notices.{usage}
 use Rattle.replay.specs.Refusals.{refusal_text}
 use Rattle.replay.specs.Report.{Report, Reports, IsWritten, IsLong, IsStopped, TakesFor}
-use Rattle.replay.specs.Wanted.{Wanted, Files, runs, resumes, saves, saves_on, usage_line, wanted_from, rules_in, wanted_by_name, wanted_by_number, IfRefuses, RunsScript, IsUnfit, ReadFails, MayRefuse}
+use Rattle.replay.specs.Wanted.{Wanted, Files, runs, resumes, saves, saves_on, usage_line, wanted_from, wanted_rules, wanted_by_name, wanted_by_number}
+use Rattle.replay.specs.Wanted.{IfRefuses, RunsScript, IsUnfit, ReadFails, MayRefuse}
 
 -- ---- what is seen of the outside
 
@@ -45,7 +46,7 @@ seen shelf left given read_faults written write_faults = record {
 -- what is wanted, as far as the shelf tells its files
 abbrev pub wanted_told : Option Asked → Option Files → Option Wanted
 wanted_told None told = Some usage_line
-wanted_told (Some (RuleFile name mode limit image)) told = option_map (λ files. wanted_by_name (wanted_from mode limit image files (rules_in (files name))) files name) told
+wanted_told (Some (RuleFile name mode limit image)) told = option_map (λ files. wanted_by_name (wanted_from mode limit image files (wanted_rules (files name))) files name) told
 wanted_told (Some (Load number limit)) told = Some (wanted_by_number number limit)
 
 -- where a run is wanted, the script tells these bytes

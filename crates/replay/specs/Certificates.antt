@@ -23,12 +23,12 @@ edge_text e = codes " " ++ point_text e.x ++ codes "-" ++ point_text e.y ++ code
 abbrev pub sum_text : ℤ → List ℕ
 sum_text sum = codes " sum " ++ signed_decimal sum
 
-abbrev pub limit_text : Limit → List ℕ
-limit_text (finite n) = signed_decimal n
-limit_text infinite = codes "infinite"
+abbrev pub life_limit_text : Limit → List ℕ
+life_limit_text (finite n) = signed_decimal n
+life_limit_text infinite = codes "infinite"
 
 abbrev pub tail_text : Limit → List ℕ
-tail_text tail = codes " tail " ++ limit_text tail
+tail_text tail = codes " tail " ++ life_limit_text tail
 
 abbrev pub conditions_in : Option Rule → List Condition
 conditions_in (Some rule) = rule.conditions

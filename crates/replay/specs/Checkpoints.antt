@@ -19,8 +19,8 @@ shown_file (outside item line) = []
 shown_file too_long = []
 shown_file (lexical reason line) = []
 
-unfoldable pub rules_of : List ℕ → List ℕ
-rules_of bytes = shown_file (parsed bytes)
+unfoldable pub rules_shown : List ℕ → List ℕ
+rules_shown bytes = shown_file (parsed bytes)
 
 -- ---- what the file of a checkpoint is to rules with a text
 
@@ -47,10 +47,10 @@ checkpoint_in rules None = is_refused Missing
 checkpoint_in rules (Some bytes) = checkpoint_of rules bytes
 
 -- what a fault says of the file: it is refused with this code; a failed read, and want of memory, say nothing
-abbrev pub Tells : Checkpoint → CheckpointFault → Type 0
-Tells found (Refused code) = found ≡ is_refused code
-Tells found ReadFault = Unit {0}
-Tells found NoMemory = Unit {0}
+abbrev pub TellsCheckpointFault : Checkpoint → CheckpointFault → Type 0
+TellsCheckpointFault found (Refused code) = found ≡ is_refused code
+TellsCheckpointFault found ReadFault = Unit {0}
+TellsCheckpointFault found NoMemory = Unit {0}
 
 -- ---- images that are written
 

@@ -61,13 +61,13 @@ abbrev pub reading : List ℕ → Reading
 reading bytes = of_parsed (parsed bytes)
 
 -- a program is one that the engine may run
-abbrev pub IsSound : Reading → Type 0
-IsSound (Accepted program) = IsRunnable program
-IsSound (Refused refusal) = Unit {0}
+abbrev pub IsSoundReading : Reading → Type 0
+IsSoundReading (Accepted program) = IsRunnable program
+IsSoundReading (Refused refusal) = Unit {0}
 
-abbrev pub IsRefused : Reading → Type 0
-IsRefused (Accepted program) = ⊥
-IsRefused (Refused refusal) = Unit {0}
+abbrev pub IsRefusedReading : Reading → Type 0
+IsRefusedReading (Accepted program) = ⊥
+IsRefusedReading (Refused refusal) = Unit {0}
 
 -- the name of a code, as the line prints it
 abbrev pub refusal_code_text : RefusalCode → List ℕ

@@ -10,7 +10,7 @@ use Rattle.script_run.specs.declared.fault.RunFault.TheVariants.{ReadFault, Writ
 use Rattle.script_run.specs.declared.turn.Ended.{Ended}
 use Rattle.script_run.specs.declared.turn.Ended.TheVariants.{Script, Limit}
 use Rattle.script_run.specs.Firings.{Gives, Fires, Counts}
-use Rattle.script_run.specs.Parts.{first_part, part_at, run_on}
+use Rattle.script_run.specs.Parts.{first_part, run_part_at, run_on}
 use Rattle.script_run.specs.Run.{Outcome, RunState, setting_of, whole_run}
 use Rattle.script_run.specs.Texts.{limit_text}
 use Rattle.script_run.specs.Unfinished.{Long, StoppedAtRead}
@@ -68,7 +68,7 @@ image_report image = if nat_lt image_limit (length (image_bytes image)) then che
 -- run comes to, with what it says of the run that began behind this part.
 abbrev pub IsSaved : Program → LifeTable → ℕ → RunPart → Option RunState → Report → Type 0
 IsSaved p table limit first None r = r ≡ record { bytes = limit_text limit; status = 4 }
-IsSaved p table limit first (Some s) r = (image : Image) × IsImageOf p table s.world image × (image.run ≡ part_at limit first s.progress) × (r ≡ image_report image)
+IsSaved p table limit first (Some s) r = (image : Image) × IsImageOf p table s.world image × (image.run ≡ run_part_at limit first s.progress) × (r ≡ image_report image)
 
 -- the statuses of a run, and of one that is saved
 abbrev pub IsRunStatus : ℕ → Type 0
@@ -79,8 +79,8 @@ IsSaveStatus status = IsRunStatus status ⊎ (status ≡ 9)
 
 -- What is written behind an image: that it does not fit, or what is said of each lawful world of which it is the image. Of an image of no
 -- world nothing is said but the status.
-abbrev pub IsBehind : Program → LifeTable → Image → (ℕ → Type 0) → (World → Report → Type 0) → Report → Type 0
-IsBehind p table image Ends Says r =
+abbrev pub IsToldBehind : Program → LifeTable → Image → (ℕ → Type 0) → (World → Report → Type 0) → Report → Type 0
+IsToldBehind p table image Ends Says r =
     ((Fits p table image → ⊥) × (r ≡ checkpoint_report Unfit))
     ⊎ (Fits p table image × Ends r.status × ((w : World) → IsLawful p w → IsImageOf p table w image → Says w r))
 
@@ -108,12 +108,12 @@ IsReport gives fires counts usage_line script r = r ≡ record { bytes = usage; 
 IsReport gives fires counts (refuses refusal) script r = r ≡ record { bytes = refusal_text refusal; status = 3 }
 IsReport gives fires counts (refuses_checkpoint code) script r = r ≡ checkpoint_report code
 IsReport gives fires counts (resumes limit image program) script r =
-    (table : LifeTable) × AreLives program table × IsBehind program table image IsRunStatus (IsRunBehind gives fires counts limit program table image script) r
+    (table : LifeTable) × AreLives program table × IsToldBehind program table image IsRunStatus (IsRunBehind gives fires counts limit program table image script) r
 IsReport gives fires counts (saves limit rules program) script r =
     (table : LifeTable) × AreLives program table
     × IsSaved program table limit (first_part rules) (whole_run (setting_of gives fires counts limit program table) (lines_of script)).comes_to r
 IsReport gives fires counts (saves_on limit image program) script r =
-    (table : LifeTable) × AreLives program table × IsBehind program table image IsSaveStatus (IsSavedBehind gives fires counts limit program table image script) r
+    (table : LifeTable) × AreLives program table × IsToldBehind program table image IsSaveStatus (IsSavedBehind gives fires counts limit program table image script) r
 IsReport gives fires counts (runs limit program) script r =
     (table : LifeTable) × AreLives program table × (r ≡ outcome_report (whole_run (setting_of gives fires counts limit program table) (lines_of script)))
 IsReport gives fires counts (accepts program) script r = r ≡ record { bytes = accepted_text program; status = 0 }

@@ -18,8 +18,8 @@ use Rattle.replay.specs.declared.beginning.Beginning.{Beginning}
 use Rattle.replay.specs.declared.beginning.Beginning.TheVariants.{First, Behind}
 use Rattle.replay.specs.Beginnings.{RunsIn, RefusesFor}
 use Rattle.replay.specs.declared.refused_checkpoint.CheckpointCode.{CheckpointCode}
-use Rattle.replay.specs.Checkpoints.{Checkpoint, has_image, is_refused, checkpoint_in, rules_of}
-use Rattle.replay.specs.Refusals.{reading, whole_file, IsRefused}
+use Rattle.replay.specs.Checkpoints.{Checkpoint, has_image, is_refused, checkpoint_in, rules_shown}
+use Rattle.replay.specs.Refusals.{reading, whole_file, IsRefusedReading}
 
 pub data Wanted : Type 0 where
   -- the usage line: the words are refused
@@ -80,9 +80,9 @@ wanted_by_file of_program (Some file) = wanted_by_reading of_program (reading fi
 unfoldable pub wanted_by_name : (Program → Wanted) → Files → List ℕ → Wanted
 wanted_by_name of_program files name = wanted_by_file of_program (files name)
 
-abbrev pub rules_in : Option (List ℕ) → List ℕ
-rules_in None = []
-rules_in (Some file) = rules_of file
+abbrev pub wanted_rules : Option (List ℕ) → List ℕ
+wanted_rules None = []
+wanted_rules (Some file) = rules_shown file
 
 -- of a rule file with this text, in a mode, with a limit of firings and, where one is named, behind a checkpoint
 abbrev pub wanted_from : Mode → ℕ → Option (List ℕ) → Files → List ℕ → Program → Wanted
@@ -105,7 +105,7 @@ wanted_by_number number limit = wanted_by_reading (sums_up number limit) (readin
 
 abbrev pub wanted_by : Option Asked → Files → Wanted
 wanted_by None files = usage_line
-wanted_by (Some (RuleFile name mode limit image)) files = wanted_by_name (wanted_from mode limit image files (rules_in (files name))) files name
+wanted_by (Some (RuleFile name mode limit image)) files = wanted_by_name (wanted_from mode limit image files (wanted_rules (files name))) files name
 wanted_by (Some (Load number limit)) files = wanted_by_number number limit
 
 -- of these words
@@ -151,7 +151,7 @@ MayRefuse told before after (Load number limit) = ⊥
 -- the bytes of the file of this name are refused, where the shelf has it
 abbrev pub IsRefusedFile : Option (List ℕ) → Type 0
 IsRefusedFile None = ⊥
-IsRefusedFile (Some file) = IsRefused (reading file)
+IsRefusedFile (Some file) = IsRefusedReading (reading file)
 
 -- the same where the shelf tells its files; of another nothing is said
 abbrev pub HasRefused : Option Files → List ℕ → Type 0

@@ -1,12 +1,12 @@
 //! Reads the checkpoint from which a run goes on.
 ghost use Rattle.std.specs.Prelude.{◌≡◌, ◌⊎◌, ℕ, List, Some, None, IfOk, IfErr, IsErrOf, option_map};
-ghost use Rattle.fx_io.specs.Outside.{Rose, IsFound};
+ghost use Rattle.fx_io.specs.Outside.{Rose, IsOnShelf};
 ghost use Rattle.checkpoint.specs.declared.image.Image.{Image as ImageData};
 ghost use Rattle.rule_model.specs.declared.program.Program.{Program};
 ghost use Rattle.replay.specs.declared.beginning.Beginning.TheVariants.{Behind};
 ghost use Rattle.replay.specs.declared.refused_checkpoint.CheckpointCode.{CheckpointCode as CodeData};
 ghost use Rattle.replay.specs.Beginnings.{IsBeginningFor, RefusesFor};
-ghost use Rattle.replay.specs.Checkpoints.{checkpoint_of, checkpoint_in, has_image, rules_of, Tells};
+ghost use Rattle.replay.specs.Checkpoints.{checkpoint_of, checkpoint_in, has_image, rules_shown, TellsCheckpointFault};
 ghost use Rattle.replay.specs.Wanted.{Files, wanted_at, wanted_from, refuses_checkpoint};
 ghost use Rattle.replay.specs.declared.checkpoint_file.CheckpointFault.TheVariants.{NoMemory as OutOfMemory};
 
@@ -41,9 +41,9 @@ impl From<NoMemory> for CheckpointFault {
 }
 
 // The text of the rules of a file, as it is shown.
-#[tactic(auto, unfolding(crate::specs::Checkpoints::rules_of))]
+#[tactic(auto, unfolding(crate::specs::Checkpoints::rules_shown))]
 fn rules_of(alloc: Global, file: &[u8]) -> Result<Vec<u8>, NoMemory>
-    ensures { IfOk result (λ rules. rules.items ≡ rules_of file.now) }
+    ensures { IfOk result (λ rules. rules.items ≡ rules_shown file.now) }
 {
     match parse(alloc, file) {
         Ok(file) => show(alloc, &file),
@@ -56,7 +56,7 @@ fn rules_of(alloc: Global, file: &[u8]) -> Result<Vec<u8>, NoMemory>
 #[tactic(auto, unfolding(crate::specs::Checkpoints::checkpoint_of))]
 fn image_of(alloc: Global, rules: &[u8], bytes: &[u8]) -> Result<Image, CheckpointFault>
     ensures found { IfOk result (λ image. checkpoint_of rules.now bytes.now ≡ has_image image) }
-    ensures refused { IfErr result (Tells (checkpoint_of rules.now bytes.now)) }
+    ensures refused { IfErr result (TellsCheckpointFault (checkpoint_of rules.now bytes.now)) }
     ensures read { IsErrOf result CheckpointFault.ReadFault → ⊥ }
 {
     if bytes.len() > IMAGE_MAX {
@@ -83,10 +83,10 @@ fn read_image<F: Shelf>(
     rules: &[u8],
 ) -> Result<Image, CheckpointFault>
     ensures found { IfOk result (λ image. (files : Files) → F.files shelf.old ≡ Some files → checkpoint_in rules.now (files name.now) ≡ has_image image) }
-    ensures refused { IfErr result (λ fault. (files : Files) → F.files shelf.old ≡ Some files → Tells (checkpoint_in rules.now (files name.now)) fault) }
-    ensures there { IfOk result (λ _. IsFound (F.files shelf.old) name.now) }
+    ensures refused { IfErr result (λ fault. (files : Files) → F.files shelf.old ≡ Some files → TellsCheckpointFault (checkpoint_in rules.now (files name.now)) fault) }
+    ensures there { IfOk result (λ _. IsOnShelf (F.files shelf.old) name.now) }
     ensures cause { (code : CodeData) → IsErrOf result (CheckpointFault.Refused code)
-        → Rose (F.misses shelf.old name.now) (F.misses shelf.new name.now) ⊎ IsFound (F.files shelf.old) name.now }
+        → Rose (F.misses shelf.old name.now) (F.misses shelf.new name.now) ⊎ IsOnShelf (F.files shelf.old) name.now }
     ensures failed { IsErrOf result CheckpointFault.ReadFault → Rose (F.faults shelf.old name.now) (F.faults shelf.new name.now) }
 {
     let bytes = match read_whole(alloc, shelf, name, IMAGE_MAX + 1) {
@@ -108,11 +108,11 @@ fn behind<F: Shelf>(
     shelf: &mut F,
 ) -> Result<Beginning, CheckpointFault>
     ensures found { IfOk result (λ beginning. (image : ImageData) × (beginning ≡ Behind image)
-        × ((files : Files) → F.files shelf.old ≡ Some files → checkpoint_in (rules_of file.now) (files name.now) ≡ has_image image)) }
-    ensures refused { IfErr result (λ fault. (files : Files) → F.files shelf.old ≡ Some files → Tells (checkpoint_in (rules_of file.now) (files name.now)) fault) }
-    ensures there { IfOk result (λ _. IsFound (F.files shelf.old) name.now) }
+        × ((files : Files) → F.files shelf.old ≡ Some files → checkpoint_in (rules_shown file.now) (files name.now) ≡ has_image image)) }
+    ensures refused { IfErr result (λ fault. (files : Files) → F.files shelf.old ≡ Some files → TellsCheckpointFault (checkpoint_in (rules_shown file.now) (files name.now)) fault) }
+    ensures there { IfOk result (λ _. IsOnShelf (F.files shelf.old) name.now) }
     ensures cause { (code : CodeData) → IsErrOf result (CheckpointFault.Refused code)
-        → Rose (F.misses shelf.old name.now) (F.misses shelf.new name.now) ⊎ IsFound (F.files shelf.old) name.now }
+        → Rose (F.misses shelf.old name.now) (F.misses shelf.new name.now) ⊎ IsOnShelf (F.files shelf.old) name.now }
     ensures failed { IsErrOf result CheckpointFault.ReadFault → Rose (F.faults shelf.old name.now) (F.faults shelf.new name.now) }
 {
     let rules = rules_of(alloc, file)?;
@@ -129,10 +129,10 @@ pub(crate) fn beginning<F: Shelf>(
     shelf: &mut F,
 ) -> Result<Beginning, CheckpointFault>
     ensures found { IfOk result (λ beginning. (files : Files) → F.files shelf.old ≡ Some files → (limit : ℕ) (p : Program)
-        → wanted_from mode limit (option_map (λ name. name.now) image.entry) files (rules_of file.now) p ≡ wanted_at mode limit beginning p) }
+        → wanted_from mode limit (option_map (λ name. name.now) image.entry) files (rules_shown file.now) p ≡ wanted_at mode limit beginning p) }
     ensures asked { IfOk result (IsBeginningFor (F.files shelf.old) mode (option_map (λ name. name.now) image.entry)) }
     ensures refused { (code : CodeData) → IsErrOf result (CheckpointFault.Refused code) → (files : Files) → F.files shelf.old ≡ Some files → (limit : ℕ) (p : Program)
-        → wanted_from mode limit (option_map (λ name. name.now) image.entry) files (rules_of file.now) p ≡ refuses_checkpoint code }
+        → wanted_from mode limit (option_map (λ name. name.now) image.entry) files (rules_shown file.now) p ≡ refuses_checkpoint code }
     ensures cause { (code : CodeData) → IsErrOf result (CheckpointFault.Refused code)
         → RefusesFor (F.files shelf.old) (F.misses shelf.old) (F.misses shelf.new) mode (option_map (λ name. name.now) image.entry) }
     ensures failed { IsErrOf result CheckpointFault.ReadFault → (name : List ℕ) × (option_map (λ it. it.now) image.entry ≡ Some name)

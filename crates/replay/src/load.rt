@@ -59,7 +59,7 @@ fn sum_up<K: Sink>(alloc: Global, number: u32, ended: Ended, printed: &[u8], out
     ensures cause { result ≡ 6 → Rose (K.faults out.old) (K.faults out.new) }
 {
     let mut text = Vec::new(alloc);
-    match push_summary(&mut text, alloc, number, printed) {
+    match push_summary(&mut text, number, printed) {
         Ok(()) => say(out, text.as_slice(), status_of(ended)),
         Err(_) => 7,
     }

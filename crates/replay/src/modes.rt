@@ -15,13 +15,13 @@ use script_run::{push_number, push_signed};
 use std::alloc::Global;
 
 // Appends the line of an accepted file.
-fn push_accepted(text: &mut Vec<u8>, alloc: Global, program: &Program) -> Result<(), NoMemory>
+fn push_accepted(text: &mut Vec<u8>, program: &Program) -> Result<(), NoMemory>
     ensures { OnOk result (text.new.items ≡ text.old.items ++ accepted_text program.now) }
 {
     text.extend_from_slice(b"accepted ")?;
-    push_number(text, alloc, program.types.as_slice().len() as u64)?;
+    push_number(text, program.types.as_slice().len() as u64)?;
     text.extend_from_slice(b" types ")?;
-    push_number(text, alloc, program.rules.as_slice().len() as u64)?;
+    push_number(text, program.rules.as_slice().len() as u64)?;
     text.extend_from_slice(b" rules\n")?;
     Ok(())
 }
@@ -36,7 +36,7 @@ fn begin_life(text: &mut Vec<u8>, name: &str) -> Result<(), NoMemory>
 }
 
 // Appends how long the events of a type of this name matter.
-fn push_life(text: &mut Vec<u8>, alloc: Global, name: &str, life: Life) -> Result<(), NoMemory>
+fn push_life(text: &mut Vec<u8>, name: &str, life: Life) -> Result<(), NoMemory>
     ensures { OnOk result (text.new.items ≡ text.old.items ++ life_text name.now life) }
 {
     match life {
@@ -44,12 +44,12 @@ fn push_life(text: &mut Vec<u8>, alloc: Global, name: &str, life: Life) -> Resul
         Life::Explicit(expiry) => {
             begin_life(text, name)?;
             text.extend_from_slice(b" explicit ")?;
-            push_signed(text, alloc, expiry)?;
+            push_signed(text, expiry)?;
         }
         Life::Finite(most) => {
             begin_life(text, name)?;
             text.extend_from_slice(b" ")?;
-            push_signed(text, alloc, most)?;
+            push_signed(text, most)?;
         }
         Life::Infinite => {
             begin_life(text, name)?;
@@ -61,16 +61,11 @@ fn push_life(text: &mut Vec<u8>, alloc: Global, name: &str, life: Life) -> Resul
 }
 
 // Appends the lives of types.
-fn push_lives(
-    text: &mut Vec<u8>,
-    alloc: Global,
-    types: &[TypeInfo],
-    lives: &[Life],
-) -> Result<(), NoMemory>
+fn push_lives(text: &mut Vec<u8>, types: &[TypeInfo], lives: &[Life]) -> Result<(), NoMemory>
     ensures { OnOk result (text.new.items ≡ text.old.items ++ lives_text types.now lives.now) }
 {
     for (ty, life) in types.iter().zip(lives) {
-        push_life(text, alloc, ty.name.as_str(), *life)?;
+        push_life(text, ty.name.as_str(), *life)?;
     }
     Ok(())
 }
@@ -83,12 +78,7 @@ fn lives_of(alloc: Global, program: &Program) -> Result<(LifeTable, Vec<u8>), No
 {
     let table = lives(alloc, program)?;
     let mut text = Vec::new(alloc);
-    push_lives(
-        &mut text,
-        alloc,
-        program.types.as_slice(),
-        table.lives.as_slice(),
-    )?;
+    push_lives(&mut text, program.types.as_slice(), table.lives.as_slice())?;
     Ok((table, text))
 }
 
@@ -100,7 +90,7 @@ pub(crate) fn accept<K: Sink>(alloc: Global, program: &Program, out: &mut K) -> 
     ensures cause { result ≡ 6 → Rose (K.faults out.old) (K.faults out.new) }
 {
     let mut text = Vec::new(alloc);
-    match push_accepted(&mut text, alloc, program) {
+    match push_accepted(&mut text, program) {
         Ok(()) => say(out, text.as_slice(), 0),
         Err(_) => 7,
     }

@@ -8,13 +8,14 @@ ghost use Rattle.rule_world.specs.Programs.{IsRunnable};
 ghost use Rattle.life_edges.specs.Tails.{limit_of};
 ghost use Rattle.life_proof.specs.declared.part.Proof.{Proof as Certificate};
 ghost use Rattle.life_proof.specs.Good.{tail_at, IsGood};
-ghost use Rattle.replay.specs.Certificates.{conditions_in, edge_text, head_text, limit_text, part_text, point_text, proof_text, shown_text, sum_text, tail_text};
+ghost use Rattle.replay.specs.Certificates.{conditions_in, edge_text, head_text, life_limit_text, part_text, point_text, proof_text, shown_text, sum_text, tail_text};
 ghost use Rattle.replay.specs.Proving.{IsProofFront};
 
 use crate::saying::say;
 use expiry_infer::lives;
 use fx_base::{Bound, NoMemory, RuleId};
 use fx_io::Sink;
+use itoa::Buffer;
 use life_proof::{Part, Proof, certify, confirm, tail_at_place, total};
 use rule_model::{Condition, LifeTable, Program};
 use script_run::{name_of_rule, push_number, push_quoted, push_signed};
@@ -37,7 +38,7 @@ fn tail_of(program: &Program, part: &Part) -> Bound
     tail_at_place(program, conditions_of(program, part.rule), part.to as usize)
 }
 
-fn push_point(text: &mut Vec<u8>, alloc: Global, point: u8) -> Result<(), NoMemory>
+fn push_point(text: &mut Vec<u8>, point: u8) -> Result<(), NoMemory>
     ensures { OnOk result (text.new.items ≡ text.old.items ++ point_text point) }
 {
     if point % 2 == 0 {
@@ -45,43 +46,43 @@ fn push_point(text: &mut Vec<u8>, alloc: Global, point: u8) -> Result<(), NoMemo
     } else {
         text.extend_from_slice(b"e")?;
     }
-    push_number(text, alloc, u64::from(point / 2) + 1)
+    push_number(text, u64::from(point / 2) + 1)
 }
 
-fn push_edge(text: &mut Vec<u8>, alloc: Global, edge: &NetEdge) -> Result<(), NoMemory>
+fn push_edge(text: &mut Vec<u8>, edge: &NetEdge) -> Result<(), NoMemory>
     ensures { OnOk result (text.new.items ≡ text.old.items ++ edge_text edge.now) }
 {
     text.extend_from_slice(b" ")?;
-    push_point(text, alloc, edge.x)?;
+    push_point(text, edge.x)?;
     text.extend_from_slice(b"-")?;
-    push_point(text, alloc, edge.y)?;
+    push_point(text, edge.y)?;
     text.extend_from_slice(b"<=")?;
-    push_signed(text, alloc, edge.most)
+    push_signed(text, edge.most)
 }
 
-fn push_edges(text: &mut Vec<u8>, alloc: Global, edges: &[NetEdge]) -> Result<(), NoMemory>
+fn push_edges(text: &mut Vec<u8>, edges: &[NetEdge]) -> Result<(), NoMemory>
     ensures { OnOk result (text.new.items ≡ text.old.items ++ flat_map edge_text edges.now) }
 {
     for edge in edges {
-        push_edge(text, alloc, edge)?;
+        push_edge(text, edge)?;
     }
     Ok(())
 }
 
-fn push_sum(text: &mut Vec<u8>, alloc: Global, sum: i128) -> Result<(), NoMemory>
+fn push_sum(text: &mut Vec<u8>, sum: i128) -> Result<(), NoMemory>
     ensures { OnOk result (text.new.items ≡ text.old.items ++ sum_text sum) }
 {
     text.extend_from_slice(b" sum ")?;
-    let digits = sum.to_string(alloc)?;
-    text.extend_from_slice(digits.as_bytes())?;
+    let mut digits = Buffer::new();
+    text.extend_from_slice(digits.format(sum).as_bytes())?;
     Ok(())
 }
 
-fn push_limit(text: &mut Vec<u8>, alloc: Global, limit: Bound) -> Result<(), NoMemory>
-    ensures { OnOk result (text.new.items ≡ text.old.items ++ limit_text (limit_of limit)) }
+fn push_limit(text: &mut Vec<u8>, limit: Bound) -> Result<(), NoMemory>
+    ensures { OnOk result (text.new.items ≡ text.old.items ++ life_limit_text (limit_of limit)) }
 {
     match limit {
-        Bound::Finite(most) => push_signed(text, alloc, most),
+        Bound::Finite(most) => push_signed(text, most),
         Bound::Infinite => {
             text.extend_from_slice(b"infinite")?;
             Ok(())
@@ -89,17 +90,16 @@ fn push_limit(text: &mut Vec<u8>, alloc: Global, limit: Bound) -> Result<(), NoM
     }
 }
 
-fn push_tail(text: &mut Vec<u8>, alloc: Global, tail: Bound) -> Result<(), NoMemory>
+fn push_tail(text: &mut Vec<u8>, tail: Bound) -> Result<(), NoMemory>
     ensures { OnOk result (text.new.items ≡ text.old.items ++ tail_text (limit_of tail)) }
 {
     text.extend_from_slice(b" tail ")?;
-    push_limit(text, alloc, tail)
+    push_limit(text, tail)
 }
 
 // Appends the edges of a cycle, or of a path with the tail that follows it.
 fn push_shown(
     text: &mut Vec<u8>,
-    alloc: Global,
     cycle: bool,
     edges: &[NetEdge],
     tail: Bound,
@@ -108,58 +108,43 @@ fn push_shown(
 {
     if cycle {
         text.extend_from_slice(b" cycle")?;
-        push_edges(text, alloc, edges)?;
-        push_sum(text, alloc, total(edges))
+        push_edges(text, edges)?;
+        push_sum(text, total(edges))
     } else {
-        push_edges(text, alloc, edges)?;
-        push_sum(text, alloc, total(edges))?;
-        push_tail(text, alloc, tail)
+        push_edges(text, edges)?;
+        push_sum(text, total(edges))?;
+        push_tail(text, tail)
     }
 }
 
-fn push_head(
-    text: &mut Vec<u8>,
-    alloc: Global,
-    program: &Program,
-    part: &Part,
-) -> Result<(), NoMemory>
+fn push_head(text: &mut Vec<u8>, program: &Program, part: &Part) -> Result<(), NoMemory>
     ensures { OnOk result (text.new.items ≡ text.old.items ++ head_text (slice_get program.now.rules part.now.rule.0) part.now) }
 {
     text.extend_from_slice(b"proof \"")?;
     let name = name_of_rule(program.rules.as_slice(), part.rule.0 as usize);
     push_quoted(text, name.as_bytes())?;
     text.extend_from_slice(b"\" ")?;
-    push_number(text, alloc, u64::from(part.from) + 1)?;
+    push_number(text, u64::from(part.from) + 1)?;
     text.extend_from_slice(b" ")?;
-    push_number(text, alloc, u64::from(part.to) + 1)
+    push_number(text, u64::from(part.to) + 1)
 }
 
 // Appends the line of a part.
-fn push_part(
-    text: &mut Vec<u8>,
-    alloc: Global,
-    program: &Program,
-    part: &Part,
-) -> Result<(), NoMemory>
+fn push_part(text: &mut Vec<u8>, program: &Program, part: &Part) -> Result<(), NoMemory>
     ensures { OnOk result (text.new.items ≡ text.old.items ++ part_text program.now part.now) }
 {
     let tail = tail_of(program, part);
-    push_head(text, alloc, program, part)?;
-    push_shown(text, alloc, part.cycle, part.edges.as_slice(), tail)?;
+    push_head(text, program, part)?;
+    push_shown(text, part.cycle, part.edges.as_slice(), tail)?;
     text.push(b'\n')?;
     Ok(())
 }
 
-fn push_parts(
-    text: &mut Vec<u8>,
-    alloc: Global,
-    program: &Program,
-    parts: &[Part],
-) -> Result<(), NoMemory>
+fn push_parts(text: &mut Vec<u8>, program: &Program, parts: &[Part]) -> Result<(), NoMemory>
     ensures { OnOk result (text.new.items ≡ text.old.items ++ flat_map (part_text program.now) parts.now) }
 {
     for part in parts {
-        push_part(text, alloc, program, part)?;
+        push_part(text, program, part)?;
     }
     Ok(())
 }
@@ -169,7 +154,7 @@ fn lines_of(alloc: Global, program: &Program, certificate: &Proof) -> Result<Vec
     ensures { IfOk result (λ text. text.items ≡ proof_text program.now certificate.now) }
 {
     let mut text = Vec::new(alloc);
-    push_parts(&mut text, alloc, program, certificate.parts.as_slice())?;
+    push_parts(&mut text, program, certificate.parts.as_slice())?;
     text.extend_from_slice(b"confirmed\n")?;
     Ok(text)
 }

@@ -5,7 +5,6 @@ use drl_check::CheckCode;
 use drl_parse::LexCode;
 use fx_base::NoMemory;
 use script_run::push_number;
-use std::alloc::Global;
 use subrules::ExpandCode;
 
 /// Why a rule file is refused.
@@ -69,17 +68,13 @@ fn push_code(text: &mut Vec<u8>, code: RefusalCode) -> Result<(), NoMemory>
 }
 
 /// Appends the line of a refused file.
-pub(crate) fn push_refusal(
-    text: &mut Vec<u8>,
-    alloc: Global,
-    refusal: Refusal,
-) -> Result<(), NoMemory>
+pub(crate) fn push_refusal(text: &mut Vec<u8>, refusal: Refusal) -> Result<(), NoMemory>
     ensures { OnOk result (text.new.items ≡ text.old.items ++ refusal_text refusal) }
 {
     text.extend_from_slice(b"refused item ")?;
-    push_number(text, alloc, refusal.item)?;
+    push_number(text, refusal.item)?;
     text.extend_from_slice(b" line ")?;
-    push_number(text, alloc, refusal.line)?;
+    push_number(text, refusal.line)?;
     text.extend_from_slice(b" ")?;
     push_code(text, refusal.code)?;
     text.push(b'\n')?;

@@ -1,7 +1,7 @@
 ghost use Rattle.std.specs.Prelude.{◌≡◌, ◌<◌, ◌≤◌, ◌-◌, ℕ, List, length, take, drop, slice_index_or, Ok, Err, Result, IfOk, IfSome, IsErrOf};
-ghost use Rattle.fx_io.specs.Outside.{Rose, file_told, IsMissing, IsFound};
-ghost use Rattle.drl_parse.specs.Parsed.{Parsed, Gives as GivesFile};
-ghost use Rattle.drl_check.specs.Answers.{Fails};
+ghost use Rattle.fx_io.specs.Outside.{Rose, file_told, IsMissing, IsOnShelf};
+ghost use Rattle.drl_parse.specs.Parsed.{Parsed, GivesParsed as GivesFile};
+ghost use Rattle.drl_check.specs.Answers.{FailsCheck};
 ghost use Rattle.drl_check.specs.Checks.{Failure};
 ghost use Rattle.drl_grammar.specs.declared.written.Written.{Written as WrittenFile};
 ghost use Rattle.subrules.specs.Expanded.{origins as origins_of};
@@ -9,7 +9,7 @@ ghost use Rattle.subrules.specs.Faults.{obstacle};
 ghost use Rattle.subrules.specs.Outcomes.{IsExpanded, IsRefusal};
 ghost use Rattle.rule_world.specs.Programs.{IsRunnable};
 ghost use Rattle.rule_model.specs.declared.program.Program.{Program as ProgramData};
-ghost use Rattle.replay.specs.Refusals.{of_parsed, of_obstacle, of_checked, reading, IsSound};
+ghost use Rattle.replay.specs.Refusals.{of_parsed, of_obstacle, of_checked, reading, IsSoundReading};
 ghost use Rattle.replay.specs.Titles.{renamed, with_titles};
 ghost use Rattle.replay.specs.declared.rule_file.Reading.TheVariants.{Refused};
 ghost use Rattle.replay.specs.declared.rule_file.FileFault.TheVariants.{NoMemory as OutOfMemory};
@@ -56,8 +56,8 @@ fn read_piece<F: Shelf>(
     ensures bytes { IfSome (file_told (F.files shelf.old) name.now) (λ file. IfOk result (λ n. take n buffer.new ≡ take n (drop at file))) }
     ensures end { IfSome (file_told (F.files shelf.old) name.now) (λ file. result ≡ Ok 0 → length file ≤ at) }
     ensures missing { IsErrOf result ShelfFault.Missing → IsMissing (F.files shelf.old) name.now }
-    ensures found { IfOk result (λ _. IsFound (F.files shelf.old) name.now) }
-    ensures failed_found { IsErrOf result ShelfFault.Failed → IsFound (F.files shelf.old) name.now }
+    ensures found { IfOk result (λ _. IsOnShelf (F.files shelf.old) name.now) }
+    ensures failed_found { IsErrOf result ShelfFault.Failed → IsOnShelf (F.files shelf.old) name.now }
     ensures files { F.files shelf.new ≡ F.files shelf.old }
     ensures counts { (other : List ℕ) → F.faults shelf.old other ≤ F.faults shelf.new other }
     ensures miss_counts { (other : List ℕ) → F.misses shelf.old other ≤ F.misses shelf.new other }
@@ -77,11 +77,11 @@ pub(crate) fn read_whole<F: Shelf>(
 ) -> Result<Vec<u8>, FileFault>
     requires { 0 < most }
     ensures bytes { IfSome (file_told (F.files shelf.old) name.now) (λ file. IfOk result (λ v. v.items ≡ take most file)) }
-    ensures found { IfOk result (λ _. IsFound (F.files shelf.old) name.now) }
+    ensures found { IfOk result (λ _. IsOnShelf (F.files shelf.old) name.now) }
     ensures missing { IsErrOf result FileFault.Missing → IsMissing (F.files shelf.old) name.now }
     ensures cause { IsErrOf result FileFault.ReadFault → Rose (F.faults shelf.old name.now) (F.faults shelf.new name.now) }
     ensures miss { IsErrOf result FileFault.Missing → Rose (F.misses shelf.old name.now) (F.misses shelf.new name.now) }
-    ensures failed_found { IsErrOf result FileFault.ReadFault → IsFound (F.files shelf.old) name.now }
+    ensures failed_found { IsErrOf result FileFault.ReadFault → IsOnShelf (F.files shelf.old) name.now }
     ensures files { F.files shelf.new ≡ F.files shelf.old }
     ensures counts { (other : List ℕ) → F.faults shelf.old other ≤ F.faults shelf.new other }
     ensures miss_counts { (other : List ℕ) → F.misses shelf.old other ≤ F.misses shelf.new other }
@@ -154,7 +154,7 @@ fn origin(origins: &[u64], item: u32) -> u64
 
 // The place and the code of a fault of the checks, of a file written out to one whose items come from these.
 fn check_refusal(fault: CheckFault, origins: &[u64]) -> Result<Refusal, NoMemory>
-    ensures told { IfOk result (λ refusal. (file : WrittenFile) (found : Result ProgramData Failure) → origins.now ≡ origins_of file.items → Fails fault found
+    ensures told { IfOk result (λ refusal. (file : WrittenFile) (found : Result ProgramData Failure) → origins.now ≡ origins_of file.items → FailsCheck fault found
         → of_checked file found ≡ Refused refusal) }
 {
     match fault {
@@ -208,7 +208,7 @@ fn renamed(alloc: Global, rules: Vec<Rule>, titles: &[Text]) -> Result<Vec<Rule>
 #[tactic(auto, using(crate::proofs::Expanding::accepted_of, crate::proofs::Expanding::refused_of))]
 fn read_expanded(alloc: Global, expanded: &Expanded) -> Result<Reading, NoMemory>
     ensures reading { IfOk result (λ found. (file : WrittenFile) → IsExpanded file expanded.now → found ≡ of_obstacle file (obstacle file.items)) }
-    ensures sound { IfOk result IsSound }
+    ensures sound { IfOk result IsSoundReading }
 {
     match check(alloc, &expanded.file) {
         Ok(program) => {
@@ -225,7 +225,7 @@ fn read_expanded(alloc: Global, expanded: &Expanded) -> Result<Reading, NoMemory
 // What a file is.
 fn read_file(alloc: Global, file: &Written) -> Result<Reading, NoMemory>
     ensures reading { IfOk result (λ found. found ≡ of_obstacle file.now (obstacle file.now.items)) }
-    ensures sound { IfOk result IsSound }
+    ensures sound { IfOk result IsSoundReading }
 {
     match expand(alloc, file) {
         Ok(expanded) => read_expanded(alloc, &expanded),
@@ -236,7 +236,7 @@ fn read_file(alloc: Global, file: &Written) -> Result<Reading, NoMemory>
 /// What the bytes of a rule file are.
 pub(crate) fn reading_of(alloc: Global, bytes: &[u8]) -> Result<Reading, NoMemory>
     ensures reading { IfOk result (λ found. found ≡ reading bytes.now) }
-    ensures sound { IfOk result IsSound }
+    ensures sound { IfOk result IsSoundReading }
 {
     match parse(alloc, bytes) {
         Ok(file) => read_file(alloc, &file),

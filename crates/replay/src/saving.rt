@@ -96,7 +96,7 @@ fn say_limit<K: Sink>(alloc: Global, limit: u64, out: &mut K) -> u8
     ensures cause { result ≡ 6 → Rose (K.faults out.old) (K.faults out.new) }
 {
     let mut text = Vec::new(alloc);
-    match push_limit(&mut text, alloc, limit) {
+    match push_limit(&mut text, limit) {
         Ok(()) => say(out, text.as_slice(), 4),
         Err(_) => 7,
     }

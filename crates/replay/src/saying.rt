@@ -29,7 +29,7 @@ pub(crate) fn refuse<K: Sink>(alloc: Global, out: &mut K, refusal: Refusal) -> u
     ensures cause { result ≡ 6 → Rose (K.faults out.old) (K.faults out.new) }
 {
     let mut text = Vec::new(alloc);
-    match push_refusal(&mut text, alloc, refusal) {
+    match push_refusal(&mut text, refusal) {
         Ok(()) => say(out, text.as_slice(), 3),
         Err(_) => 7,
     }

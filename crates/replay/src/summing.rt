@@ -7,7 +7,6 @@ ghost use Rattle.replay.specs.Summary.{lines_with, summary_text};
 use fx_base::NoMemory;
 use memchr::memchr;
 use script_run::push_number;
-use std::alloc::Global;
 
 // The first line of a text that is not empty, and the text behind it.
 fn first_line(text: &[u8]) -> (&[u8], &[u8])
@@ -52,22 +51,17 @@ fn count_lines(text: &[u8]) -> usize
 }
 
 /// Appends the summary of what the run over the load of this number printed.
-pub(crate) fn push_summary(
-    text: &mut Vec<u8>,
-    alloc: Global,
-    number: u32,
-    printed: &[u8],
-) -> Result<(), NoMemory>
+pub(crate) fn push_summary(text: &mut Vec<u8>, number: u32, printed: &[u8]) -> Result<(), NoMemory>
     ensures { OnOk result (text.new.items ≡ text.old.items ++ summary_text number printed.now) }
 {
     text.extend_from_slice(b"gen ")?;
-    push_number(text, alloc, u64::from(number))?;
+    push_number(text, u64::from(number))?;
     text.extend_from_slice(b" lines ")?;
-    push_number(text, alloc, count_lines(printed) as u64)?;
+    push_number(text, count_lines(printed) as u64)?;
     text.extend_from_slice(b" fires ")?;
-    push_number(text, alloc, lines_with(b"fire ", printed) as u64)?;
+    push_number(text, lines_with(b"fire ", printed) as u64)?;
     text.extend_from_slice(b" faults ")?;
-    push_number(text, alloc, lines_with(b"fault ", printed) as u64)?;
+    push_number(text, lines_with(b"fault ", printed) as u64)?;
     text.push(b'\n')?;
     Ok(())
 }

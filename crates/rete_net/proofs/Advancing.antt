@@ -1,13 +1,18 @@
 -- A step of a network over the rows of its conditions.
-use Rattle.rete_net.proofs.Common.{◌≡◌, ◌∙◌, sym, ap, refl, subst, zero-add, ℕ, ◌<◌, ◌^◌, arith, length, ◌&&◌, not, Bool, true, false, List, [], ◌∷◌, Option, Some, None, slice_get, fun_ext, slice_get_within, Fact, Delta, Named, Row, has, Leads, IsDifference, Condition, Program, Rule, HaveDistinctTags, Snapshot, Look, cleaned, rows_of, empty_row, rows_named, AreFans, shown_nodes, RuleChange, Rete, NetNode, condition_of, IsIndexOf, AreOwners, NodesStand, clean_rows, change_of, IsChange, AreBetween, AreScheduled, before, IsNetOf, no_change, delta_at, changes_from, NetStep, Moment}
+use Rattle.rete_net.proofs.Common.{◌≡◌, ◌∙◌, sym, ap, refl, subst, zero-add, ℕ, ◌<◌, ◌^◌, arith, length, Bool, List, [], ◌∷◌, Option, Some, None, slice_get}
+use Rattle.rete_net.proofs.Common.{fun_ext, slice_get_within, Fact, Delta, Named, Row, has, LeadsRows, IsDifference, Condition, Program, Rule, HaveDistinctTags}
+use Rattle.rete_net.proofs.Common.{Snapshot, Look, cleaned, rows_of, empty_row, rows_named, AreFans, shown_nodes, RuleChange, Rete, NetNode, condition_of}
+use Rattle.rete_net.proofs.Common.{IsIndexOf, AreNodeOwners, NodesStand, clean_rows, change_of, IsChange, AreBetween, AreScheduled, before, IsNetOf, no_change}
+use Rattle.rete_net.proofs.Common.{delta_at, changes_from, NetStep, Moment}
 use Rattle.rule_model.specs.Rows.{rows}
 use Rattle.condition_rows.proofs.Whole.{one_more}
 use Rattle.rete_net.proofs.Answering.{is_change, found_change, past_change, in_order}
 use Rattle.rete_net.proofs.Chaining.{AreMade, IsGiven, AreStanding, StaysBeside, standing_now, answer_at}
 use Rattle.rete_net.proofs.Cleaning.{has_clean}
 use Rattle.rete_net.proofs.Frames.{net_again, stepped_nodes}
-use Rattle.rete_net.proofs.Growing.{has_at}
 use Rattle.rete_net.proofs.Turning.{rising}
+use Rattle.fx_base.proofs.Sequences.{get-below}
+use Rattle.fx_base.proofs.Tests.{and_not_self}
 
 -- the rows of conditions are what the lines make of them
 pub rows_made : (p : Program) (s : Snapshot) → HaveDistinctTags s.facts → AreMade p s (rows_of p s)
@@ -18,21 +23,17 @@ pub first_row : (p : Program) (s : Snapshot) → rows p s [] ≡ empty_row ∷ [
 unfolding rows
 first_row p s = refl
 
-unmoved : (b : Bool) → false ≡ (b && not b)
-unmoved true = refl
-unmoved false = refl
-
 pub same_first : (p : Program) (s next : Snapshot) → rows_of p s [] ≡ rows_of p next []
 same_first p s next = ap has (first_row p s ∙ sym (first_row p next))
 
-pub first_stays : (p : Program) (s next : Snapshot) (forgotten : Named → Bool) → Leads (cleaned (rows_of p s []) forgotten) (cleaned (rows_of p next []) forgotten) no_change.gone no_change.come
+pub first_stays : (p : Program) (s next : Snapshot) (forgotten : Named → Bool) → LeadsRows (cleaned (rows_of p s []) forgotten) (cleaned (rows_of p next []) forgotten) no_change.gone no_change.come
 first_stays p s next forgotten =
-    subst (λ (set : Row → Bool). Leads (cleaned (rows_of p s []) forgotten) (cleaned set forgotten) [] []) (same_first p s next)
-    (record { goes = λ row. unmoved (cleaned (rows_of p s []) forgotten row); comes = λ row. unmoved (cleaned (rows_of p s []) forgotten row) })
+    subst (λ (set : Row → Bool). LeadsRows (cleaned (rows_of p s []) forgotten) (cleaned set forgotten) [] []) (same_first p s next)
+    (record { goes = λ row. and_not_self (cleaned (rows_of p s []) forgotten row); comes = λ row. and_not_self (cleaned (rows_of p s []) forgotten row) })
 
 module _ (p : Program) (look : Look) (s next : Snapshot) (gone : List Fact) (come : Option Fact) (moment : Moment) (forgotten : Named → Bool) (first : Delta) (was : List Condition → Row → Bool) (lists : Rule → List Row)
     (old new : Rete) (shape : IsNetOf p (shown_nodes old) old.ends.items) (answers : List RuleChange)
-    (given : IsGiven p look s next gone come moment forgotten) (made : AreMade p s was) (leads : Leads (cleaned (was []) forgotten) (cleaned (rows_of p next []) forgotten) first.gone first.come)
+    (given : IsGiven p look s next gone come moment forgotten) (made : AreMade p s was) (leads : LeadsRows (cleaned (was []) forgotten) (cleaned (rows_of p next []) forgotten) first.gone first.come)
     (standing : AreStanding p s was forgotten (shown_nodes old) shape.conditions)
     (beside : (k : ℕ) (n : NetNode) → slice_get (shown_nodes old) k ≡ Some n → StaysBeside p given.world s next (condition_of n.node) (was (before shape.conditions n.parent)) (rows_of p next (before shape.conditions n.parent)) forgotten)
     (same : new.ends.items ≡ old.ends.items) (step : NetStep p look gone come moment first (shown_nodes old) (shown_nodes new) old.ends.items answers)
@@ -43,7 +44,7 @@ module _ (p : Program) (look : Look) (s next : Snapshot) (gone : List Fact) (com
   pub shape_now : IsNetOf p (shown_nodes new) new.ends.items
   shape_now = net_again p (shown_nodes old) (shown_nodes new) old.ends.items new.ends.items same (stepped_nodes p look gone come moment first (shown_nodes old) (shown_nodes new) old.ends.items answers step) shape
 
-  pub stands_now : IsIndexOf (shown_nodes new) new.ends.items new.index → AreScheduled p new.nodes.items new.schedule → AreFans new.nodes.items new.fans → AreOwners p shape.conditions (length (shown_nodes new)) new.owners.items
+  pub stands_now : IsIndexOf (shown_nodes new) new.ends.items new.index → AreScheduled p new.nodes.items new.schedule → AreFans new.nodes.items new.fans → AreNodeOwners p shape.conditions (length (shown_nodes new)) new.owners.items
       → NodesStand p new next forgotten
   stands_now indexed scheduled fans owned = record {
     shape = net_again p (shown_nodes old) (shown_nodes new) old.ends.items new.ends.items same (stepped_nodes p look gone come moment first (shown_nodes old) (shown_nodes new) old.ends.items answers step) shape;
@@ -73,4 +74,4 @@ module _ (p : Program) (look : Look) (s next : Snapshot) (gone : List Fact) (com
       placed place delta e (Some end) there =
           let within : place < length old.ends.items = slice_get_within old.ends.items place end there in
           let count = shape.count in
-          has_at p.rules place (omega (arith, count))
+          get-below p.rules place (omega (arith, count))

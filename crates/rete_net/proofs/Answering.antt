@@ -1,5 +1,8 @@
 -- The changes of rules, out of what their last nodes answered.
-use Rattle.rete_net.proofs.Common.{◌≡◌, ◌∙◌, sym, ap, refl, ℕ, zero, suc, ◌+◌, ◌<◌, ◌^◌, ◌==◌, length, arith, ◌&&◌, not, Bool, true, false, cond, List, [], ◌∷◌, ◌++◌, map, Option, Some, None, slice_get, Less, nat_cmp_is, AllByRecursion, nat_cmp, nat_tests, Delta, Row, has, IsDifference, are_none, changes_nothing, Program, IsRunnable, RuleChange, change_of, IsChange, delta_at, change_at, changes_from}
+use Rattle.rete_net.proofs.Common.{◌≡◌, ◌∙◌, sym, ap, refl, ℕ, zero, suc, ◌+◌, ◌<◌, ◌^◌, ◌==◌, length, arith, ◌&&◌, not, Bool, true, false, cond, List, [], ◌∷◌}
+use Rattle.rete_net.proofs.Common.{◌++◌, map, Option, Some, None, slice_get, Less, nat_cmp_is, AllByRecursion, nat_cmp, nat_tests, Delta, Row, has}
+use Rattle.rete_net.proofs.Common.{IsDifference, are_none, changes_nothing, Program, IsRunnable, RuleChange, change_of, IsChange, delta_at, change_at}
+use Rattle.rete_net.proofs.Common.{changes_from}
 use Rattle.std.specs.List.Sorted.{IsStrictlySortedBy}
 use Rattle.row_delta.specs.Differences.{IsBetween}
 

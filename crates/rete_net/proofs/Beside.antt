@@ -1,13 +1,18 @@
 -- In a step in which no rule needs a forgotten fact, nothing changes of these for a node.
-use Rattle.rete_net.proofs.Common.{◌≡◌, ◌∙◌, sym, ap, refl, subst, inl, inr, ℕ, zero, suc, ◌==◌, ◌&&◌, ◌||◌, not, Bool, true, false, cond, arith, List, [], ◌∷◌, ◌++◌, take, Option, Some, None, slice_get, option_to_list, nat_tests, filter, find, list_any, In, Fact, Tag, Delta, Named, Row, has, Leads, Condition, Plain, Negated, Existing, Folded, Pattern, Program, HaveDistinctTags, pattern_of, Snapshot, name_of, both_of, in_left, of_append, of_filter, one_fact, in_filter, in_place, Look, joins, clean, cleaned, no_names, ForgottenStay, HasAllOf, NameHeld, candidates_of, rows_of, Moves, shares_tag, CountedStay, held_known, joining_alike, where_true, not_of, clean_of_none, CountsNone, AreNotNeeded, IsFront}
+use Rattle.rete_net.proofs.Common.{◌≡◌, ◌∙◌, sym, ap, refl, subst, inl, inr, ℕ, zero, suc, ◌==◌, ◌&&◌, ◌||◌, not, Bool, true, false, cond, List, [], ◌∷◌, ◌++◌}
+use Rattle.rete_net.proofs.Common.{take, Option, Some, None, slice_get, option_to_list, filter, find, list_any, In, Fact, Tag, Delta, Named, Row, has}
+use Rattle.rete_net.proofs.Common.{LeadsRows, Condition, Plain, Negated, Existing, Folded, Pattern, Program, HaveDistinctTags, pattern_of, Snapshot, name_of}
+use Rattle.rete_net.proofs.Common.{in_left, of_filter, one_fact, in_filter, in_place, Look, joins, clean, cleaned, no_names, ForgottenStay, HasAllOf, NameHeld}
+use Rattle.rete_net.proofs.Common.{candidates_of, rows_of, MovesSnapshot, shares_tag, CountedStay, held_known, joining_alike, clean_of_none, CountsNone}
+use Rattle.rete_net.proofs.Common.{AreNotNeeded, IsRuleFront}
+use Rattle.std.proofs.lemmas.Bool.{and_parts, eqb-true, not-true}
 use Rattle.condition_rows.specs.Sets.{held}
 use Rattle.rete_net.proofs.Chaining.{StaysBeside}
 use Rattle.rete_net.proofs.Turning.{rising}
+use Rattle.fx_base.proofs.Sequences.{In-append}
+use Rattle.fx_base.proofs.Tests.{and_where}
 
 -- ---- what a snapshot holds
-
-one_number : (m n : ℕ) → (m == n) ≡ true → m ≡ n
-one_number m n e = grind (arith, nat_tests)
 
 abbrev tag_of : ℕ → Tag
 tag_of n = record { 0 = n }
@@ -16,7 +21,7 @@ found_if : (b : Bool) (x f : Fact) (tag : Tag) (facts : List Fact) (rest : Optio
     → In f (x ∷ facts) × (f.tag ≡ tag)
 found_if true x f tag facts rest is h e =
     let same : x ≡ f = cc in
-    (inl (sym same), subst (λ (g : Fact). g.tag ≡ tag) same (ap tag_of (one_number x.tag.0 tag.0 is)))
+    (inl (sym same), subst (λ (g : Fact). g.tag ≡ tag) same (ap tag_of (eqb-true x.tag.0 tag.0 is)))
 found_if false x f tag facts rest is h e = let r = h e in (inr r.0, r.1)
 
 found_at : (tag : Tag) (facts : List Fact) (f : Fact) → find (λ (g : Fact). g.tag.0 == tag.0) facts ≡ Some f → In f facts × (f.tag ≡ tag)
@@ -48,7 +53,7 @@ both_held s next tag = first_of (held s tag) (held next tag)
 pub both_known : (s next : Snapshot) → HasAllOf (both_held s next) s no_names
 both_known s next tag f e n = ap (λ o. first_of o (held next tag)) e
 
-module _ (p : Program) (look : Look) (s next : Snapshot) (gone : List Fact) (come : Option Fact) (forgotten : Named → Bool) (moves : Moves p s next gone come)
+module _ (p : Program) (look : Look) (s next : Snapshot) (gone : List Fact) (come : Option Fact) (forgotten : Named → Bool) (moves : MovesSnapshot p s next gone come)
     (apart : AreNotNeeded p forgotten s next gone come) (has_before : HasAllOf look s forgotten) (has_now : HasAllOf look next forgotten) where
   distinct : HaveDistinctTags s.facts
   distinct = rising s.facts moves.before.in_order
@@ -71,7 +76,7 @@ module _ (p : Program) (look : Look) (s next : Snapshot) (gone : List Fact) (com
 
     went : (h : Fact) → In h gone → (h.tag.0 == g.tag.0) ≡ true → come ≡ Some f → g ≡ f
     went h i e c =
-        let same : h ≡ g = one_fact s.facts distinct h g (moves.held h i) there.0 (ap tag_of (one_number h.tag.0 g.tag.0 e)) in
+        let same : h ≡ g = one_fact s.facts distinct h g (moves.held h i) there.0 (ap tag_of (eqb-true h.tag.0 g.tag.0 e)) in
         let kept : forgotten (name_of g) ≡ false = apart.none_goes g (subst (λ (z : Fact). In z gone) same i) in
         let both : Some g ≡ Some f = sym (has_before tag g is kept) ∙ has_now tag f is_now (apart.none_comes f c) in
         let equal : g ≡ f = cc in
@@ -86,7 +91,7 @@ module _ (p : Program) (look : Look) (s next : Snapshot) (gone : List Fact) (com
 
     one_version : g ≡ f
     one_version =
-        elim (of_append f (filter (λ (h : Fact). not (shares_tag gone h)) s.facts) (option_to_list come) (subst (λ (facts : List Fact). In f facts) moves.facts there_now.0)) [
+        elim (In-append f (filter (λ (h : Fact). not (shares_tag gone h)) s.facts) (option_to_list come) (subst (λ (facts : List Fact). In f facts) moves.facts there_now.0)) [
           | inl i ↦ one_fact s.facts distinct g f there.0 (of_filter (λ (h : Fact). not (shares_tag gone h)) f s.facts i) (there.1 ∙ sym there_now.1)
           | inr i ↦ came (coming come f i) (shares_tag gone g) refl
         ]
@@ -113,7 +118,7 @@ stay_of p world was next rows rows_now forgotten left c known named comes = by c
     stay q same none = record {
       stays = λ row who e f g. ap (λ b. b && joins q world row who) (same who g);
       comes = λ row who e g.
-          where_true (candidates_of p q next who) (joins q world row who) (joins q (held next) row who)
+          and_where (candidates_of p q next who) (joins q world row who) (joins q (held next) row who)
           (λ there. joining_alike world (held next) next no_names known (held_known next no_names) p q rows_now named row who (ap (λ b. b && clean no_names row) (comes row e) ∙ clean_of_none row.facts) (ap (λ b. b && true) there))
           ∙ none row e who g;
     }
@@ -146,7 +151,7 @@ missed true k e f = sym f ∙ e
 missed false k e f = refl
 
 module _ (p : Program) (world : Look) (was s next : Snapshot) (gone : List Fact) (come : Option Fact) (forgotten : Named → Bool) (apart : AreNotNeeded p forgotten s next gone come)
-    (known_now : HasAllOf world next no_names) (behind : List Condition) (c : Condition) (front : IsFront p (behind ++ c ∷ [])) (named_now : NameHeld next (rows_of p next behind))
+    (known_now : HasAllOf world next no_names) (behind : List Condition) (c : Condition) (front : IsRuleFront p (behind ++ c ∷ [])) (named_now : NameHeld next (rows_of p next behind))
     (same_rows : cleaned (rows_of p s behind) forgotten ≡ cleaned (rows_of p was behind) forgotten)
     (same_candidates : (who : Named) → candidates_of p (pattern_of c) s who ≡ candidates_of p (pattern_of c) was who) where
   abbrev place : (i : ℕ) × (slice_get front.0.conditions i ≡ Some c) × (behind ≡ take i front.0.conditions)
@@ -155,11 +160,11 @@ module _ (p : Program) (world : Look) (was s next : Snapshot) (gone : List Fact)
   unchanged : (who : Named) → forgotten who ≡ true → candidates_of p (pattern_of c) was who ≡ candidates_of p (pattern_of c) next who
   unchanged who e = sym (same_candidates who) ∙ sym (apart.same_candidates front.0 front.1 c (in_place front.0.conditions place.0 c place.1) who e)
 
-  none : (left : Delta) → Leads (cleaned (rows_of p was behind) forgotten) (cleaned (rows_of p next behind) forgotten) left.gone left.come → (row : Row) → has left.come row ≡ true → CountsNone c p next forgotten row
+  none : (left : Delta) → LeadsRows (cleaned (rows_of p was behind) forgotten) (cleaned (rows_of p next behind) forgotten) left.gone left.come → (row : Row) → has left.come row ≡ true → CountsNone c p next forgotten row
   none left leads row e =
-      let came = both_of (cleaned (rows_of p next behind) forgotten row) (not (cleaned (rows_of p was behind) forgotten row)) (sym (leads.comes row) ∙ e) in
-      let is = both_of (rows_of p next behind row) (clean forgotten row) came.0 in
-      let was_not = missed (rows_of p s behind row) (clean forgotten row) (ap (λ (set : Row → Bool). set row) same_rows ∙ not_of (cleaned (rows_of p was behind) forgotten row) came.1) is.1 in
+      let came = and_parts (cleaned (rows_of p next behind) forgotten row) (not (cleaned (rows_of p was behind) forgotten row)) (sym (leads.comes row) ∙ e) in
+      let is = and_parts (rows_of p next behind row) (clean forgotten row) came.0 in
+      let was_not = missed (rows_of p s behind row) (clean forgotten row) (ap (λ (set : Row → Bool). set row) same_rows ∙ not-true (cleaned (rows_of p was behind) forgotten row) came.1) is.1 in
       apart.none_counted front.0 front.1 place.0 c place.1 row (subst (λ (cs : List Condition). rows_of p next cs row ≡ true) place.2 is.0) (subst (λ (cs : List Condition). rows_of p s cs row ≡ false) place.2 was_not)
 
   pub stays_beside : StaysBeside p world was next c (rows_of p was behind) (rows_of p next behind) forgotten
@@ -167,6 +172,6 @@ module _ (p : Program) (world : Look) (was s next : Snapshot) (gone : List Fact)
     same = unchanged;
     stay = λ left leads.
         stay_of p world was next (rows_of p was behind) (rows_of p next behind) forgotten left c known_now named_now
-        (λ row e. (both_of (rows_of p next behind row) (clean forgotten row) (both_of (cleaned (rows_of p next behind) forgotten row) (not (cleaned (rows_of p was behind) forgotten row)) (sym (leads.comes row) ∙ e)).0).0)
+        (λ row e. (and_parts (rows_of p next behind row) (clean forgotten row) (and_parts (cleaned (rows_of p next behind) forgotten row) (not (cleaned (rows_of p was behind) forgotten row)) (sym (leads.comes row) ∙ e)).0).0)
         unchanged (none left leads);
   }

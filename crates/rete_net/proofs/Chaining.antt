@@ -1,6 +1,10 @@
 -- A step of all nodes, one after those before it, over the rows that conditions have before the step and behind it, where some facts have
 -- been forgotten.
-use Rattle.rete_net.proofs.Common.{◌≡◌, ◌∙◌, sym, refl, subst, ℕ, zero, suc, ◌<◌, List, [], ◌∷◌, ◌++◌, take, get_or, length, arith, Bool, true, Option, Some, None, slice_get, get_or-take, slice_get_within, slice_get-get_or, Fact, Delta, Named, Row, Leads, IsDifference, Condition, Program, Rule, pattern_of, Snapshot, Look, cleaned, no_names, line, HasAllOf, NameHeld, candidates_of, has_good_window, Moves, condition_of, CountedStay, NetNode, NetNodeStands, before, IsShaped, EndsAt, delta_at, left_delta, IsNodeTurn, NodeStep, SteppedBelow, Moment, IsAt}
+use Rattle.rete_net.proofs.Common.{◌≡◌, ◌∙◌, sym, refl, subst, ℕ, zero, suc, ◌<◌, List, [], ◌∷◌, ◌++◌, take, get_or, length, arith, Bool, true, Option, Some}
+use Rattle.rete_net.proofs.Common.{None, slice_get, get_or-take, slice_get_within, slice_get-get_or, Fact, Delta, Named, Row, LeadsRows, IsDifference}
+use Rattle.rete_net.proofs.Common.{Condition, Program, Rule, pattern_of, Snapshot, Look, cleaned, no_names, line, HasAllOf, NameHeld, candidates_of}
+use Rattle.rete_net.proofs.Common.{has_good_window, MovesSnapshot, condition_of, CountedStay, NetNode, NetNodeStands, before, IsShaped, EndsRule, delta_at}
+use Rattle.rete_net.proofs.Common.{left_delta, IsNodeTurn, NodeStep, SteppedBelow, Moment, IsAt}
 
 -- the rows of conditions in a snapshot, as the lines make them, name versions of the snapshot alone
 pub record AreMade (p : Program) (s : Snapshot) (sets : List Condition → Row → Bool) : Type 0 where
@@ -9,7 +13,7 @@ pub record AreMade (p : Program) (s : Snapshot) (sets : List Condition → Row �
 
 -- what leads from the one snapshot to the other, a store that has at hand what is remembered of both, and a world that has all of both
 pub record IsGiven (p : Program) (look : Look) (s next : Snapshot) (gone : List Fact) (come : Option Fact) (moment : Moment) (forgotten : Named → Bool) : Type 0 where
-  pub moves : Moves p s next gone come
+  pub moves : MovesSnapshot p s next gone come
   pub is_at : IsAt next moment
   pub at_hand : HasAllOf look s forgotten
   pub at_hand_now : HasAllOf look next forgotten
@@ -26,11 +30,11 @@ pub record AreStanding (p : Program) (s : Snapshot) (sets : List Condition → R
 -- of forgotten facts nothing changes for a node: they are candidates as they were, and what its condition counts of them stays
 pub record StaysBeside (p : Program) (world : Look) (s next : Snapshot) (condition : Condition) (rows rows_now : Row → Bool) (forgotten : Named → Bool) : Type 0 where
   pub same : (who : Named) → forgotten who ≡ true → candidates_of p (pattern_of condition) s who ≡ candidates_of p (pattern_of condition) next who
-  pub stay : (left : Delta) → Leads (cleaned rows forgotten) (cleaned rows_now forgotten) left.gone left.come → CountedStay condition p world s next rows rows_now forgotten left
+  pub stay : (left : Delta) → LeadsRows (cleaned rows forgotten) (cleaned rows_now forgotten) left.gone left.come → CountedStay condition p world s next rows rows_now forgotten left
 
 module _ (p : Program) (look : Look) (s next : Snapshot) (gone : List Fact) (come : Option Fact) (moment : Moment) (forgotten : Named → Bool) (first : Delta) (was is : List Condition → Row → Bool)
     (nodes nodes_now : List NetNode) (conditions : ℕ → List Condition) (deltas : List Delta)
-    (given : IsGiven p look s next gone come moment forgotten) (made : AreMade p s was) (made_now : AreMade p next is) (leads : Leads (cleaned (was []) forgotten) (cleaned (is []) forgotten) first.gone first.come)
+    (given : IsGiven p look s next gone come moment forgotten) (made : AreMade p s was) (made_now : AreMade p next is) (leads : LeadsRows (cleaned (was []) forgotten) (cleaned (is []) forgotten) first.gone first.come)
     (standing : AreStanding p s was forgotten nodes conditions)
     (beside : (k : ℕ) (n : NetNode) → slice_get nodes k ≡ Some n → StaysBeside p given.world s next (condition_of n.node) (was (before conditions n.parent)) (is (before conditions n.parent)) forgotten)
     (same : length nodes_now ≡ length nodes) (stepped : SteppedBelow p look gone come moment first nodes nodes_now deltas (length nodes)) where
@@ -40,11 +44,11 @@ module _ (p : Program) (look : Look) (s next : Snapshot) (gone : List Fact) (com
 
   -- what comes to a node is the difference of the rows of the conditions before it
   from_parent : (k : ℕ) (old : NetNode) → slice_get nodes k ≡ Some old → ((q : ℕ) → q < k → Answers q) → (parent : Option ℕ) → old.parent ≡ parent
-      → Leads (cleaned (was (before conditions parent)) forgotten) (cleaned (is (before conditions parent)) forgotten) (left_delta first (take k deltas) parent).gone (left_delta first (take k deltas) parent).come
+      → LeadsRows (cleaned (was (before conditions parent)) forgotten) (cleaned (is (before conditions parent)) forgotten) (left_delta first (take k deltas) parent).gone (left_delta first (take k deltas) parent).come
   from_parent k old e answers None at = leads
   from_parent k old e answers (Some q) at =
       let lt : q < k = standing.shaped.parents k q old e at in
-      subst (λ (d : Delta). Leads (cleaned (was (conditions q)) forgotten) (cleaned (is (conditions q)) forgotten) d.gone d.come) (sym (get_or-take k deltas q first lt)) (answers q lt).leads
+      subst (λ (d : Delta). LeadsRows (cleaned (was (conditions q)) forgotten) (cleaned (is (conditions q)) forgotten) d.gone d.come) (sym (get_or-take k deltas q first lt)) (answers q lt).leads
 
   turn : (k : ℕ) (old : NetNode) → slice_get nodes k ≡ Some old → ((q : ℕ) → q < k → Answers q)
       → IsNodeTurn p look s next gone come (condition_of old.node) (was (before conditions old.parent)) (is (before conditions old.parent)) forgotten (left_delta first (take k deltas) old.parent)
@@ -125,12 +129,12 @@ module _ (p : Program) (look : Look) (s next : Snapshot) (gone : List Fact) (com
   }
 
   -- the last node of a rule is where it was, and answered the difference of the rows of the rule
-  pub ends_now : (ends : List ℕ) (place : ℕ) (rule : Rule) → EndsAt nodes conditions ends place rule → EndsAt nodes_now conditions ends place rule
+  pub ends_now : (ends : List ℕ) (place : ℕ) (rule : Rule) → EndsRule nodes conditions ends place rule → EndsRule nodes_now conditions ends place rule
   ends_now ends place rule at =
       let new = now_at at.last at.node at.there in
       record { last = at.last; node = new.0; found = at.found; there = new.1; all = at.all }
 
-  pub answer_at : (ends : List ℕ) (place : ℕ) (rule : Rule) (at : EndsAt nodes conditions ends place rule)
+  pub answer_at : (ends : List ℕ) (place : ℕ) (rule : Rule) (at : EndsRule nodes conditions ends place rule)
       → IsDifference (cleaned (was rule.conditions) forgotten) (cleaned (is rule.conditions) forgotten) (delta_at first deltas at.last)
   answer_at ends place rule at =
       subst (λ (cs : List Condition). IsDifference (cleaned (was cs) forgotten) (cleaned (is cs) forgotten) (delta_at first deltas at.last)) at.all (answered at.last at.node at.there)

@@ -1,7 +1,11 @@
 -- Rows that name no forgotten fact, and what conditions make of them.
-use Rattle.rete_net.proofs.Common.{◌≡◌, ◌∙◌, sym, ap, refl, ℤ, ◌&&◌, not, Bool, true, false, List, [], ◌∷◌, Option, Some, None, fun_ext, and-false, and_assoc, filter, list_any, Named, Row, same_equiv, has, Condition, Plain, Negated, Existing, Folded, Program, rows, Snapshot, joins, joined, clean, cleaned, either, remembered, no_names, unvalued, splits_value, row_decides, from_unvalued, joined_clean, clean_either, gives, is_ripe, line, held, candidates_of, has_partner, filter_all}
+use Rattle.rete_net.proofs.Common.{◌≡◌, ◌∙◌, sym, ap, refl, ℤ, ◌&&◌, not, Bool, true, false, List, [], ◌∷◌, Option, Some, None, fun_ext, and-false, and_assoc}
+use Rattle.rete_net.proofs.Common.{filter, list_any, Named, Row, same_equiv, has, Condition, Plain, Negated, Existing, Folded, Program, rows, Snapshot, joins}
+use Rattle.rete_net.proofs.Common.{joined, clean, cleaned, either, remembered, no_names, unvalued, splits_value, row_decides, from_unvalued, joined_clean}
+use Rattle.rete_net.proofs.Common.{clean_either, gives, is_ripe, line, held, candidates_of, has_partner}
 use Rattle.std.proofs.lemmas.Map.Made.{is_member-filter}
 use Rattle.pair_memory.specs.Valued.{valued}
+use Rattle.fx_base.proofs.Sequences.{filter-all}
 
 -- ---- where nothing is forgotten
 
@@ -13,7 +17,7 @@ clean_none : (row : Row) → clean no_names row ≡ true
 clean_none row = ap not (none_named row.facts)
 
 pub all_clean : (rows : List Row) → filter (clean no_names) rows ≡ rows
-all_clean rows = filter_all (clean no_names) rows (λ row i. clean_none row)
+all_clean rows = filter-all (clean no_names) rows (λ row i. clean_none row)
 
 -- ---- cleaned once more
 

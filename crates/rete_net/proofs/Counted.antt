@@ -1,6 +1,8 @@
 -- A network has a node for each distinct front of its rules' conditions.
-use Rattle.rete_net.proofs.Common.{◌≡◌, ◌∙◌, sym, ap, subst, refl, zero-add, ℕ, zero, suc, ◌+◌, ◌<◌, ◌≤◌, nat_lt, arith, Bool, true, false, List, [], ◌∷◌, ◌++◌, length, take, Option, Some, None, slice_get, inl, inr, nat_tests, take-append-le, take_all, length_push, slice_get_within, In, Condition, Program, condition_of, NetNode, before, CountsFronts, IsFront, IsNetOf}
-use Rattle.rete_net.proofs.Growing.{has_at}
+use Rattle.rete_net.proofs.Common.{◌≡◌, ◌∙◌, sym, ap, subst, refl, zero-add, ℕ, zero, suc, ◌+◌, ◌<◌, ◌≤◌, nat_lt, arith, Bool, true, false, List, [], ◌∷◌, ◌++◌}
+use Rattle.rete_net.proofs.Common.{length, take, Option, Some, None, slice_get, inl, inr, nat_tests, take-append-le, take_all, length_push, slice_get_within}
+use Rattle.rete_net.proofs.Common.{In, Condition, Program, condition_of, NetNode, before, CountsFronts, IsRuleFront, IsNetOf}
+use Rattle.fx_base.proofs.Sequences.{In-place, get-below}
 
 -- ---- what a function has for the first numbers
 
@@ -41,11 +43,6 @@ number_of f from (suc n) x (inr i) =
     let same : from + suc r.0 ≡ (from + 1) + r.0 = omega arith in
     let lt = r.1 in
     (suc r.0, omega arith, ap f same ∙ r.2)
-
-place_in : {A : Type 0} (x : A) (xs : List A) → In x xs → (k : ℕ) × (slice_get xs k ≡ Some x)
-place_in x [] i = absurd i
-place_in x (y ∷ ys) (inl e) = (0, ap Some (sym e))
-place_in x (y ∷ ys) (inr i) = let r = place_in x ys i in (suc r.0, r.1)
 
 not_empty : {A : Type 0} (xs : List A) (x : A) → xs ++ x ∷ [] ≡ [] → ⊥
 not_empty [] x e = cc
@@ -88,24 +85,24 @@ module _ (p : Program) (nodes : List NetNode) (ends : List ℕ) (net : IsNetOf p
       behind rest (Some parent) at same =
           let lt : parent < k = net.shaped.parents k parent n e at in
           let within : k < length nodes = slice_get_within nodes k n e in
-          let r = rest parent (has_at nodes parent (omega arith)) lt (λ none. some (same ∙ none)) in
+          let r = rest parent (get-below nodes parent (omega arith)) lt (λ none. some (same ∙ none)) in
           (r.0, r.1, r.2 ∙ sym same)
 
       by : Before k q → (b : Bool) → nat_lt q (length (net.conditions k)) ≡ b → Listed (take q (net.conditions k))
       by rest true lt = let less : q < length (net.conditions k) = grind (arith, nat_tests) in behind rest n.parent refl (shorter less)
       by rest false ge = let le : length (net.conditions k) ≤ q = grind (arith, nat_tests) in here le
 
-  front_listed : (cs : List Condition) → IsFront p cs → (cs ≡ [] → ⊥) → In cs (numbered net.conditions 0 (length nodes))
+  front_listed : (cs : List Condition) → IsRuleFront p cs → (cs ≡ [] → ⊥) → In cs (numbered net.conditions 0 (length nodes))
   front_listed cs front some =
-      let place = place_in front.0 p.rules front.1 in
+      let place = In-place front.0 p.rules front.1 in
       let last = net.lasts place.0 front.0 place.1 in
       let is : cs ≡ take front.2 (net.conditions last.last) = front.3 ∙ ap (take front.2) (sym last.all) in
       let r = fronts_within (suc last.last) last.last front.2 last.node (omega arith) last.there (λ none. some (is ∙ none)) in
       subst (λ (z : List Condition). In z (numbered net.conditions 0 (length nodes))) (ap net.conditions (zero-add r.0) ∙ r.2 ∙ sym is) (is_numbered net.conditions 0 (length nodes) r.0 r.1)
 
-  node_front : (k : ℕ) → k < length nodes → IsFront p (net.conditions k) × (net.conditions k ≡ [] → ⊥)
+  node_front : (k : ℕ) → k < length nodes → IsRuleFront p (net.conditions k) × (net.conditions k ≡ [] → ⊥)
   node_front k h =
-      let n = has_at nodes k h in
+      let n = get-below nodes k h in
       (net.fronts k n.0 n.1, λ none. not_empty (before net.conditions n.0.parent) (condition_of n.0.node) (sym (net.shaped.own k n.0 n.1) ∙ none))
 
   pub counted : CountsFronts p (length nodes)
@@ -116,11 +113,11 @@ module _ (p : Program) (nodes : List NetNode) (ends : List ℕ) (net : IsNetOf p
         let many = as_many net.conditions 0 (length nodes) in
         let low : j < length (numbered net.conditions 0 (length nodes)) = slice_get_within (numbered net.conditions 0 (length nodes)) j cs e in
         let high : k < length (numbered net.conditions 0 (length nodes)) = slice_get_within (numbered net.conditions 0 (length nodes)) k cs f in
-        let a = has_at nodes j (omega arith) in
-        let b = has_at nodes k (omega arith) in
+        let a = get-below nodes j (omega arith) in
+        let b = get-below nodes k (omega arith) in
         net.once j k a.0 b.0 a.1 b.1 (ap net.conditions (sym (zero-add j)) ∙ at_number net.conditions 0 (length nodes) j cs e ∙ sym (at_number net.conditions 0 (length nodes) k cs f) ∙ ap net.conditions (zero-add k));
     are_fronts = λ cs i.
         let r = number_of net.conditions 0 (length nodes) cs i in
-        subst (λ (z : List Condition). IsFront p z × (z ≡ [] → ⊥)) (ap net.conditions (sym (zero-add r.0)) ∙ r.2) (node_front r.0 r.1);
+        subst (λ (z : List Condition). IsRuleFront p z × (z ≡ [] → ⊥)) (ap net.conditions (sym (zero-add r.0)) ∙ r.2) (node_front r.0 r.1);
     all = front_listed;
   }

@@ -1,11 +1,19 @@
 -- What the nodes of a network count of forgotten facts.
-use Rattle.rete_net.proofs.Common.{◌≡◌, ◌∙◌, ◌⊎◌, inl, inr, sym, ap, refl, subst, ℕ, ℤ, zero, suc, ◌+◌, ◌<◌, ◌≤◌, nat_lt, arith, Bool, true, false, ◌&&◌, List, [], ◌∷◌, ◌++◌, length, take, Option, Some, None, slice_get, Ordering, Less, AllByRecursion, filter, nat_cmp, ordering_then, nat_tests, length-take-le, slice_get_within, In, Fact, RuleId, Extra, Named, Row, InOrder, row_cmp, Condition, Plain, Negated, Existing, Folded, Program, Rule, is_candidate, HaveDistinctTags, pattern_of, Snapshot, name_of, both_of, of_append, in_left, in_right, clean, cleaned, rows_of_extras, candidates_of, rows_of, candidate_named, joins, at_clock, filter_among, AreExtrasBeside, IsAside, IsExtraBeside, lost_partners, values_gathered, condition_of, AreExtras, IsExtraIn, IsFirstWith, extra_cmp, Owner, NetNode, AreOwners, IsOwned, owner_cmp, before, IsNetOf, HaveSame}
+use Rattle.rete_net.proofs.Common.{◌≡◌, ◌∙◌, ◌⊎◌, inl, inr, sym, ap, refl, subst, ℕ, ℤ, zero, suc, ◌+◌, ◌<◌, ◌≤◌, nat_lt, arith, Bool, true, false, ◌&&◌, List}
+use Rattle.rete_net.proofs.Common.{[], ◌∷◌, ◌++◌, length, take, Option, Some, None, slice_get, Ordering, Less, AllByRecursion, filter, nat_cmp, ordering_then}
+use Rattle.rete_net.proofs.Common.{nat_tests, length-take-le, slice_get_within, In, Fact, RuleId, Extra, Named, Row, InOrder, row_cmp, Condition, Plain}
+use Rattle.rete_net.proofs.Common.{Negated, Existing, Folded, Program, Rule, is_candidate, HaveDistinctTags, pattern_of, Snapshot, name_of, in_left, in_right}
+use Rattle.rete_net.proofs.Common.{clean, cleaned, rows_of_extras, candidates_of, rows_of, candidate_named, joins, at_clock, filter_among, AreExtrasBeside}
+use Rattle.rete_net.proofs.Common.{IsAside, IsExtraBeside, lost_partners, values_gathered, condition_of, AreExtras, IsExtraIn, IsFirstWith, extra_cmp, Owner}
+use Rattle.rete_net.proofs.Common.{NetNode, AreNodeOwners, IsOwned, owner_cmp, before, IsNetOf, HaveSameFronts}
+use Rattle.std.proofs.lemmas.Bool.{and_parts}
 use Rattle.std.specs.List.Sorted.{IsStrictlySortedBy}
-use Rattle.rule_lives.specs.Networks.{binds}
+use Rattle.rule_model.specs.Rows.{binds}
 use Rattle.condition_rows.specs.Sets.{held, partners}
 use Rattle.rete_net.proofs.Advancing.{same_first}
 use Rattle.rete_net.proofs.Counted.{fronts_within}
-use Rattle.rete_net.proofs.Growing.{both_at, has_at, parted}
+use Rattle.rete_net.proofs.Growing.{parted}
+use Rattle.fx_base.proofs.Sequences.{In-append, get-below, one_value}
 
 -- ---- lists in order
 
@@ -38,9 +46,6 @@ sorted_at c (z ∷ zs) s (suc j) zero x y lt e f = absurd (omega (arith, lt))
 sorted_at c (z ∷ zs) s (suc j) (suc k) x y lt e f = sorted_at c zs s.1 j k x y (omega (arith, lt)) e f
 
 -- ---- extras under one owner
-
-abbrev below_by : Owner → Owner → Extra → Extra → Ordering
-below_by o q e f = ordering_then (nat_cmp o.rule.0 q.rule.0) (ordering_then (nat_cmp o.condition q.condition) (row_cmp e.row f.row))
 
 then_less : (a b c : Ordering) → ordering_then a b ≡ Less → ordering_then a (ordering_then b c) ≡ Less
 then_less a b c e = grind arith
@@ -98,7 +103,7 @@ rule_numbered n = record { 0 = n }
 -- the front of a rule with one condition more
 pub longer : (all : List Condition) (i : ℕ) → i < length all → (c : Condition) × (slice_get all i ≡ Some c) × (take (suc i) all ≡ take i all ++ c ∷ [])
 longer all i h =
-    let at = has_at all i h in
+    let at = get-below all i h in
     let more = get_more all i at.0 at.1 in
     (at.0, at.1, more)
   where
@@ -109,7 +114,7 @@ longer all i h =
 
 -- ---- a network
 
-module _ (p : Program) (nodes : List NetNode) (ends : List ℕ) (net : IsNetOf p nodes ends) (owners : List Owner) (owned : AreOwners p net.conditions (length nodes) owners)
+module _ (p : Program) (nodes : List NetNode) (ends : List ℕ) (net : IsNetOf p nodes ends) (owners : List Owner) (owned : AreNodeOwners p net.conditions (length nodes) owners)
     (s : Snapshot) (forgotten : Named → Bool) where
   -- the extras beside the rows before the node in a place
   abbrev pub IsAt : ℕ → Extra → Type 0
@@ -134,7 +139,7 @@ module _ (p : Program) (nodes : List NetNode) (ends : List ℕ) (net : IsNetOf p
     extra_in : (e : Extra) → IsExtraBeside p (condition_of n.node) s (rows_of p s (before net.conditions n.parent)) forgotten o.rule o.condition e → IsExtraIn p s forgotten e
     extra_in e is =
         let of = of_owner (owned.each k o by) in
-        let there = both_of (rows_of p s (before net.conditions n.parent) e.row) (clean forgotten e.row) is.there in
+        let there = and_parts (rows_of p s (before net.conditions n.parent) e.row) (clean forgotten e.row) is.there in
         record {
           rule = of.0;
           stands = ap (λ (r : RuleId). slice_get p.rules r.0) is.rule ∙ of.1;
@@ -193,15 +198,15 @@ module _ (p : Program) (nodes : List NetNode) (ends : List ℕ) (net : IsNetOf p
     pub extra_at : (j : ℕ) × (j < length nodes) × IsAt j e
     extra_at =
         let node = node_of in
-        let n = has_at nodes node.0 node.1 in
+        let n = get-below nodes node.0 node.1 in
         let count = owned.count in
         let lt = node.1 in
-        let o = has_at owners node.0 (omega (arith, count, lt)) in
+        let o = get-below owners node.0 (omega (arith, count, lt)) in
         let of = of_owner node.0 n.0 o.0 n.1 o.1 (owned.each node.0 o.0 o.1) in
         let own = owner_is o.0 (subst (λ (cs : List Condition). IsOwned p cs o.0) node.2 (owned.each node.0 o.0 o.1)) in
         let more = longer is.rule.conditions e.condition within in
         let parts = parted (before net.conditions n.0.parent) (take e.condition is.rule.conditions) (condition_of n.0.node) more.0 (sym (net.shaped.own node.0 n.0 n.1) ∙ node.2 ∙ more.2) in
-        let its : condition_of n.0.node ≡ is.condition = parts.1 ∙ both_at (slice_get is.rule.conditions e.condition) more.0 is.condition more.1 is.placed in (
+        let its : condition_of n.0.node ≡ is.condition = parts.1 ∙ one_value (slice_get is.rule.conditions e.condition) more.0 is.condition more.1 is.placed in (
           node.0,
           node.1,
           (
@@ -245,7 +250,7 @@ module _ (p : Program) (nodes : List NetNode) (ends : List ℕ) (net : IsNetOf p
     pub one_more_first : AreFirst (k + 1) (extras ++ more)
     one_more_first = record {
       in_order = sorted_append extra_cmp extras more was.in_order (sorted_by_rows o more here.in_order under) earlier;
-      theirs = λ e i. elim (of_append e extras more i) [
+      theirs = λ e i. elim (In-append e extras more i) [
         | inl j ↦ (let of = was.theirs e j in let lt = of.1 in (of.0, omega (arith, lt), of.2))
         | inr j ↦ (k, omega arith, (n, o, at, by, (here.exact e).0 j))
       ];
@@ -258,8 +263,8 @@ module _ (p : Program) (nodes : List NetNode) (ends : List ℕ) (net : IsNetOf p
         at_place : (j : ℕ) (e : Extra) → IsAt j e → (j < k) ⊎ (j ≡ k) → In e (extras ++ more)
         at_place j e is (inl lt) = in_left e extras more (was.all j e lt is)
         at_place j e is (inr same) =
-            let node : is.0 ≡ n = both_at (slice_get nodes k) is.0 n (ap (slice_get nodes) (sym same) ∙ is.2) at in
-            let owner : is.1 ≡ o = both_at (slice_get owners k) is.1 o (ap (slice_get owners) (sym same) ∙ is.3) by in
+            let node : is.0 ≡ n = one_value (slice_get nodes k) is.0 n (ap (slice_get nodes) (sym same) ∙ is.2) at in
+            let owner : is.1 ≡ o = one_value (slice_get owners k) is.1 o (ap (slice_get owners) (sym same) ∙ is.3) by in
             in_right e extras more ((here.exact e).1
             (subst (λ (x : Owner). IsExtraBeside p (condition_of n.node) s (rows_of p s (before net.conditions n.parent)) forgotten x.rule x.condition e) owner
             (subst (λ (m : NetNode). IsExtraBeside p (condition_of m.node) s (rows_of p s (before net.conditions m.parent)) forgotten is.1.rule is.1.condition e) node is.4)))
@@ -315,7 +320,7 @@ module _ (p : Program) (s : Snapshot) (seen : ℤ) (tags : HaveDistinctTags s.fa
       }
 
 -- the rows before a node that name no forgotten fact are the same at both clocks
-pub same_before : (p : Program) (nodes : List NetNode) (ends : List ℕ) (net : IsNetOf p nodes ends) (s other : Snapshot) (forgotten : Named → Bool) → HaveSame p nodes net.conditions forgotten s other
+pub same_before : (p : Program) (nodes : List NetNode) (ends : List ℕ) (net : IsNetOf p nodes ends) (s other : Snapshot) (forgotten : Named → Bool) → HaveSameFronts p nodes net.conditions forgotten s other
     → (k : ℕ) (n : NetNode) → slice_get nodes k ≡ Some n → cleaned (rows_of p s (before net.conditions n.parent)) forgotten ≡ cleaned (rows_of p other (before net.conditions n.parent)) forgotten
 same_before p nodes ends net s other forgotten same k n e = by n.parent refl
   where
@@ -324,5 +329,5 @@ same_before p nodes ends net s other forgotten same k n e = by n.parent refl
     by (Some q) at =
         let lt : q < k = net.shaped.parents k q n e at in
         let within : k < length nodes = slice_get_within nodes k n e in
-        let node = has_at nodes q (omega (arith, lt, within)) in
+        let node = get-below nodes q (omega (arith, lt, within)) in
         same.same_rows q node.0 node.1

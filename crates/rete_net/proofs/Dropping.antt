@@ -1,14 +1,19 @@
 -- The nodes of a network forget, one after those before it.
-use Rattle.rete_net.proofs.Common.{◌≡◌, ◌∙◌, sym, ap, refl, subst, inl, inr, ℕ, zero, suc, ℤ, ◌<◌, ◌&&◌, not, Bool, true, false, List, [], ◌∷◌, ◌++◌, take, length, arith, Option, Some, None, slice_get, get_or-take, slice_get_within, In, Named, Row, has, Condition, Program, Rule, HaveDistinctTags, pattern_of, Snapshot, Look, clean, cleaned, either, empty_row, HasAllOf, candidates_of, rows_of, has_in, has_good_window, at_clock, condition_of, IsBefore, AreFans, shown_nodes, RuleRows, Rete, NetNode, AreOld, IsForgetting, NodeForgets, dropped_at, dropped_before, ForgotBelow, rows_for, AreDropped, Answered, some_answer, answer_in, IsIndexOf, AreOwners, HaveSame, NodesStand, NetStands, NetNodeStands, AreScheduled, before}
+use Rattle.rete_net.proofs.Common.{◌≡◌, ◌∙◌, sym, ap, refl, subst, inl, inr, ℕ, zero, suc, ℤ, ◌<◌, ◌&&◌, not, Bool, true, false, List, [], ◌∷◌, ◌++◌, take}
+use Rattle.rete_net.proofs.Common.{length, arith, Option, Some, None, slice_get, get_or-take, slice_get_within, In, Named, Row, has, Condition, Program, Rule}
+use Rattle.rete_net.proofs.Common.{HaveDistinctTags, pattern_of, Snapshot, Look, clean, cleaned, either, empty_row, HasAllOf, candidates_of, rows_of, has_in}
+use Rattle.rete_net.proofs.Common.{has_good_window, at_clock, condition_of, IsBefore, AreFans, shown_nodes, RuleRows, Rete, NetNode, AreOld, IsForgetting}
+use Rattle.rete_net.proofs.Common.{NodeForgets, dropped_at, dropped_before, ForgotBelow, rows_for, AreDropped, Answered, some_answer, answer_in, IsIndexOf}
+use Rattle.rete_net.proofs.Common.{AreNodeOwners, HaveSameFronts, NodesStand, NetStands, NetNodeStands, AreScheduled, before}
 use Rattle.std.specs.List.Sorted.{IsStrictlySortedBy}
 use Rattle.rete_net.specs.Answers.{given as kept}
 use Rattle.rete_net.proofs.Advancing.{first_row, rows_made}
 use Rattle.rete_net.proofs.Chaining.{AreMade, AreStanding}
 use Rattle.rete_net.proofs.Cleaning.{cleaned_either}
 use Rattle.rete_net.proofs.Frames.{forgetting_nodes, net_again, wired_of}
-use Rattle.rete_net.proofs.Growing.{has_at}
 use Rattle.rete_net.proofs.Seen.{at_hand_at}
 use Rattle.rete_net.proofs.Turning.{rising}
+use Rattle.fx_base.proofs.Sequences.{get-below}
 
 module _ (p : Program) (look : Look) (s : Snapshot) (sets : List Condition → Row → Bool) (forgotten old : Named → Bool) (nodes nodes_now : List NetNode) (conditions : ℕ → List Condition) (dropped : List (List Row))
     (tags : HaveDistinctTags s.facts) (at_hand : HasAllOf look s forgotten) (made : AreMade p s sets) (none : AreOld (cleaned (sets []) forgotten) old [])
@@ -31,7 +36,7 @@ module _ (p : Program) (look : Look) (s : Snapshot) (sets : List Condition → R
   forgot_at k was is e f = forgot k (slice_get_within nodes k was e) was is e f
 
   now_at : (k : ℕ) (was : NetNode) → slice_get nodes k ≡ Some was → (is : NetNode) × (slice_get nodes_now k ≡ Some is)
-  now_at k was e = let within : k < length nodes = slice_get_within nodes k was e in has_at nodes_now k (omega arith)
+  now_at k was e = let within : k < length nodes = slice_get_within nodes k was e in get-below nodes_now k (omega arith)
 
   one : (k : ℕ) (was : NetNode) → slice_get nodes k ≡ Some was → ((q : ℕ) → q < k → Drops q) → Drops k
   one k was e drops =
@@ -43,13 +48,13 @@ module _ (p : Program) (look : Look) (s : Snapshot) (sets : List Condition → R
 
   all_below : (b k : ℕ) (some : NetNode) → k < b → k < length nodes → Drops k
   all_below zero k some h l = absurd (omega arith)
-  all_below (suc b) k some h l = let was = has_at nodes k l in one k was.0 was.1 (λ q lt. all_below b q some (omega arith) (omega arith))
+  all_below (suc b) k some h l = let was = get-below nodes k l in one k was.0 was.1 (λ q lt. all_below b q some (omega arith) (omega arith))
 
   pub drops_at : (k : ℕ) (was : NetNode) → slice_get nodes k ≡ Some was → Drops k
   drops_at k was e = all_below (suc k) k was (omega arith) (slice_get_within nodes k was e)
 
   pub was_at : (k : ℕ) (is : NetNode) → slice_get nodes_now k ≡ Some is → (was : NetNode) × (slice_get nodes k ≡ Some was)
-  was_at k is f = let within : k < length nodes_now = slice_get_within nodes_now k is f in has_at nodes k (omega arith)
+  was_at k is f = let within : k < length nodes_now = slice_get_within nodes_now k is f in get-below nodes k (omega arith)
 
   pub condition_same : (k : ℕ) (was is : NetNode) → slice_get nodes k ≡ Some was → slice_get nodes_now k ≡ Some is → condition_of is.node ≡ condition_of was.node
   condition_same k was is e f = (forgot_at k was is e f).condition
@@ -121,7 +126,7 @@ module _ (p : Program) (look : Look) (s : Snapshot) (forgotten old : Named → B
       (n.0, n.1, condition_same p look was (rows_of p was) forgotten old (shown_nodes net) (shown_nodes new) stands.nodes.shape.conditions dropped tags known (rows_made p was tags) (none_old p was forgotten old) standing same forgot k n.0 is n.1 f)
 
   -- what was the same is so where more is forgotten
-  still_same : (a b : Snapshot) → HaveSame p (shown_nodes net) stands.nodes.shape.conditions forgotten a b → HaveSame p (shown_nodes new) stands.nodes.shape.conditions (either forgotten old) a b
+  still_same : (a b : Snapshot) → HaveSameFronts p (shown_nodes net) stands.nodes.shape.conditions forgotten a b → HaveSameFronts p (shown_nodes new) stands.nodes.shape.conditions (either forgotten old) a b
   still_same a b is = record {
     same_rows = λ k n f.
         let o = node_was k n f in
@@ -132,7 +137,7 @@ module _ (p : Program) (look : Look) (s : Snapshot) (forgotten old : Named → B
   }
 
   abbrev nodes_now : IsIndexOf (shown_nodes new) new.ends.items new.index → AreScheduled p new.nodes.items new.schedule → AreFans new.nodes.items new.fans
-      → AreOwners p stands.nodes.shape.conditions (length (shown_nodes new)) new.owners.items → NodesStand p new was (either forgotten old)
+      → AreNodeOwners p stands.nodes.shape.conditions (length (shown_nodes new)) new.owners.items → NodesStand p new was (either forgotten old)
   nodes_now indexed scheduled fans owned = record {
     shape = net_again p (shown_nodes net) (shown_nodes new) net.ends.items new.ends.items ends (forgetting_nodes p look old (shown_nodes net) (shown_nodes new) dropped same forgot) stands.nodes.shape;
     indexed = indexed;
@@ -143,7 +148,7 @@ module _ (p : Program) (look : Look) (s : Snapshot) (forgotten old : Named → B
   }
 
   pub net_forgets : IsIndexOf (shown_nodes new) new.ends.items new.index → AreScheduled p new.nodes.items new.schedule → AreFans new.nodes.items new.fans
-      → AreOwners p stands.nodes.shape.conditions (length (shown_nodes new)) new.owners.items → NetStands p new s (either forgotten old)
+      → AreNodeOwners p stands.nodes.shape.conditions (length (shown_nodes new)) new.owners.items → NetStands p new s (either forgotten old)
   net_forgets indexed scheduled fans owned = record {
     seen = stands.seen;
     begun = stands.begun;

@@ -1,5 +1,9 @@
 -- The walk over the nodes of a network, where these forget.
-use Rattle.rete_net.proofs.Common.{◌≡◌, ◌∙◌, sym, ap, refl, [], ◌+◌, ◌<◌, ◌≤◌, ℕ, Bool, false, List, Option, None, Some, length, slice_get, set, Named, Row, Program, Look, Answered, Index, NetNode, left_given, some_answer, IsPut, Fans, Seat, half_at, half_of, member_at, seat_at, showing, with_fans, AreFans, AreRowsTurned, IsHalf, IsLaidAs, IsLeft, IsOf, Member, dropped_before, HasNoOld, HaveForgotten, NodeForgets, IsFound, has_place, no_change, IsReplaced, IsWired, condition_of, Condition, pattern_of, are_none, AreWoken, true}
+use Rattle.rete_net.proofs.Common.{◌≡◌, ◌∙◌, sym, ap, refl, [], ◌+◌, ◌<◌, ◌≤◌, ℕ, Bool, false, List, Option, None, Some, length, slice_get, set, Named, Row}
+use Rattle.rete_net.proofs.Common.{Program, Look, Answered, Index, NetNode, left_given, some_answer, IsAnswerPut, Fans, Seat, half_at, half_of, member_at}
+use Rattle.rete_net.proofs.Common.{seat_at, showing, with_fans, AreFans, AreFanRowsTurned, IsHalf, IsLaidAs, IsLeft, IsOfSeat, Member, dropped_before, HasNoOld}
+use Rattle.rete_net.proofs.Common.{HaveForgotten, NodeForgets, IsNodeFound, has_place, no_change, IsReplaced, IsWired, condition_of, Condition, pattern_of}
+use Rattle.rete_net.proofs.Common.{are_none, AreWoken, true}
 use Rattle.rete_net.proofs.Idle.{idle_forgets}
 use Rattle.rete_net.proofs.Sparing.{spared}
 use Rattle.rete_net.proofs.Showing.{condition_shown}
@@ -28,7 +32,7 @@ module _ (p : Program) (look : Look) (old : Named → Bool) (before : List NetNo
 
   pub set_off : (now : Fans) (due : List ℕ) (a : Answered (List Row)) → AreFans before fans → now.seats ≡ fans.seats → now.spans ≡ fans.spans → now.lone ≡ fans.lone → now.list ≡ fans.list → ((seat : Seat) → half_at now seat ≡ no_change)
       → a.none ≡ [] → ((k : ℕ) → some_answer a k ≡ None)
-      → ((k : ℕ) (n : NetNode) → slice_get before k ≡ Some n → IsFound index k n → has_place due k ≡ false → HasNoOld look old n) → IsUnderWay before now due a 0
+      → ((k : ℕ) (n : NetNode) → slice_get before k ≡ Some n → IsNodeFound index k n → has_place due k ≡ false → HasNoOld look old n) → IsUnderWay before now due a 0
   set_off =
       fanwise.set_off (NodeForgets p look old) dropped_before [] [] [] (HasNoOld look old) look goes comes refl refl before fans ends index wired (λ rows. refl) (λ rows q. refl) begun (λ n o none. spared p look old (showing o n) (old_shown look old o n none))
       (λ n was list seat rows. idle_forgets p look old n was list seat rows)
@@ -38,10 +42,10 @@ module _ (p : Program) (look : Look) (old : Named → Bool) (before : List NetNo
         → (n new : NetNode) → slice_get nodes place ≡ Some n → new.parent ≡ n.parent → condition_of new.node ≡ condition_of n.node → IsReplaced nodes (set nodes place new)
         → (mid : Fans) → IsLaidAs now mid → ((seat : Seat) → (seat_at now.seats.items place ≡ Some seat → ⊥) → IsLeft now mid seat)
         → (rows gone : List Row) → rows ≡ left_given [] a n.parent
-        → ((was : Option Member) → IsOf n now.list.items (seat_at now.seats.items place) → IsHalf look rows [] was (member_at now place) (half_of now (seat_at now.seats.items place))
+        → ((was : Option Member) → IsOfSeat n now.list.items (seat_at now.seats.items place) → IsHalf look rows [] was (member_at now place) (half_of now (seat_at now.seats.items place))
         → NodeForgets p look old (showing was n) (showing (member_at mid place) new) rows gone)
-        → (then : Fans) → IsLaidAs mid then → ((ns : List NetNode) → AreFans ns mid → AreRowsTurned look place gone [] mid then)
-        → (b : Answered (List Row)) → (a.none ≡ [] → IsPut index place gone a b) → (are_none gone [] ≡ true → b ≡ a)
+        → (then : Fans) → IsLaidAs mid then → ((ns : List NetNode) → AreFans ns mid → AreFanRowsTurned look place gone [] mid then)
+        → (b : Answered (List Row)) → (a.none ≡ [] → IsAnswerPut index place gone a b) → (are_none gone [] ≡ true → b ≡ a)
         → (due_now : List ℕ) → ((ns : List NetNode) → AreFans ns mid → AreWoken place gone [] mid then due due_now)
         → IsUnderWay (set nodes place new) then due_now b (place + 1)
     forget_at =

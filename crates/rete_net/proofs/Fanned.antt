@@ -1,35 +1,41 @@
 -- One fan of others turns: its rows, or the candidates of one member.
-use Rattle.rete_net.proofs.Common.{◌≡◌, ◌∙◌, sym, ap, refl, subst, ℕ, ◌+◌, ◌<◌, ◌≤◌, arith, List, [], ◌∷◌, length, Option, Some, None, slice_get, inl, inr, true, false, zero, suc, nat_lt, set, slice_get_within, get, is_at, Updates, nat_tests, are_none, IsDifference, Vec, option_map, nat_cmp, Delta, Named, Row, Look, Pattern, row_key, Candidates, beside, made, AreBeside, IsMemberTurned, AreNamesTurned, Fan, Fans, Seat, Span, NetNode, given_span, half_at, half_in, in_fan, member_of, AreFans, AreNamesTurnedAt, AreRowsTurned, IsFanLike, IsHalf, IsInSpan, IsLaidAs, IsLeft, Member, Bool, BTreeMap, delta_of, IsReached, has_place, no_change, is_in, nat_eq, cond, or-true, ◌||◌}
+use Rattle.rete_net.proofs.Common.{◌≡◌, ◌∙◌, sym, ap, refl, subst, ℕ, ◌+◌, ◌<◌, ◌≤◌, arith, List, [], ◌∷◌, length, Option, Some, None, slice_get, inl, inr}
+use Rattle.rete_net.proofs.Common.{true, false, zero, suc, set, slice_get_within, get, is_at, Updates, nat_tests, are_none, IsDifference, Vec, option_map}
+use Rattle.rete_net.proofs.Common.{nat_cmp, Delta, Named, Row, Look, Pattern, row_key, Candidates, beside, made, AreBeside, IsMemberTurned, AreNamesTurned, Fan}
+use Rattle.rete_net.proofs.Common.{Fans, Seat, Span, NetNode, given_span, half_at, half_in, in_fan, member_of, AreFans, AreNamesTurnedAt, AreFanRowsTurned}
+use Rattle.rete_net.proofs.Common.{IsFanLike, IsHalf, IsInSpan, IsLaidAs, IsLeft, Member, Bool, BTreeMap, member_delta, IsReached, has_place, no_change, is_in}
+use Rattle.rete_net.proofs.Common.{nat_eq, cond, or-true, ◌||◌}
+use Rattle.std.proofs.lemmas.Bool.{false_from_ne_true}
 use Rattle.fan_join.specs.declared.fan.FanJoin.{FanJoin}
 use Rattle.std.specs.Map.{keys_of, lookup}
 use Rattle.fan_join.specs.Fans.{given_delta, AreRowsTurned as JoinTurned}
 use Rattle.rete_net.proofs.Fanning.{laid_same, laid_then}
-use Rattle.rete_net.proofs.Growing.{both_at, has_at}
 use Rattle.rete_net.proofs.Siblings.{half_none}
-use Rattle.rete_net.proofs.Turns.{below_or_at, set_other, set_same}
 use Rattle.rete_net.proofs.Walking.{equal_or_not}
+use Rattle.fx_base.proofs.Orders.{below_or_last}
+use Rattle.fx_base.proofs.Sequences.{get-below, get-set_other, get-set_same, one_value}
 
 module _ (list : List Fan) (f : ℕ) (old new : Fan) (at : slice_get list f ≡ Some old) where
   pub member_other : (seat : Seat) → (seat.fan ≡ f → ⊥) → member_of (set list f new) (Some seat) ≡ member_of list (Some seat)
-  member_other seat other = ap (in_fan seat.member) (set_other list f seat.fan new other)
+  member_other seat other = ap (in_fan seat.member) (get-set_other list f seat.fan new other)
 
   pub member_here : (seat : Seat) → seat.fan ≡ f → (member_of list (Some seat) ≡ in_fan seat.member (Some old)) × (member_of (set list f new) (Some seat) ≡ in_fan seat.member (Some new))
   member_here seat same = (
     ap (in_fan seat.member) (ap (slice_get list) same ∙ at),
-    ap (in_fan seat.member) (ap (slice_get (set list f new)) same ∙ set_same list f new old at),
+    ap (in_fan seat.member) (ap (slice_get (set list f new)) same ∙ get-set_same list f new old at),
   )
 
   pub each_like : IsFanLike old new → (g : ℕ) (a b : Fan) → slice_get list g ≡ Some a → slice_get (set list f new) g ≡ Some b → IsFanLike a b
   each_like like g a b e h = elim (equal_or_not g f) [
     | inl same ↦
-        let one : old ≡ a = both_at (slice_get list f) old a at (ap (slice_get list) (sym same) ∙ e) in
-        let two : new ≡ b = both_at (slice_get (set list f new) f) new b (set_same list f new old at) (ap (slice_get (set list f new)) (sym same) ∙ h) in
+        let one : old ≡ a = one_value (slice_get list f) old a at (ap (slice_get list) (sym same) ∙ e) in
+        let two : new ≡ b = one_value (slice_get (set list f new) f) new b (get-set_same list f new old at) (ap (slice_get (set list f new)) (sym same) ∙ h) in
         subst (IsFanLike a) two (subst (λ (x : Fan). IsFanLike x new) one like)
-    | inr other ↦ like_itself a b (both_at (slice_get list g) a b e (sym (set_other list f g new other) ∙ h))
+    | inr other ↦ like_itself a b (one_value (slice_get list g) a b e (sym (get-set_other list f g new other) ∙ h))
   ]
     where
       like_itself : (x y : Fan) → x ≡ y → IsFanLike x y
-      like_itself x y same = subst (IsFanLike x) same (record { parent = refl; places = refl; key = refl; many = refl; patterns = λ m c d e g. ap (λ (z : Candidates). z.pattern) (both_at (slice_get x.join.members.items m) d c g e); reached = λ all. all })
+      like_itself x y same = subst (IsFanLike x) same (record { parent = refl; places = refl; key = refl; many = refl; patterns = λ m c d e g. ap (λ (z : Candidates). z.pattern) (one_value (slice_get x.join.members.items m) d c g e); reached = λ all. all })
 
 -- a seat is its fan and its member
 abbrev seat_of : ℕ → ℕ → Seat
@@ -37,10 +43,6 @@ seat_of f m = record { fan = f; member = m }
 
 same_seat : (a b : Seat) → a.fan ≡ b.fan → a.member ≡ b.member → a ≡ b
 same_seat a b e h = ap (λ (f : ℕ). seat_of f a.member) e ∙ ap (λ (m : ℕ). seat_of b.fan m) h
-
-not_so : (b : Bool) → (b ≡ true → ⊥) → b ≡ false
-not_so true h = absurd (h refl)
-not_so false h = refl
 
 -- the number of another fan
 apart : (j k : ℕ) → (k ≡ j → ⊥) → is_at (nat_cmp j) k ≡ false
@@ -50,7 +52,7 @@ apart j k h = grind (arith, nat_tests)
 
 -- the half of each member of a fan
 pub fan_halved : (look : Look) (gone come : List Row) (old new : Fan) (deltas : BTreeMap ℕ Delta) (m : ℕ) (half : Delta) → JoinTurned old.join new.join look gone come deltas → new.join.members ≡ old.join.members
-    → half ≡ delta_of deltas m → IsHalf look gone come (in_fan m (Some old)) (in_fan m (Some new)) half
+    → half ≡ member_delta deltas m → IsHalf look gone come (in_fan m (Some old)) (in_fan m (Some new)) half
 fan_halved look gone come old new deltas m half turned same is = by (slice_get old.join.members.items m) refl
   where
     there_now : slice_get new.join.members.items m ≡ slice_get old.join.members.items m
@@ -87,7 +89,7 @@ module _ (look : Look) (gone come : List Row) (place : ℕ) (nodes : List NetNod
     (outside : (seat : Seat) → (IsInSpan span seat.fan → ⊥) → IsLeft old new seat)
     (inside : (seat : Seat) (f : Fan) → IsInSpan span seat.fan → slice_get old.list.items seat.fan ≡ Some f → AreBeside f.join → IsReached f.join → IsHalf look gone come (member_of old.list.items (Some seat)) (member_of new.list.items (Some seat)) (half_at new seat))
     (some : gone ≡ [] → come ≡ [] → ⊥) where
-  pub all_turned : AreRowsTurned look place gone come old new
+  pub all_turned : AreFanRowsTurned look place gone come old new
   all_turned = record {
     others = λ seat fan e other. outside seat (other_span place nodes old are span span_is seat fan e other);
     turned = λ seat fan e same nothing. inside seat fan (own_span place nodes old are span span_is seat fan e same) e (are.below.beside seat.fan fan e) (are.below.reached seat.fan fan e);
@@ -95,7 +97,7 @@ module _ (look : Look) (gone come : List Row) (place : ℕ) (nodes : List NetNod
   }
 
 -- without rows nothing turns
-pub none_turned : (look : Look) (place : ℕ) (gone come : List Row) (fans : Fans) → gone ≡ [] → come ≡ [] → AreRowsTurned look place gone come fans fans
+pub none_turned : (look : Look) (place : ℕ) (gone come : List Row) (fans : Fans) → gone ≡ [] → come ≡ [] → AreFanRowsTurned look place gone come fans fans
 none_turned look place gone come fans none_gone none_come = record {
   others = λ seat fan e other. (refl, refl);
   turned = λ seat fan e same nothing.
@@ -116,7 +118,7 @@ names_like old join look place gone come half delta turned = record {
   many = turned.many;
   patterns = λ m c d e h. elim (equal_or_not m place) [
     | inl same ↦ (turned.member c d (ap (slice_get old.join.members.items) (sym same) ∙ e) (ap (slice_get join.members.items) (sym same) ∙ h)).pattern
-    | inr other ↦ ap (λ (z : Candidates). z.pattern) (both_at (slice_get old.join.members.items m) d c (sym (turned.others m other) ∙ h) e)
+    | inr other ↦ ap (λ (z : Candidates). z.pattern) (one_value (slice_get old.join.members.items m) d c (sym (turned.others m other) ∙ h) e)
   ];
   reached = turned.reached;
 }
@@ -152,11 +154,11 @@ module _ (list : List Fan) (seat : Seat) (old : Fan) (join : FanJoin) (at : slic
       by (Some c) there None f is =
           let many = turned.many in
           let within : seat.member < length old.join.members.items = slice_get_within old.join.members.items seat.member c there in
-          let h = has_at join.members.items seat.member (omega (arith, many, within)) in
+          let h = get-below join.members.items seat.member (omega (arith, many, within)) in
           absurd (let no : None ≡ Some h.0 = sym f ∙ h.1 in cc)
       by (Some c) there (Some d) f is =
           let whole : Some (record { left = old.join.left; own = c }) ≡ Some m = sym (ap (option_map (λ x. record { left = old.join.left; own = x })) there) ∙ is in
-          let m_is : record { left = old.join.left; own = c } ≡ m = both_at (Some m) (record { left = old.join.left; own = c }) m (sym whole) refl in
+          let m_is : record { left = old.join.left; own = c } ≡ m = one_value (Some m) (record { left = old.join.left; own = c }) m (sym whole) refl in
           let here = member_here list seat.fan old new at seat refl in
           let now : member_of (set list seat.fan new) (Some seat) ≡ Some (record { left = old.join.left; own = d }) =
           here.1 ∙ ap (option_map (λ x. record { left = join.left; own = x })) f ∙ ap (λ left. Some (record { left = left; own = d })) turned.left in
@@ -197,7 +199,7 @@ module _ (look : Look) (gone come : List Row) (first now next : Fans) (span : Sp
   fan_now g f e =
       let many = was.laid.many in
       let within : g < length first.list.items = slice_get_within first.list.items g f e in
-      let x = has_at now.list.items g (omega (arith, many, within)) in
+      let x = get-below now.list.items g (omega (arith, many, within)) in
       (x.0, x.1, was.laid.each g f x.0 e x.1)
 
   here : (seat : Seat) (f : Fan) → seat.fan ≡ fan → slice_get first.list.items seat.fan ≡ Some f → AreBeside f.join → IsReached f.join
@@ -212,7 +214,7 @@ module _ (look : Look) (gone come : List Row) (first now next : Fans) (span : Sp
       beside_like a b like all k c e =
           let long = like.many in
           let within : k < length b.join.members.items = slice_get_within b.join.members.items k c e in
-          let own = has_at a.join.members.items k (omega (arith, long, within)) in
+          let own = get-below a.join.members.items k (omega (arith, long, within)) in
           ap (λ (q : Pattern). row_key q) (like.patterns k own.0 c own.1 e) ∙ all k own.0 own.1 ∙ sym like.key
 
   pub turned_more : IsTurnedTo look gone come first next span due due_next (fan + 1)
@@ -220,7 +222,7 @@ module _ (look : Look) (gone come : List Row) (first now next : Fans) (span : Sp
     laid = laid_then first now next was.laid laid;
     outside = λ seat out. left_on seat (λ same. out (omega (arith, low, same), omega (arith, high, same))) (was.outside seat out);
     ahead = λ seat le. left_on seat (λ same. absurd (omega (arith, le, same))) (was.ahead seat (omega (arith, le)));
-    turned = λ seat f from lt e beside reached. elim (below_or_at seat.fan fan lt) [
+    turned = λ seat f from lt e beside reached. elim (below_or_last seat.fan fan lt) [
       | inr same ↦ here seat f same e beside reached
       | inl less ↦
           let then = others seat (λ same. absurd (omega (arith, same, less))) in
@@ -228,11 +230,11 @@ module _ (look : Look) (gone come : List Row) (first now next : Fans) (span : Sp
           (subst (IsHalf look gone come (member_of first.list.items (Some seat)) (member_of now.list.items (Some seat))) (sym then.1) (was.turned seat f from less e beside reached))
     ];
     still = λ k h. still k (was.still k h);
-    woken = λ seat f k from lt e there out. elim (below_or_at seat.fan fan lt) [
+    woken = λ seat f k from lt e there out. elim (below_or_last seat.fan fan lt) [
       | inr same ↦
           let g = fan_now seat.fan f e in
           woken seat g.0 k same (ap (slice_get now.list.items) (sym same) ∙ g.1) (ap (λ l. slice_get l.items seat.member) g.2.places ∙ there) out
-      | inl less ↦ (others seat (λ same. absurd (omega (arith, same, less)))).1 ∙ was.woken seat f k from less e there (not_so (has_place due_now k) (λ h. let no : true ≡ false = sym (still k h) ∙ out in cc))
+      | inl less ↦ (others seat (λ same. absurd (omega (arith, same, less)))).1 ∙ was.woken seat f k from less e there (false_from_ne_true (has_place due_now k) (λ h. let no : true ≡ false = sym (still k h) ∙ out in cc))
     ];
   }
 
@@ -245,7 +247,7 @@ rows_like was now parent places key members reached = record {
   places = places;
   key = key;
   many = ap (λ v. length v.items) members;
-  patterns = λ m c d e h. ap (λ (z : Candidates). z.pattern) (both_at (slice_get was.join.members.items m) d c (ap (λ v. slice_get v.items m) (sym members) ∙ h) e);
+  patterns = λ m c d e h. ap (λ (z : Candidates). z.pattern) (one_value (slice_get was.join.members.items m) d c (ap (λ v. slice_get v.items m) (sym members) ∙ h) e);
   reached = λ all.
       subst (λ r. IsReached (record { left = now.join.left; members = now.join.members; reached = r })) (sym reached)
       (subst (λ (m : Vec Candidates). IsReached (record { left = now.join.left; members = m; reached = was.join.reached })) (sym members) all);
@@ -256,7 +258,7 @@ module _ (look : Look) (gone come : List Row) (list : List Fan) (f : ℕ) (was n
   pub fan_turned : (seat : Seat) (x : Fan) (halves : Option (BTreeMap ℕ Delta)) → seat.fan ≡ f → slice_get list f ≡ Some x → AreBeside x.join → IsReached x.join → halves ≡ Some deltas
       → IsHalf look gone come (member_of list (Some seat)) (member_of (set list f now) (Some seat)) (half_in seat.member halves)
   fan_turned seat x halves same e beside reached there =
-      let x_is : x ≡ was = both_at (slice_get list f) x was e at in
+      let x_is : x ≡ was = one_value (slice_get list f) x was e at in
       let here = member_here list f was now at seat same in
       subst (λ (o : Option Member). IsHalf look gone come o (member_of (set list f now) (Some seat)) (half_in seat.member halves)) (sym here.0)
       (subst (λ (o : Option Member). IsHalf look gone come (in_fan seat.member (Some was)) o (half_in seat.member halves)) (sym here.1)
@@ -283,7 +285,7 @@ named_key : {A : Type 0} (entries : List (ℕ × A)) (m : ℕ) (d : A) → looku
 named_key [] m d e = absurd (let no : None ≡ Some d = e in cc)
 named_key (x ∷ entries) m d e = named_if (is_at (nat_cmp m) x.0) x entries m d refl (named_key entries m d) e
 
-pub told_none : (deltas : BTreeMap ℕ Delta) (m : ℕ) → (is_in (keys_of deltas.entries) m ≡ true → ⊥) → delta_of deltas m ≡ no_change
+pub told_none : (deltas : BTreeMap ℕ Delta) (m : ℕ) → (is_in (keys_of deltas.entries) m ≡ true → ⊥) → member_delta deltas m ≡ no_change
 told_none deltas m none = by (get nat_cmp deltas m) refl
   where
     by : (o : Option Delta) → get nat_cmp deltas m ≡ o → given_delta o ≡ no_change
@@ -301,12 +303,6 @@ pub some_of : (gone come : List Row) → are_none gone come ≡ false → gone �
 some_of gone come e g c = let no : true ≡ false = sym (ap (λ xs. are_none xs come) g ∙ ap (are_none []) c) ∙ e in cc
 
 -- ---- places
-
-pub below_of : (m n : ℕ) → nat_lt m n ≡ true → m < n
-below_of m n e = grind (arith, nat_tests)
-
-pub not_below : (m n : ℕ) → nat_lt m n ≡ false → n ≤ m
-not_below m n e = grind (arith, nat_tests)
 
 pub none_past : {A : Type 0} (xs : List A) (k : ℕ) → length xs ≤ k → slice_get xs k ≡ None
 none_past [] k le = refl

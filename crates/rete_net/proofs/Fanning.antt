@@ -1,20 +1,24 @@
 -- A walk over nodes of which some are members of fans. A member that is still to come stands in the walk as it was, though the rows that it shares
 -- may have left and come already.
-use Rattle.rete_net.proofs.Common.{◌≡◌, ◌∙◌, sym, ap, refl, subst, ℕ, ◌+◌, ◌<◌, ◌≤◌, arith, List, [], length, Option, Some, None, slice_get, ◌⊎◌, inl, inr, set, slice_get_within, option_map, Row, Plain, Pattern, Look, Candidates, row_key, condition_of, Answered, Fan, Fans, Seat, Index, NetNode, answer_in, left_given, some_answer, IsPut, half_at, half_of, in_fan, member_at, member_of, seat_at, showing, with_fans, AreFans, AreRowsTurned, IsFanLike, IsHalf, IsLaidAs, IsLeft, IsOf, Member, no_change, IsReplaced, true, false, are_none, Lists, is_listed, has_place, AreWoken}
+use Rattle.rete_net.proofs.Common.{◌≡◌, ◌∙◌, sym, ap, refl, subst, ℕ, ◌+◌, ◌<◌, ◌≤◌, arith, List, [], length, Option, Some, None, slice_get, ◌⊎◌, inl, inr, set}
+use Rattle.rete_net.proofs.Common.{slice_get_within, option_map, Row, Plain, Pattern, Look, Candidates, row_key, condition_of, Answered, Fan, Fans, Seat, Index}
+use Rattle.rete_net.proofs.Common.{NetNode, answer_in, left_given, some_answer, IsAnswerPut, half_at, half_of, in_fan, member_at, member_of, seat_at, showing}
+use Rattle.rete_net.proofs.Common.{with_fans, AreFans, AreFanRowsTurned, IsFanLike, IsHalf, IsLaidAs, IsLeft, IsOfSeat, Member, no_change, IsReplaced, true}
+use Rattle.rete_net.proofs.Common.{false, are_none, Lists, is_listed, has_place, AreWoken}
 use Rattle.rete_net.specs.Answers.{given as kept}
-use Rattle.rete_net.proofs.Growing.{both_at, has_at}
 use Rattle.rete_net.proofs.Showing.{same_lists, shown_at, shown_none}
 use Rattle.rete_net.proofs.Siblings.{half_none}
-use Rattle.rete_net.proofs.Turns.{below_or_at, set_other, set_same}
 use Rattle.rete_net.proofs.Walking.{equal_or_not}
+use Rattle.fx_base.proofs.Orders.{below_or_last}
+use Rattle.fx_base.proofs.Sequences.{get-below, get-set_other, get-set_same, one_value}
 
 -- ---- where members stand
 
 -- the node in a place is of the pattern of the member that it is
-pub member_fits : (nodes : List NetNode) (fans : Fans) → AreFans nodes fans → (k : ℕ) (n : NetNode) → slice_get nodes k ≡ Some n → IsOf n fans.list.items (seat_at fans.seats.items k)
+pub member_fits : (nodes : List NetNode) (fans : Fans) → AreFans nodes fans → (k : ℕ) (n : NetNode) → slice_get nodes k ≡ Some n → IsOfSeat n fans.list.items (seat_at fans.seats.items k)
 member_fits nodes fans are k n e = by (seat_at fans.seats.items k) refl
   where
-    by : (o : Option Seat) → seat_at fans.seats.items k ≡ o → IsOf n fans.list.items o
+    by : (o : Option Seat) → seat_at fans.seats.items k ≡ o → IsOfSeat n fans.list.items o
     by None none = tt
     by (Some seat) there =
         let is = are.below.seats k n seat e there in (
@@ -29,8 +33,8 @@ pub one_seat : (nodes : List NetNode) (fans : Fans) → AreFans nodes fans → (
 one_seat nodes fans are j k m n seat e f g h =
     let one = are.below.seats j m seat e g in
     let two = are.below.seats k n seat f h in
-    let same : one.fan ≡ two.fan = both_at (slice_get fans.list.items seat.fan) one.fan two.fan one.found two.found in
-    both_at (slice_get two.fan.places.items seat.member) j k (ap (λ (fan : Fan). slice_get fan.places.items seat.member) (sym same) ∙ one.place) two.place
+    let same : one.fan ≡ two.fan = one_value (slice_get fans.list.items seat.fan) one.fan two.fan one.found two.found in
+    one_value (slice_get two.fan.places.items seat.member) j k (ap (λ (fan : Fan). slice_get fan.places.items seat.member) (sym same) ∙ one.place) two.place
 
 -- ---- fans that are laid as others
 
@@ -43,7 +47,7 @@ laid_then a b c ab bc = record {
   each = λ f x z e g.
       let many = ab.many in
       let within : f < length a.list.items = slice_get_within a.list.items f x e in
-      let y = has_at b.list.items f (omega (arith, many, within)) in
+      let y = get-below b.list.items f (omega (arith, many, within)) in
       like_then x y.0 z (ab.each f x y.0 e y.1) (bc.each f y.0 z y.1 g);
 }
   where
@@ -56,7 +60,7 @@ laid_then a b c ab bc = record {
       patterns = λ m c e h g.
           let many = xy.many in
           let within : m < length x.join.members.items = slice_get_within x.join.members.items m c h in
-          let d = has_at y.join.members.items m (omega (arith, many, within)) in
+          let d = get-below y.join.members.items m (omega (arith, many, within)) in
           yz.patterns m d.0 e d.1 g ∙ xy.patterns m c d.0 h d.1;
       reached = λ all. yz.reached (xy.reached all);
     }
@@ -67,11 +71,11 @@ laid_same a b seats spans lone list = record {
   spans = spans;
   lone = lone;
   many = ap (λ l. length l.items) list;
-  each = λ f x y e g. like x y (both_at (slice_get a.list.items f) x y e (ap (λ l. slice_get l.items f) (sym list) ∙ g));
+  each = λ f x y e g. like x y (one_value (slice_get a.list.items f) x y e (ap (λ l. slice_get l.items f) (sym list) ∙ g));
 }
   where
     like : (x y : Fan) → x ≡ y → IsFanLike x y
-    like x y same = subst (IsFanLike x) same (record { parent = refl; places = refl; key = refl; many = refl; patterns = λ m c d e g. ap (λ (z : Candidates). z.pattern) (both_at (slice_get x.join.members.items m) d c g e); reached = λ all. all })
+    like x y same = subst (IsFanLike x) same (record { parent = refl; places = refl; key = refl; many = refl; patterns = λ m c d e g. ap (λ (z : Candidates). z.pattern) (one_value (slice_get x.join.members.items m) d c g e); reached = λ all. all })
 
 -- nodes in the places of others, with fans laid as theirs, have these fans
 pub fans_again : (nodes nodes_now : List NetNode) (fans fans_now : Fans) → IsReplaced nodes nodes_now → IsLaidAs fans fans_now → AreFans nodes fans → AreFans nodes_now fans_now
@@ -81,13 +85,13 @@ fans_again nodes nodes_now fans fans_now replaced laid are = record {
     seats = λ k n seat e h.
         let many = replaced.many in
         let within : k < length nodes_now = slice_get_within nodes_now k n e in
-        let o = has_at nodes k (omega (arith, many, within)) in
+        let o = get-below nodes k (omega (arith, many, within)) in
         let is = are.below.seats k o.0 seat o.1 (ap (λ l. seat_at l.items k) (sym laid.seats) ∙ h) in
         let fan = fan_now seat.fan is.fan is.found in
         let like = laid.each seat.fan is.fan fan.0 is.found fan.1 in
         let long = like.many in
         let here : seat.member < length is.fan.join.members.items = slice_get_within is.fan.join.members.items seat.member is.own is.member in
-        let own = has_at fan.0.join.members.items seat.member (omega (arith, long, here)) in
+        let own = get-below fan.0.join.members.items seat.member (omega (arith, long, here)) in
         record {
           fan = fan.0;
           found = fan.1;
@@ -110,7 +114,7 @@ fans_again nodes nodes_now fans fans_now replaced laid are = record {
         let like = laid.each f o.0 fan o.1 e in
         let long = like.many in
         let within : k < length fan.join.members.items = slice_get_within fan.join.members.items k c h in
-        let own = has_at o.0.join.members.items k (omega (arith, long, within)) in
+        let own = get-below o.0.join.members.items k (omega (arith, long, within)) in
         ap (λ (q : Pattern). row_key q) (like.patterns k own.0 c own.1 h) ∙ are.below.beside f o.0 o.1 k own.0 own.1 ∙ sym like.key;
     reached = λ f fan e.
         let o = fan_was f fan e in
@@ -122,7 +126,7 @@ fans_again nodes nodes_now fans fans_now replaced laid are = record {
   lone = λ k parent n e is free.
       let many = replaced.many in
       let within : k < length nodes_now = slice_get_within nodes_now k n e in
-      let o = has_at nodes k (omega (arith, many, within)) in
+      let o = get-below nodes k (omega (arith, many, within)) in
       ap (λ (l : Lists). is_listed l parent k) laid.lone ∙ are.lone k parent o.0 o.1 (sym (replaced.parent k o.0 n o.1 e) ∙ is) (ap (λ l. seat_at l.items k) (sym laid.seats) ∙ free);
   behind = λ f fan e.
       let o = fan_was f fan e in
@@ -135,13 +139,13 @@ fans_again nodes nodes_now fans fans_now replaced laid are = record {
     fan_now f fan e =
         let many = laid.many in
         let within : f < length fans.list.items = slice_get_within fans.list.items f fan e in
-        has_at fans_now.list.items f (omega (arith, many, within))
+        get-below fans_now.list.items f (omega (arith, many, within))
 
     fan_was : (f : ℕ) (fan : Fan) → slice_get fans_now.list.items f ≡ Some fan → (was : Fan) × (slice_get fans.list.items f ≡ Some was)
     fan_was f fan e =
         let many = laid.many in
         let within : f < length fans_now.list.items = slice_get_within fans_now.list.items f fan e in
-        has_at fans.list.items f (omega (arith, many, within))
+        get-below fans.list.items f (omega (arith, many, within))
 
 -- ---- a walk
 
@@ -179,7 +183,7 @@ module _ {D : Type 0} (look : Look) (goes comes : D → List Row) (none first : 
     rest = λ k le. refl;
     halves = λ k n le e. begun k n e n.parent refl;
     still = λ k parent n le e is empty. (same k, half k);
-    fans_are = fans_again nodes_before nodes_before fans_before fans (record { many = refl; parent = λ k x y e f. ap (λ (n : NetNode). n.parent) (both_at (slice_get nodes_before k) y x f e); condition = λ k x y e f. ap (λ (n : NetNode). condition_of n.node) (both_at (slice_get nodes_before k) y x f e) })
+    fans_are = fans_again nodes_before nodes_before fans_before fans (record { many = refl; parent = λ k x y e f. ap (λ (n : NetNode). n.parent) (one_value (slice_get nodes_before k) y x f e); condition = λ k x y e f. ap (λ (n : NetNode). condition_of n.node) (one_value (slice_get nodes_before k) y x f e) })
         (laid_same fans_before fans seats spans lone list) are;
     seats = seats;
     nothing = nothing;
@@ -236,16 +240,16 @@ module _ {D : Type 0} (look : Look) (goes comes : D → List Row) (none first : 
     module _ (place : ℕ) (is : IsShared nodes fans a place walked) (n new : NetNode) (at : slice_get nodes place ≡ Some n) (parent : new.parent ≡ n.parent) (condition : condition_of new.node ≡ condition_of n.node)
         (so_far : IsReplaced nodes_before nodes) (replaced : IsReplaced nodes (set nodes place new))
         (mid : Fans) (laid : IsLaidAs fans mid) (others : (seat : Seat) → (seat_at fans.seats.items place ≡ Some seat → ⊥) → IsLeft fans mid seat)
-        (answer : D) (then : Fans) (laid_on : IsLaidAs mid then) (turned : (ns : List NetNode) → AreFans ns mid → AreRowsTurned look place (goes answer) (comes answer) mid then)
-        (index : Index) (b : Answered D) (put : IsPut index place answer a b) (absent : some_answer a place ≡ None) where
+        (answer : D) (then : Fans) (laid_on : IsLaidAs mid then) (turned : (ns : List NetNode) → AreFans ns mid → AreFanRowsTurned look place (goes answer) (comes answer) mid then)
+        (index : Index) (b : Answered D) (put : IsAnswerPut index place answer a b) (absent : some_answer a place ≡ None) where
       was : slice_get nodes_before place ≡ Some n
       was = sym (is.rest place (omega arith)) ∙ at
 
       mid_are : AreFans nodes mid
-      mid_are = fans_again nodes nodes fans mid (record { many = refl; parent = λ k x y e f. ap (λ (m : NetNode). m.parent) (both_at (slice_get nodes k) y x f e); condition = λ k x y e f. ap (λ (m : NetNode). condition_of m.node) (both_at (slice_get nodes k) y x f e) })
+      mid_are = fans_again nodes nodes fans mid (record { many = refl; parent = λ k x y e f. ap (λ (m : NetNode). m.parent) (one_value (slice_get nodes k) y x f e); condition = λ k x y e f. ap (λ (m : NetNode). condition_of m.node) (one_value (slice_get nodes k) y x f e) })
           laid is.fans_are
 
-      told : AreRowsTurned look place (goes answer) (comes answer) mid then
+      told : AreFanRowsTurned look place (goes answer) (comes answer) mid then
       told = turned nodes mid_are
 
       -- another node's seat is another one
@@ -269,7 +273,7 @@ module _ {D : Type 0} (look : Look) (goes comes : D → List Row) (none first : 
       not_later k m e le behind =
           let many = so_far.many in
           let within : k < length nodes = slice_get_within nodes k m e in
-          let o = has_at nodes_before k (omega (arith, many, within)) in
+          let o = get-below nodes_before k (omega (arith, many, within)) in
           let lt = parents k place o.0 o.1 (sym (so_far.parent k o.0 m o.1 e) ∙ behind) in
           absurd (omega (arith, lt, le))
 
@@ -340,7 +344,7 @@ module _ {D : Type 0} (look : Look) (goes comes : D → List Row) (none first : 
       walked_now = set walked place (showing (member_at mid place) new)
 
       walked_there : slice_get walked place ≡ Some (showing (member_at fans_before place) n) → slice_get walked_now place ≡ Some (showing (member_at mid place) new)
-      walked_there there = set_same walked place (showing (member_at mid place) new) (showing (member_at fans_before place) n) there
+      walked_there there = get-set_same walked place (showing (member_at mid place) new) (showing (member_at fans_before place) n) there
 
       answer_is : answer_in b place ≡ answer
       answer_is = ap (λ x. kept x (some_answer b place)) put.none ∙ put.here absent
@@ -350,21 +354,21 @@ module _ {D : Type 0} (look : Look) (goes comes : D → List Row) (none first : 
 
       -- nodes before: as the walk knows them
       done_now : slice_get walked place ≡ Some (showing (member_at fans_before place) n) → (k : ℕ) → k < place + 1 → slice_get walked_now k ≡ slice_get (with_fans nodes_now then) k
-      done_now there k lt = elim (below_or_at k place lt) [
+      done_now there k lt = elim (below_or_last k place lt) [
         | inl low ↦ before_it k low (slice_get nodes k) refl
         | inr same ↦
             ap (slice_get walked_now) same ∙ walked_there there ∙ ap (λ (o : Option Member). Some (showing o new)) (sym here_still)
-            ∙ sym (shown_at (member_at then) nodes_now place new (set_same nodes place new n at)) ∙ ap (slice_get (with_fans nodes_now then)) (sym same)
+            ∙ sym (shown_at (member_at then) nodes_now place new (get-set_same nodes place new n at)) ∙ ap (slice_get (with_fans nodes_now then)) (sym same)
       ]
         where
           before_it : (k : ℕ) → k < place → (o : Option NetNode) → slice_get nodes k ≡ o → slice_get walked_now k ≡ slice_get (with_fans nodes_now then) k
           before_it k low None none =
-              absurd (let lt : place < length nodes = slice_get_within nodes place n at in let h = has_at nodes k (omega (arith, lt, low)) in let no : None ≡ Some h.0 = sym none ∙ h.1 in cc)
+              absurd (let lt : place < length nodes = slice_get_within nodes place n at in let h = get-below nodes k (omega (arith, lt, low)) in let no : None ≡ Some h.0 = sym none ∙ h.1 in cc)
           before_it k low (Some m) e =
-              set_other walked place k (showing (member_at mid place) new) (λ same. absurd (omega (arith, same, low)))
+              get-set_other walked place k (showing (member_at mid place) new) (λ same. absurd (omega (arith, same, low)))
               ∙ is.done k low ∙ shown_at (member_at fans) nodes k m e
               ∙ ap (λ (o : Option Member). Some (showing o m)) (sym (left_alone k m e (λ same. absurd (omega (arith, same, low))) (not_later k m e (omega (arith, low)))).0)
-              ∙ sym (shown_at (member_at then) nodes_now k m (set_other nodes place k new (λ same. absurd (omega (arith, same, low))) ∙ e))
+              ∙ sym (shown_at (member_at then) nodes_now k m (get-set_other nodes place k new (λ same. absurd (omega (arith, same, low))) ∙ e))
 
       -- a member behind the node has its half
       behind_it : (k : ℕ) (m : NetNode) → place + 1 ≤ k → slice_get nodes_before k ≡ Some m → m.parent ≡ Some place
@@ -456,7 +460,7 @@ module _ {D : Type 0} (look : Look) (goes comes : D → List Row) (none first : 
       pub shared_more : slice_get walked place ≡ Some (showing (member_at fans_before place) n) → IsShared nodes_now then b (place + 1) walked_now
       shared_more there = record {
         done = done_now there;
-        rest = λ k le. set_other nodes place k new (λ same. absurd (omega (arith, same, le))) ∙ is.rest k (omega (arith, le));
+        rest = λ k le. get-set_other nodes place k new (λ same. absurd (omega (arith, same, le))) ∙ is.rest k (omega (arith, le));
         halves = λ k m le e. halves_now k m le e m.parent refl;
         still = still_now;
         fans_are = fans_again nodes nodes_now fans then replaced (laid_then fans mid then laid laid_on) is.fans_are;

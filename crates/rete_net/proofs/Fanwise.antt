@@ -1,12 +1,17 @@
 -- A walk over some nodes, each after its parent, of which some are members of fans.
-use Rattle.rete_net.proofs.Common.{◌≡◌, ◌∙◌, sym, ap, refl, subst, ℕ, ◌+◌, ◌<◌, ◌≤◌, arith, false, List, [], length, Option, Some, None, slice_get, slice_index_or, set, slice_get_within, Row, Look, condition_of, Answered, Fans, Seat, Index, NetNode, left_given, some_answer, IsPut, half_at, half_of, member_at, seat_at, showing, with_fans, AreFans, AreRowsTurned, IsHalf, IsLaidAs, IsLeft, IsOf, Member, Program, IsNetOf, IsFound, IsIndexOf, has_place, no_change, IsReplaced, IsWired, zero, suc, ◌-◌, ◌∷◌, true, inl, inr, are_none, Fan, member_of, AreWoken}
+use Rattle.rete_net.proofs.Common.{◌≡◌, ◌∙◌, sym, ap, refl, subst, ℕ, ◌+◌, ◌<◌, ◌≤◌, arith, false, List, [], length, Option, Some, None, slice_get}
+use Rattle.rete_net.proofs.Common.{slice_index_or, set, slice_get_within, Row, Look, condition_of, Answered, Fans, Seat, Index, NetNode, left_given}
+use Rattle.rete_net.proofs.Common.{some_answer, IsAnswerPut, half_at, half_of, member_at, seat_at, showing, with_fans, AreFans, AreFanRowsTurned, IsHalf}
+use Rattle.rete_net.proofs.Common.{IsLaidAs, IsLeft, IsOfSeat, Member, Program, IsNetOf, IsNodeFound, IsIndexOf, has_place, no_change, IsReplaced, IsWired}
+use Rattle.rete_net.proofs.Common.{zero, suc, ◌-◌, ◌∷◌, true, inl, inr, are_none, Fan, member_of, AreWoken}
 use Rattle.rete_net.specs.Answers.{given as given_or}
 use Rattle.rete_net.proofs.Fanning as fanning
 use Rattle.rete_net.proofs.Fanned.{none_turned}
 use Rattle.rete_net.proofs.Fanning.{fans_again, laid_same, member_fits}
 use Rattle.rete_net.proofs.Frames.{index_again, net_again, wired_of}
-use Rattle.rete_net.proofs.Growing.{has_at}
 use Rattle.rete_net.proofs.Showing.{parent_shown, replaced_back, replaced_shown, shown_at, shown_length}
+use Rattle.fx_base.proofs.Sequences.{get-below}
+use Rattle.std.proofs.lemmas.Bool.{false_from_ne_true}
 use Rattle.rete_net.proofs.Walking as walking
 
 -- what is wired is so with what members keep
@@ -16,7 +21,7 @@ wired_again old new ends index replaced wired = record {
   parents = λ k parent n e is.
       let many = replaced.many in
       let within : k < length new = slice_get_within new k n e in
-      let o = has_at old k (omega (arith, many, within)) in
+      let o = get-below old k (omega (arith, many, within)) in
       wired.parents k parent o.0 o.1 (sym (replaced.parent k o.0 n o.1 e) ∙ is);
   lasts = λ rule end e. let many = replaced.many in let within = wired.lasts rule end e in omega (arith, many, within);
 }
@@ -42,7 +47,7 @@ module _ {D : Type 0} (Turn : NetNode → NetNode → D → D → Type 0) (given
     (none_goes : goes none ≡ []) (none_comes : comes none ≡ []) (nodes_before : List NetNode) (fans_before : Fans) (ends : List ℕ) (index : Index) (wired : IsWired nodes_before ends index)
     (to_first : (answers : List D) → given answers None ≡ first) (to_behind : (answers : List D) (q : ℕ) → given answers (Some q) ≡ slice_index_or answers q last)
     (begun : (n : NetNode) → Alone n → n.parent ≡ None → first ≡ none) (stays : (n : NetNode) (o : Option Member) → Alone n → Turn (showing o n) (showing o n) none none)
-    (rests : (n : NetNode) (was : Option Member) (fans : List Fan) (seat : Seat) (left : D) → Alone n → IsOf n fans (Some seat) → IsHalf look (goes left) (comes left) was (member_of fans (Some seat)) no_change
+    (rests : (n : NetNode) (was : Option Member) (fans : List Fan) (seat : Seat) (left : D) → Alone n → IsOfSeat n fans (Some seat) → IsHalf look (goes left) (comes left) was (member_of fans (Some seat)) no_change
     → Turn (showing was n) (showing (member_of fans (Some seat)) n) left none) where
   abbrev pub Before : List NetNode
   Before = with_fans nodes_before fans_before
@@ -65,7 +70,7 @@ module _ {D : Type 0} (Turn : NetNode → NetNode → D → D → Type 0) (given
 
   pub set_off : (fans : Fans) (due : List ℕ) (a : Answered D) → AreFans nodes_before fans_before → fans.seats ≡ fans_before.seats → fans.spans ≡ fans_before.spans → fans.lone ≡ fans_before.lone → fans.list ≡ fans_before.list
       → ((seat : Seat) → half_at fans seat ≡ no_change) → a.none ≡ none → ((k : ℕ) → some_answer a k ≡ None)
-      → ((k : ℕ) (n : NetNode) → slice_get nodes_before k ≡ Some n → IsFound index k n → has_place due k ≡ false → Alone n) → IsOnWay nodes_before fans due a 0
+      → ((k : ℕ) (n : NetNode) → slice_get nodes_before k ≡ Some n → IsNodeFound index k n → has_place due k ≡ false → Alone n) → IsOnWay nodes_before fans due a 0
   set_off fans due a are seats spans lone list halves nothing unanswered reached = record {
     walked = Before;
     way = walking.set_off Turn given last none first Before ends index shown_wired to_first to_behind a nothing unanswered;
@@ -81,8 +86,8 @@ module _ {D : Type 0} (Turn : NetNode → NetNode → D → D → Type 0) (given
       (so_far : IsReplaced nodes_before nodes) (replaced : IsReplaced nodes (set nodes place new))
       (mid : Fans) (laid : IsLaidAs fans mid) (others : (seat : Seat) → (seat_at fans.seats.items place ≡ Some seat → ⊥) → IsLeft fans mid seat)
       (left answer : D) (left_is : left ≡ left_given first a n.parent) (turn : Turn (showing (member_at fans_before place) n) (showing (member_at mid place) new) left answer)
-      (then : Fans) (laid_on : IsLaidAs mid then) (turned : (ns : List NetNode) → AreFans ns mid → AreRowsTurned look place (goes answer) (comes answer) mid then)
-      (b : Answered D) (put : IsPut index place answer a b) (same : are_none (goes answer) (comes answer) ≡ true → b ≡ a)
+      (then : Fans) (laid_on : IsLaidAs mid then) (turned : (ns : List NetNode) → AreFans ns mid → AreFanRowsTurned look place (goes answer) (comes answer) mid then)
+      (b : Answered D) (put : IsAnswerPut index place answer a b) (same : are_none (goes answer) (comes answer) ≡ true → b ≡ a)
       (due_now : List ℕ) (woken : (ns : List NetNode) → AreFans ns mid → AreWoken place (goes answer) (comes answer) mid then due due_now) where
     was : slice_get nodes_before place ≡ Some n
     was = sym (on.shared.rest place (omega arith)) ∙ at
@@ -100,7 +105,7 @@ module _ {D : Type 0} (Turn : NetNode → NetNode → D → D → Type 0) (given
     waking = woken nodes mid_are
 
     was_out : (k : ℕ) → has_place due_now k ≡ false → has_place due k ≡ false
-    was_out k out = walking.not_true (has_place due k) (λ h. let no : true ≡ false = sym (waking.still k h) ∙ out in cc)
+    was_out k out = false_from_ne_true (has_place due k) (λ h. let no : true ≡ false = sym (waking.still k h) ∙ out in cc)
 
     got_now : (k q : ℕ) (m : NetNode) → place + 1 ≤ k → slice_get nodes_before k ≡ Some m → has_place due_now k ≡ false → m.parent ≡ Some q → seat_at then.seats.items k ≡ None → some_answer b q ≡ None
     got_now k q m le e out is free = elim (walking.equal_or_not q place) [
@@ -155,7 +160,7 @@ module _ {D : Type 0} (Turn : NetNode → NetNode → D → D → Type 0) (given
       unmoved (Some seat) there =
           let of = member_fits nodes fans on.shared.fans_are place n at in
           subst (λ (o : Option Seat). Turn (showing (member_at fans_before place) n) (showing (member_of fans.list.items o) n) left none) (sym there)
-          (rests n (member_at fans_before place) fans.list.items seat left alone (subst (IsOf n fans.list.items) there of)
+          (rests n (member_at fans_before place) fans.list.items seat left alone (subst (IsOfSeat n fans.list.items) there of)
           (subst (λ (o : Option Seat). IsHalf look (goes left) (comes left) (member_at fans_before place) (member_of fans.list.items o) no_change) there half))
 
       pass_one : IsOnWay nodes fans due a (place + 1)
@@ -181,7 +186,7 @@ module _ {D : Type 0} (Turn : NetNode → NetNode → D → D → Type 0) (given
     pass_all : (far next : ℕ) → IsOnWay nodes fans due a next → next + far ≤ length nodes → ((k : ℕ) → next ≤ k → k < next + far → has_place due k ≡ false) → IsOnWay nodes fans due a (next + far)
     pass_all zero next on h out = let same : next ≡ next + 0 = omega arith in subst (IsOnWay nodes fans due a) same on
     pass_all (suc far) next on h out =
-        let n = has_at nodes next (omega arith) in
+        let n = get-below nodes next (omega arith) in
         let one = pass_one next on (out next (omega arith) (omega arith)) n.0 n.1 in
         let same : (next + 1) + far ≡ next + suc far = omega arith in
         subst (IsOnWay nodes fans due a) same (pass_all far (next + 1) one (omega arith) (λ k le lt. out k (omega arith) (omega arith)))
@@ -204,10 +209,10 @@ module _ {D : Type 0} (Turn : NetNode → NetNode → D → D → Type 0) (given
         (n new : NetNode) (at : slice_get nodes place ≡ Some n) (parent : new.parent ≡ n.parent) (condition : condition_of new.node ≡ condition_of n.node) (replaced : IsReplaced nodes (set nodes place new))
         (mid : Fans) (laid : IsLaidAs fans mid) (others : (seat : Seat) → (seat_at fans.seats.items place ≡ Some seat → ⊥) → IsLeft fans mid seat)
         (left answer : D) (left_is : left ≡ left_given first a n.parent)
-        (turn : (was : Option Member) → IsOf n fans.list.items (seat_at fans.seats.items place) → IsHalf look (goes left) (comes left) was (member_at fans place) (half_of fans (seat_at fans.seats.items place))
+        (turn : (was : Option Member) → IsOfSeat n fans.list.items (seat_at fans.seats.items place) → IsHalf look (goes left) (comes left) was (member_at fans place) (half_of fans (seat_at fans.seats.items place))
         → Turn (showing was n) (showing (member_at mid place) new) left answer)
-        (then : Fans) (laid_on : IsLaidAs mid then) (turned : (ns : List NetNode) → AreFans ns mid → AreRowsTurned look place (goes answer) (comes answer) mid then)
-        (b : Answered D) (put : a.none ≡ none → IsPut index place answer a b) (same : are_none (goes answer) (comes answer) ≡ true → b ≡ a)
+        (then : Fans) (laid_on : IsLaidAs mid then) (turned : (ns : List NetNode) → AreFans ns mid → AreFanRowsTurned look place (goes answer) (comes answer) mid then)
+        (b : Answered D) (put : a.none ≡ none → IsAnswerPut index place answer a b) (same : are_none (goes answer) (comes answer) ≡ true → b ≡ a)
         (due_now : List ℕ) (woken : (ns : List NetNode) → AreFans ns mid → AreWoken place (goes answer) (comes answer) mid then due due_now) where
       here : IsOnWay nodes fans due a place
       here = let many = so_far.many in pass_to next place on le (omega (arith, many, within)) out

@@ -1,6 +1,15 @@
 -- A snapshot without a forgotten fact of a type that no condition observes: of what names no forgotten fact, candidates and rows are the
 -- same.
-use Rattle.rete_net.proofs.Common.{◌≡◌, ◌∙◌, sym, ap, refl, subst, inl, inr, ℕ, zero, suc, ℤ, ◌==◌, ◌&&◌, ◌||◌, not, nat_lt, Bool, true, false, cond, arith, List, [], ◌∷◌, ◌++◌, map, take, length, append-nil, Option, Some, None, slice_get, fun_ext, and-false, nat_tests, append_assoc, filter, list_any, eq_by_cmp, In, Fact, Tag, name_cmp, Named, Row, Condition, Plain, Negated, Existing, Folded, Pattern, WindowTag, Whole, Time, Length, Program, Rule, fits, is_behind, is_present, is_candidate, is_inside, candidates, HaveDistinctTags, bound_in, pattern_of, result_of, is_length, observes, is_observed_in, Snapshot, results_hold, tests_hold, Bindings, name_of, unbound, both_of, of_map, of_filter, one_fact, in_filter, passed, filter_same, filter_swap, joins, has_name, joined, clean, cleaned, remembered, AlikeOn, unvalued, splits_value, name_decides, from_unvalued, joined_clean, is_result, line, HasAllOf, NameHeld, held, candidates_of, candidate_names, rows_of, held_fact, candidate_of, candidates_named, filter_among, filter_both, is_other, facts_alike, held_known, joining_alike, less_fact}
+use Rattle.rete_net.proofs.Common.{◌≡◌, ◌∙◌, sym, ap, refl, subst, inl, inr, ℕ, zero, suc, ℤ, ◌==◌, ◌&&◌, ◌||◌, not, nat_lt, Bool, true, false, cond, arith}
+use Rattle.rete_net.proofs.Common.{List, [], ◌∷◌, ◌++◌, map, take, length, append-nil, Option, Some, None, slice_get, fun_ext, and-false, nat_tests}
+use Rattle.rete_net.proofs.Common.{append_assoc, filter, list_any, eq_by_cmp, In, Fact, Tag, name_cmp, Named, Row, Condition, Plain, Negated, Existing, Folded}
+use Rattle.rete_net.proofs.Common.{Pattern, WindowTag, Whole, Time, Length, Program, Rule, fits, is_behind, is_present, is_candidate, is_inside, candidates}
+use Rattle.rete_net.proofs.Common.{HaveDistinctTags, bound_in, pattern_of, result_of, is_length, observes, is_observed_in, Snapshot, results_hold, tests_hold}
+use Rattle.rete_net.proofs.Common.{Bindings, name_of, unbound, of_map, of_filter, one_fact, in_filter, passed, filter_same, filter_swap, joins, has_name}
+use Rattle.rete_net.proofs.Common.{joined, clean, cleaned, remembered, AlikeOn, unvalued, splits_value, name_decides, from_unvalued, joined_clean, is_result}
+use Rattle.rete_net.proofs.Common.{line, HasAllOf, NameHeld, held, candidates_of, candidate_names, rows_of, held_fact, candidate_of, candidates_named}
+use Rattle.rete_net.proofs.Common.{filter_among, filter_both, is_other, facts_alike, held_known, joining_alike, snapshot_without}
+use Rattle.std.proofs.lemmas.Bool.{and_parts, eqb-true, false_from_ne_true, or_parts}
 use Rattle.rule_model.specs.declared.condition.Accumulate.{Accumulate}
 use Rattle.rule_model.specs.Maturity.{is_mature}
 use Rattle.rule_model.specs.Snapshots.{floor}
@@ -12,19 +21,9 @@ use Rattle.rete_net.proofs.Advancing.{rows_made, same_first}
 use Rattle.rete_net.proofs.Beside.{held_at}
 use Rattle.rete_net.proofs.Chaining.{AreMade}
 use Rattle.rete_net.proofs.Cleaning.{line_cleaned}
+use Rattle.fx_base.proofs.Tests.{and_implied, both_ways_absurd, or_and_excluded, or_and_implied}
 
 -- ---- Booleans and lists
-
-torn : {X : Type 0} (b : Bool) → b ≡ true → b ≡ false → X
-torn true e f = absurd (let n : true ≡ false = f in cc)
-torn false e f = absurd (let n : false ≡ true = e in cc)
-
-no_of : (b : Bool) → (b ≡ true → ⊥) → b ≡ false
-no_of true h = absurd (h refl)
-no_of false h = refl
-
-pub one_number : (m n : ℕ) → (m == n) ≡ true → m ≡ n
-one_number m n e = grind (arith, nat_tests)
 
 other_way : (m n : ℕ) → (m == n) ≡ false → (n == m) ≡ false
 other_way m n e = grind (arith, nat_tests)
@@ -32,30 +31,14 @@ other_way m n e = grind (arith, nat_tests)
 abbrev pub tag_of : ℕ → Tag
 tag_of n = record { 0 = n }
 
-neither : (a b : Bool) → (a || b) ≡ false → (a ≡ false) × (b ≡ false)
-neither true b e = absurd (let n : true ≡ false = e in cc)
-neither false b e = (refl, e)
-
 none_of_any : {A : Type 0} (test : A → Bool) (xs : List A) → list_any test xs ≡ false → (x : A) → In x xs → test x ≡ false
 none_of_any test [] e x i = absurd i
-none_of_any test (y ∷ xs) e x (inl h) = ap test h ∙ (neither (test y) (list_any test xs) e).0
-none_of_any test (y ∷ xs) e x (inr i) = none_of_any test xs (neither (test y) (list_any test xs) e).1 x i
+none_of_any test (y ∷ xs) e x (inl h) = ap test h ∙ (or_parts (test y) (list_any test xs) e).0
+none_of_any test (y ∷ xs) e x (inr i) = none_of_any test xs (or_parts (test y) (list_any test xs) e).1 x i
 
 any_among : {A : Type 0} (test other : A → Bool) (xs : List A) → ((x : A) → In x xs → test x ≡ other x) → list_any test xs ≡ list_any other xs
 any_among test other [] h = refl
 any_among test other (x ∷ xs) h = ap (λ b. b || list_any test xs) (h x (inl refl)) ∙ ap (λ b. other x || b) (any_among test other xs (λ y i. h y (inr i)))
-
-kept_one : (e h t : Bool) → (e ≡ true → t ≡ true) → (e || (h && t)) ≡ ((e || h) && t)
-kept_one true h t k = sym (k refl)
-kept_one false h t k = refl
-
-kept_none : (e h t : Bool) → (e ≡ true → t ≡ false) → (h && t) ≡ ((e || h) && t)
-kept_none true h t k = ap (λ b. h && b) (k refl) ∙ and-false h ∙ sym (k refl)
-kept_none false h t k = refl
-
-kept_too : (c t : Bool) → (c ≡ true → t ≡ true) → c ≡ (c && t)
-kept_too true t h = sym (h refl)
-kept_too false t h = refl
 
 kept_of : (c t k : Bool) → (c ≡ true → k ≡ true → t ≡ true) → (c && k) ≡ ((c && t) && k)
 kept_of true t true h = ap (λ b. b && true) (sym (h refl refl))
@@ -100,13 +83,13 @@ unobserved_of p f none rule i c j =
     unobserved_if f c (none_of_any (λ (d : Condition). observes d && (pattern_of d).ty.0 == f.ty.0) rule.conditions
     (none_of_any (λ (r : Rule). list_any (λ (d : Condition). observes d && (pattern_of d).ty.0 == f.ty.0) r.conditions) p.rules none rule i) c j)
 
-module _ (p : Program) (s : Snapshot) (f : Fact) (forgotten : Named → Bool) (d : HaveDistinctTags s.facts) (d_less : HaveDistinctTags (less_fact s f).facts) (there : In f s.facts) (known : forgotten (name_of f) ≡ true) where
+module _ (p : Program) (s : Snapshot) (f : Fact) (forgotten : Named → Bool) (d : HaveDistinctTags s.facts) (d_less : HaveDistinctTags (snapshot_without s f).facts) (there : In f s.facts) (known : forgotten (name_of f) ≡ true) where
   abbrev less : Snapshot
-  less = less_fact s f
+  less = snapshot_without s f
 
   -- a fact that is not the one is another by its tag
   is_other_than : (g : Fact) → In g s.facts → (g ≡ f → ⊥) → is_other f g ≡ true
-  is_other_than g i h = ap not (no_of (f.tag.0 == g.tag.0) (λ e. h (one_fact s.facts d g f i there (ap tag_of (sym (one_number f.tag.0 g.tag.0 e))))))
+  is_other_than g i h = ap not (false_from_ne_true (f.tag.0 == g.tag.0) (λ e. h (one_fact s.facts d g f i there (ap tag_of (sym (eqb-true f.tag.0 g.tag.0 e))))))
 
   kept_in : (g : Fact) → In g s.facts → (g ≡ f → ⊥) → In g less.facts
   kept_in g i h = in_filter (is_other f) g s.facts (is_other_than g i h) i
@@ -117,7 +100,7 @@ module _ (p : Program) (s : Snapshot) (f : Fact) (forgotten : Named → Bool) (d
       filter_both (is_other f) test s.facts ∙ filter_among (λ (g : Fact). is_other f g && test g) test s.facts (λ g i. by g i (test g) refl)
     where
       by : (g : Fact) → In g s.facts → (b : Bool) → test g ≡ b → (is_other f g && test g) ≡ test g
-      by g i true is = ap (λ o. o && test g) (is_other_than g i (λ same. torn (test g) is (ap test same ∙ e)))
+      by g i true is = ap (λ o. o && test g) (is_other_than g i (λ same. both_ways_absurd (test g) is (ap test same ∙ e)))
       by g i false is = ap (λ b. is_other f g && b) is ∙ and-false (is_other f g) ∙ sym is
 
   -- ---- a pattern of another type
@@ -145,7 +128,7 @@ module _ (p : Program) (s : Snapshot) (f : Fact) (forgotten : Named → Bool) (d
     pub candidate_other : (g : Fact) → In g (candidates p q s) → In g s.facts × (g ≡ f → ⊥)
     candidate_other g i = (
       of_filter (is_candidate p q s) g s.facts i,
-      λ same. torn (fits p q s.clock g) (both_of (fits p q s.clock g) (is_inside p q q.window s.clock s.facts g) (passed (is_candidate p q s) g s.facts i)).0 (ap (fits p q s.clock) same ∙ no_fit s.clock),
+      λ same. both_ways_absurd (fits p q s.clock g) (and_parts (fits p q s.clock g) (is_inside p q q.window s.clock s.facts g) (passed (is_candidate p q s) g s.facts i)).0 (ap (fits p q s.clock) same ∙ no_fit s.clock),
     )
 
   -- ---- what is held
@@ -157,7 +140,7 @@ module _ (p : Program) (s : Snapshot) (f : Fact) (forgotten : Named → Bool) (d
   less_known tag g e clean =
       let at = held_at s tag g e in
       ap (held less) (sym at.1)
-      ∙ held_still g at.0 (λ same. torn (forgotten (name_of g)) (ap (λ (h : Fact). forgotten (name_of h)) same ∙ known) clean)
+      ∙ held_still g at.0 (λ same. both_ways_absurd (forgotten (name_of g)) (ap (λ (h : Fact). forgotten (name_of h)) same ∙ known) clean)
       ∙ ap (held s) at.1 ∙ e
 
   -- ---- a pattern without a window of length
@@ -180,8 +163,8 @@ module _ (p : Program) (s : Snapshot) (f : Fact) (forgotten : Named → Bool) (d
             → has_name (map name_of (cond b (g ∷ filter (λ (g : Fact). test (name_of g)) gs) (filter (λ (g : Fact). test (name_of g)) gs))) who ≡ ((eq_by_cmp name_cmp who (name_of g) || has_name (map name_of gs) who) && test who)
         by rest true e =
             ap (λ b. eq_by_cmp name_cmp who (name_of g) || b) rest
-            ∙ kept_one (eq_by_cmp name_cmp who (name_of g)) (has_name (map name_of gs) who) (test who) (λ same. ap test ((name_decides who (name_of g)).0 same) ∙ e)
-        by rest false e = rest ∙ kept_none (eq_by_cmp name_cmp who (name_of g)) (has_name (map name_of gs) who) (test who) (λ same. ap test ((name_decides who (name_of g)).0 same) ∙ e)
+            ∙ or_and_implied (eq_by_cmp name_cmp who (name_of g)) (has_name (map name_of gs) who) (test who) (λ same. ap test ((name_decides who (name_of g)).0 same) ∙ e)
+        by rest false e = rest ∙ or_and_excluded (eq_by_cmp name_cmp who (name_of g)) (has_name (map name_of gs) who) (test who) (λ same. ap test ((name_decides who (name_of g)).0 same) ∙ e)
 
     candidates_short : (who : Named) → candidates_of p q less who ≡ (candidates_of p q s who && not (f.tag.0 == who.tag.0))
     candidates_short who =
@@ -197,7 +180,7 @@ module _ (p : Program) (s : Snapshot) (f : Fact) (forgotten : Named → Bool) (d
   candidates_less c (of_other is) who =
       let q = pattern_of c in
       candidates_apart q is who
-      ∙ kept_too (candidates_of p q s who) (not (f.tag.0 == who.tag.0)) (λ e.
+      ∙ and_implied (candidates_of p q s who) (not (f.tag.0 == who.tag.0)) (λ e.
       let r = candidate_of p s d q who e in
       let other = candidate_other q is r.0 r.1 in
       ap (λ (n : Named). not (f.tag.0 == n.tag.0)) (sym r.2) ∙ is_other_than r.0 other.0 other.1)
@@ -213,13 +196,13 @@ module _ (p : Program) (s : Snapshot) (f : Fact) (forgotten : Named → Bool) (d
       let r = candidate_of p s d (pattern_of c) who e in
       let i = of_filter (is_candidate p (pattern_of c) s) r.0 s.facts r.1 in
       ap (λ (n : Named). not (f.tag.0 == n.tag.0)) (sym r.2)
-      ∙ is_other_than r.0 i (λ same. torn (not (forgotten who)) k (ap (λ (n : Named). not (forgotten n)) (sym r.2) ∙ ap (λ (g : Fact). not (forgotten (name_of g))) same ∙ ap not known)))))
+      ∙ is_other_than r.0 i (λ same. both_ways_absurd (not (forgotten who)) k (ap (λ (n : Named). not (forgotten n)) (sym r.2) ∙ ap (λ (g : Fact). not (forgotten (name_of g))) same ∙ ap not known)))))
 
   -- ---- the line of a condition
 
   module _ (rows : Row → Bool) (named : NameHeld s rows) where
     alike : (row : Row) → cleaned rows forgotten row ≡ true → AlikeOn (held less) (held s) row.facts
-    alike row e = let is = both_of (rows row) (clean forgotten row) e in facts_alike (held less) (held s) s forgotten less_known (held_known s forgotten) row.facts (named row is.0) is.1
+    alike row e = let is = and_parts (rows row) (clean forgotten row) e in facts_alike (held less) (held s) s forgotten less_known (held_known s forgotten) row.facts (named row is.0) is.1
 
     pub bound_same : (row : Row) → cleaned rows forgotten row ≡ true → bound_in (held less) row ≡ bound_in (held s) row
     bound_same row e = ap (λ (fact : ℕ → Option Fact). looking fact row) (fun_ext (named_alike (held less) (held s) row.facts (alike row e)))

@@ -1,9 +1,15 @@
 -- What a load makes of one node.
-use Rattle.rete_net.proofs.Common.{◌≡◌, ◌∙◌, ◌&&◌, ◌||◌, not, sym, ap, refl, subst, ℕ, ◌<◌, ◌==◌, cond, map, Bool, true, false, List, [], ◌∷◌, Some, None, AllByRecursion, filter, list_any, eq_by_cmp, nat_cmp, Less, Fact, Delta, Extra, Named, Row, has, row_cmp, same_equiv, IsDifference, Condition, Pattern, Moment, Program, fits, is_present, HaveDistinctTags, IsAt, pattern_of, Snapshot, of_filter, Look, IsNameDifference, row_naming, has_name, no_names, no_rows, extra_for, empty_snapshot, HasAllOf, NameHeld, candidates_of, Stands, Arrival, rows_inside, PatternGate, arrival_of, arrivals, GateStands, has_good_window, kind_of, IsOrderly, rising, Node, IsLoad, Laden, node_rows, condition_of, NodeStands, held_known, node_moves, laden_line, found_in, NetNode, is_of, IsNodeLoad, NodeLoad, IsFresh}
+use Rattle.rete_net.proofs.Common.{◌≡◌, ◌∙◌, ◌&&◌, ◌||◌, not, sym, ap, refl, subst, ℕ, ◌<◌, ◌==◌, cond, map, Bool, true, false, List, [], ◌∷◌, Some, None}
+use Rattle.rete_net.proofs.Common.{AllByRecursion, filter, list_any, eq_by_cmp, nat_cmp, Less, Fact, Delta, Extra, Named, Row, has, row_cmp, same_equiv}
+use Rattle.rete_net.proofs.Common.{IsDifference, Condition, Pattern, Moment, Program, fits, is_present, HaveDistinctTags, IsAt, pattern_of, Snapshot, of_filter}
+use Rattle.rete_net.proofs.Common.{Look, IsNameDifference, row_naming, has_name, no_names, no_rows, extra_for, empty_snapshot, HasAllOf, NameHeld}
+use Rattle.rete_net.proofs.Common.{candidates_of, StandsForArrivals, Arrival, rows_inside, PatternGate, arrival_of, arrivals, GateStands, has_good_window}
+use Rattle.rete_net.proofs.Common.{window_kind_of, IsOrderly, rising, Node, IsLoad, Laden, node_rows, condition_of, NodeStands, held_known, node_moves}
+use Rattle.rete_net.proofs.Common.{laden_line, found_in, NetNode, is_fact_of_type, IsNodeLoad, NodeLoad, IsFresh}
 use Rattle.std.specs.List.Sorted.{IsStrictlySortedBy}
 use Rattle.condition_rows.specs.Sets.{held}
 use Rattle.pattern_gate.proofs.Inside.{rows_named}
-use Rattle.loading_laws.proofs.Lines.{node_laden, node_shown}
+use Rattle.condition_node.proofs.Lines.{node_laden, node_shown}
 use Rattle.rete_net.proofs.Starting.{none_made}
 
 -- ---- facts of one type
@@ -40,26 +46,26 @@ of_none false b c e = refl
 
 module _ (p : Program) (q : Pattern) (t : Snapshot) (orderly : IsOrderly p t) where
   abbrev pub typed : Snapshot
-  typed = record t { facts = filter (is_of q.ty.0) t.facts }
+  typed = record t { facts = filter (is_fact_of_type q.ty.0) t.facts }
 
   pub typed_orderly : IsOrderly p typed
   typed_orderly = record {
-    in_order = rise_filtered (is_of q.ty.0) t.facts orderly.in_order;
-    present = λ f i. orderly.present f (of_filter (is_of q.ty.0) f t.facts i);
-    low = λ f i. orderly.low f (of_filter (is_of q.ty.0) f t.facts i);
-    high = λ f i. orderly.high f (of_filter (is_of q.ty.0) f t.facts i);
+    in_order = rise_filtered (is_fact_of_type q.ty.0) t.facts orderly.in_order;
+    present = λ f i. orderly.present f (of_filter (is_fact_of_type q.ty.0) f t.facts i);
+    low = λ f i. orderly.low f (of_filter (is_fact_of_type q.ty.0) f t.facts i);
+    high = λ f i. orderly.high f (of_filter (is_fact_of_type q.ty.0) f t.facts i);
   }
 
   same_arrivals : arrivals p q typed ≡ arrivals p q t
-  same_arrivals = ap (map arrival_of) (filter_twice (is_of q.ty.0) (fits p q t.clock) t.facts (λ f e. of_none (is_present p t.clock f) (f.ty.0 == q.ty.0) _ e))
+  same_arrivals = ap (map arrival_of) (filter_twice (is_fact_of_type q.ty.0) (fits p q t.clock) t.facts (λ f e. of_none (is_present p t.clock f) (f.ty.0 == q.ty.0) _ e))
 
   pub typed_gate : (gate : PatternGate) → GateStands p q gate typed → GateStands p q gate t
-  typed_gate gate stands = record { window = stands.window; stands = subst (λ (list : List Arrival). Stands gate.gate list t.clock) same_arrivals stands.stands }
+  typed_gate gate stands = record { window = stands.window; stands = subst (λ (list : List Arrival). StandsForArrivals gate.gate list t.clock) same_arrivals stands.stands }
 
   pub typed_candidates : (who : Named) → candidates_of p q typed who ≡ candidates_of p q t who
   typed_candidates who =
       sym (rows_named p q typed typed_orderly.in_order who)
-      ∙ ap (λ (list : List Arrival). has (rows_inside (kind_of q.window) t.clock list) (row_naming who)) same_arrivals
+      ∙ ap (λ (list : List Arrival). has (rows_inside (window_kind_of q.window) t.clock list) (row_naming who)) same_arrivals
       ∙ rows_named p q t orderly.in_order who
 
 -- ---- a node that keeps nothing
@@ -84,7 +90,7 @@ and_not true b c e f = ap not f ∙ e
 and_not false b c e f = e
 
 module _ (p : Program) (look : Look) (kept : List Fact) (extras : List Extra) (moment : Moment) (old : NetNode) (gate : PatternGate) (node : Node) (rows : List Row) (delta come : Delta) (right : List Named) (theirs : List Fact)
-    (theirs_are : theirs ≡ filter (is_of (pattern_of (condition_of old.node)).ty.0) kept)
+    (theirs_are : theirs ≡ filter (is_fact_of_type (pattern_of (condition_of old.node)).ty.0) kept)
     (stands : (s : Snapshot) → has_good_window p (pattern_of (condition_of old.node)) ≡ true → IsOrderly p s → s.facts ≡ theirs → s.clock ≡ moment.clock → GateStands p (pattern_of (condition_of old.node)) gate s)
     (comes : (s : Snapshot) → has_good_window p (pattern_of (condition_of old.node)) ≡ true → IsOrderly p s → s.facts ≡ theirs → s.clock ≡ moment.clock → IsNameDifference no_names (candidates_of p (pattern_of (condition_of old.node)) s) come)
     (names : (who : Named) → has_name right who ≡ has come.come (row_naming who))
@@ -105,7 +111,7 @@ module _ (p : Program) (look : Look) (kept : List Fact) (extras : List Extra) (m
 
   module _ (t : Snapshot) (before : Row → Bool) (given : IsNodeLoad p look kept moment t before old rows extras) where
     facts_are : (typed p q t given.orderly).facts ≡ theirs
-    facts_are = ap (filter (is_of q.ty.0)) given.facts ∙ sym theirs_are
+    facts_are = ap (filter (is_fact_of_type q.ty.0)) given.facts ∙ sym theirs_are
 
     tags : HaveDistinctTags t.facts
     tags = rising t.facts given.orderly.in_order

@@ -1,9 +1,13 @@
 -- One node after the other is loaded.
-use Rattle.rete_net.proofs.Common.{◌≡◌, ◌∙◌, sym, ap, refl, subst, inl, inr, ℕ, ◌+◌, ◌<◌, ◌≤◌, arith, true, false, List, Result, Ok, Err, Option, Some, None, slice_get, IsErrAnd, IsErrOf, filter, set, length-set, In, Fact, Delta, Extra, Row, has, InOrder, Moment, Program, of_filter, in_filter, passed, Look, Answered, Owner, Index, NetNode, answer_in, left_given, some_answer, AreRuled, IsPut, is_listed, is_under, AreLoaded, HasRowsOf, IsStuck, NodeLoad, has_place, no_change, IsWired}
+use Rattle.rete_net.proofs.Common.{◌≡◌, ◌∙◌, sym, ap, refl, subst, inl, inr, ℕ, ◌+◌, ◌<◌, ◌≤◌, arith, true, false, List, Result, Ok, Err, Option, Some, None}
+use Rattle.rete_net.proofs.Common.{slice_get, IsErrAnd, IsErrOf, filter, set, length-set, In, Fact, Delta, Extra, Row, has, InOrder, Moment, Program, of_filter}
+use Rattle.rete_net.proofs.Common.{in_filter, passed, Look, Answered, Owner, Index, NetNode, answer_in, left_given, some_answer, AreRuled, IsAnswerPut}
+use Rattle.rete_net.proofs.Common.{is_listed, is_extra_under, AreLoaded, HasRowsOf, IsStuck, NodeLoad, has_place, no_change, IsWired}
+use Rattle.std.proofs.lemmas.Bool.{false_from_ne_true}
 use Rattle.rete_net.specs.Answers.{given as kept_or}
-use Rattle.rete_net.proofs.Growing.{both_at}
-use Rattle.rete_net.proofs.Turns.{below_or_at, set_other, set_same}
-use Rattle.rete_net.proofs.Walking.{equal_or_not, not_true}
+use Rattle.rete_net.proofs.Walking.{equal_or_not}
+use Rattle.fx_base.proofs.Orders.{below_or_last}
+use Rattle.fx_base.proofs.Sequences.{get-set_other, get-set_same, one_value}
 
 -- a fault that is passed on is the one that there was
 pub same_fault : {T E : Type 0} (r : Result T E) (e x : E) → IsErrOf r x → IsErrAnd r (λ y. y ≡ e) → e ≡ x
@@ -26,7 +30,7 @@ module _ (p : Program) (look : Look) (kept : List Fact) (extras : List Extra) (m
   }
 
   -- the row of an extra is missing
-  pub stuck_at : (now : List NetNode) (a : Answered Delta) (place : ℕ) → Way now a place → (n : NetNode) → slice_get now place ≡ Some n → (own : List Extra) → ((o : Owner) → slice_get owners place ≡ Some o → own ≡ filter (is_under o) extras)
+  pub stuck_at : (now : List NetNode) (a : Answered Delta) (place : ℕ) → Way now a place → (n : NetNode) → slice_get now place ≡ Some n → (own : List Extra) → ((o : Owner) → slice_get owners place ≡ Some o → own ≡ filter (is_extra_under o) extras)
       → (rows : List Row) → rows ≡ (left_given first a n.parent).come → (InOrder rows → (e : Extra) × In e own × (has rows e.row ≡ false)) → IsStuck p look kept extras moment first before owners ends
   stuck_at now a place way n at own own_are rows rows_are missing = record {
     now = now;
@@ -38,13 +42,13 @@ module _ (p : Program) (look : Look) (kept : List Fact) (extras : List Extra) (m
     missing = λ o is sorted.
         let it = missing (subst InOrder (sym rows_are) sorted) in
         let own_one = subst (In it.0) (own_are o is) it.1 in
-        (it.0, of_filter (is_under o) it.0 extras own_one, passed (is_under o) it.0 extras own_one, ap (λ (rs : List Row). has rs it.0.row) (sym rows_are) ∙ it.2);
+        (it.0, of_filter (is_extra_under o) it.0 extras own_one, passed (is_extra_under o) it.0 extras own_one, ap (λ (rs : List Row). has rs it.0.row) (sym rows_are) ∙ it.2);
   }
 
   module _ (index : Index) (wired : IsWired before ends index) (now : List NetNode) (a : Answered Delta) (place : ℕ) (way : Way now a place) (n new : NetNode) (at : slice_get now place ≡ Some n)
-      (own : List Extra) (own_are : (o : Owner) → slice_get owners place ≡ Some o → own ≡ filter (is_under o) extras) (rows : List Row) (rows_are : rows ≡ (left_given first a n.parent).come)
+      (own : List Extra) (own_are : (o : Owner) → slice_get owners place ≡ Some o → own ≡ filter (is_extra_under o) extras) (rows : List Row) (rows_are : rows ≡ (left_given first a n.parent).come)
       (delta : Delta) (load : NodeLoad p look kept own moment n new rows delta) (there : InOrder rows → (e : Extra) → In e own → has rows e.row ≡ true)
-      (b : Answered Delta) (put : IsPut index place delta a b) where
+      (b : Answered Delta) (put : IsAnswerPut index place delta a b) where
     absent : some_answer a place ≡ None
     absent = way.ahead place (omega arith)
 
@@ -72,48 +76,48 @@ module _ (p : Program) (look : Look) (kept : List Fact) (extras : List Extra) (m
 
     ruled_now : AreRuled b ends
     ruled_now rule end e out =
-        still_none end (way.ruled rule end e (not_true (has_place a.rules.keys rule) (λ h. let no : true ≡ false = sym (put.rules_still rule h) ∙ out in cc)))
+        still_none end (way.ruled rule end e (false_from_ne_true (has_place a.rules.keys rule) (λ h. let no : true ≡ false = sym (put.rules_still rule h) ∙ out in cc)))
         (λ is. put.rules rule (subst (λ (i : ℕ). is_listed index.rules i rule ≡ true) is (wired.indexed.ended rule end e)) out)
 
     loaded_still : (k : ℕ) → k < place → (old it : NetNode) (o : Owner) → slice_get before k ≡ Some old → slice_get (set now place new) k ≡ Some it → slice_get owners k ≡ Some o
-        → NodeLoad p look kept (filter (is_under o) extras) moment old it (left_given first b old.parent).come (answer_in b k)
+        → NodeLoad p look kept (filter (is_extra_under o) extras) moment old it (left_given first b old.parent).come (answer_in b k)
     loaded_still k lt old it o e f g =
-        subst (λ (d : Delta). NodeLoad p look kept (filter (is_under o) extras) moment old it d.come (answer_in b k)) (sym (left_still k old (omega (arith, lt)) e))
-        (subst (NodeLoad p look kept (filter (is_under o) extras) moment old it (left_given first a old.parent).come) (sym (answer_still k (λ same. absurd (omega (arith, lt, same)))))
-        (way.loaded k lt old it o e (sym (set_other now place k new (λ same. absurd (omega (arith, lt, same)))) ∙ f) g))
+        subst (λ (d : Delta). NodeLoad p look kept (filter (is_extra_under o) extras) moment old it d.come (answer_in b k)) (sym (left_still k old (omega (arith, lt)) e))
+        (subst (NodeLoad p look kept (filter (is_extra_under o) extras) moment old it (left_given first a old.parent).come) (sym (answer_still k (λ same. absurd (omega (arith, lt, same)))))
+        (way.loaded k lt old it o e (sym (get-set_other now place k new (λ same. absurd (omega (arith, lt, same)))) ∙ f) g))
 
     loaded_here : (old it : NetNode) (o : Owner) → slice_get before place ≡ Some old → slice_get (set now place new) place ≡ Some it → slice_get owners place ≡ Some o
-        → NodeLoad p look kept (filter (is_under o) extras) moment old it (left_given first b old.parent).come (answer_in b place)
+        → NodeLoad p look kept (filter (is_extra_under o) extras) moment old it (left_given first b old.parent).come (answer_in b place)
     loaded_here old it o e f g =
-        let old_is : n ≡ old = both_at (slice_get before place) n old was e in
-        let new_is : new ≡ it = both_at (slice_get (set now place new) place) new it (set_same now place new n at) f in
-        subst (λ (d : Delta). NodeLoad p look kept (filter (is_under o) extras) moment old it d.come (answer_in b place)) (sym (left_still place old (omega arith) e))
-        (subst (NodeLoad p look kept (filter (is_under o) extras) moment old it (left_given first a old.parent).come) (sym answer_here)
-        (subst (λ (x : NetNode). NodeLoad p look kept (filter (is_under o) extras) moment old x (left_given first a old.parent).come delta) new_is
-        (subst (λ (x : NetNode). NodeLoad p look kept (filter (is_under o) extras) moment x new (left_given first a x.parent).come delta) old_is
-        (subst (λ (rs : List Row). NodeLoad p look kept (filter (is_under o) extras) moment n new rs delta) rows_are
+        let old_is : n ≡ old = one_value (slice_get before place) n old was e in
+        let new_is : new ≡ it = one_value (slice_get (set now place new) place) new it (get-set_same now place new n at) f in
+        subst (λ (d : Delta). NodeLoad p look kept (filter (is_extra_under o) extras) moment old it d.come (answer_in b place)) (sym (left_still place old (omega arith) e))
+        (subst (NodeLoad p look kept (filter (is_extra_under o) extras) moment old it (left_given first a old.parent).come) (sym answer_here)
+        (subst (λ (x : NetNode). NodeLoad p look kept (filter (is_extra_under o) extras) moment old x (left_given first a old.parent).come delta) new_is
+        (subst (λ (x : NetNode). NodeLoad p look kept (filter (is_extra_under o) extras) moment x new (left_given first a x.parent).come delta) old_is
+        (subst (λ (rs : List Row). NodeLoad p look kept (filter (is_extra_under o) extras) moment n new rs delta) rows_are
         (subst (λ (es : List Extra). NodeLoad p look kept es moment n new rows delta) (own_are o g) load)))))
 
     there_here : (old : NetNode) (o : Owner) → slice_get before place ≡ Some old → slice_get owners place ≡ Some o → InOrder (left_given first a old.parent).come → HasRowsOf o extras (left_given first a old.parent).come
     there_here old o e g sorted =
-        let old_is : n ≡ old = both_at (slice_get before place) n old was e in
+        let old_is : n ≡ old = one_value (slice_get before place) n old was e in
         let same : rows ≡ (left_given first a old.parent).come = rows_are ∙ ap (λ (x : NetNode). (left_given first a x.parent).come) old_is in
         subst (HasRowsOf o extras) same (λ x i under.
-        there (subst InOrder (sym same) sorted) x (subst (In x) (sym (own_are o g)) (in_filter (is_under o) x extras under i)))
+        there (subst InOrder (sym same) sorted) x (subst (In x) (sym (own_are o g)) (in_filter (is_extra_under o) x extras under i)))
 
     pub take_one : Way (set now place new) b (place + 1)
     take_one = record {
       many = length-set now place new ∙ way.many;
       none = put.none ∙ way.none;
       ahead = λ k le. put.others k (λ same. absurd (omega (arith, le, same))) ∙ way.ahead k (omega (arith, le));
-      rest = λ k le. set_other now place k new (λ same. absurd (omega (arith, le, same))) ∙ way.rest k (omega (arith, le));
-      loaded = λ k lt. elim (below_or_at k place lt) [
+      rest = λ k le. get-set_other now place k new (λ same. absurd (omega (arith, le, same))) ∙ way.rest k (omega (arith, le));
+      loaded = λ k lt. elim (below_or_last k place lt) [
         | inl less ↦ loaded_still k less
         | inr same ↦ subst
             (λ (i : ℕ). (old it : NetNode) (o : Owner) → slice_get before i ≡ Some old → slice_get (set now place new) i ≡ Some it → slice_get owners i ≡ Some o
-            → NodeLoad p look kept (filter (is_under o) extras) moment old it (left_given first b old.parent).come (answer_in b i)) (sym same) loaded_here
+            → NodeLoad p look kept (filter (is_extra_under o) extras) moment old it (left_given first b old.parent).come (answer_in b i)) (sym same) loaded_here
       ];
-      there = λ k lt old o e g. elim (below_or_at k place lt) [
+      there = λ k lt old o e g. elim (below_or_last k place lt) [
         | inl less ↦
             subst (λ (d : Delta). InOrder d.come → HasRowsOf o extras d.come) (sym (left_still k old (omega (arith, less)) e)) (way.there k less old o e g)
         | inr same ↦

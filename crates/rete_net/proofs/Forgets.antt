@@ -1,11 +1,10 @@
 -- A node of the network forgets, out of what the node of its condition answers.
-use Rattle.rete_net.proofs.Common.{◌≡◌, ◌∙◌, sym, ap, refl, subst, ◌&&◌, ◌||◌, not, Bool, true, false, List, Named, Row, has, InOrder, Condition, Program, pattern_of, Snapshot, name_of, Look, clean, cleaned, either, line, HasAllOf, held, GateStands, condition_of, NodeStands, NetNode, IsForgetting, NodeForgets, NetNodeStands}
+use Rattle.rete_net.proofs.Common.{◌≡◌, ◌∙◌, sym, ap, refl, subst, ◌&&◌, ◌||◌, not, Bool, true, false, List, Named, Row, has, InOrder, Condition, Program}
+use Rattle.rete_net.proofs.Common.{pattern_of, Snapshot, name_of, Look, clean, cleaned, either, line, HasAllOf, held, GateStands, condition_of, NodeStands}
+use Rattle.rete_net.proofs.Common.{NetNode, IsForgetting, NodeForgets, NetNodeStands}
 use Rattle.condition_node.specs.Forgetting.{ForgetsIn}
 use Rattle.rete_net.proofs.Turning.{MoveLaw, held_has}
-
-neither : (a b : Bool) → (a || b) ≡ false → a ≡ false
-neither true b e = e
-neither false b e = refl
+use Rattle.fx_base.proofs.Tests.{or_first_false}
 
 exactly : (a g o : Bool) → (a ≡ true → g ≡ o) → (g ≡ true → a ≡ true) → g ≡ (a && o)
 exactly true g o h k = h refl
@@ -14,7 +13,7 @@ exactly false false o h k = refl
 
 -- a store that has what was remembered has what still is
 pub known_still : (look : Look) (s : Snapshot) (forgotten old : Named → Bool) → HasAllOf look s forgotten → HasAllOf look s (either forgotten old)
-known_still look s forgotten old known tag f e clean = known tag f e (neither (forgotten (name_of f)) (old (name_of f)) clean)
+known_still look s forgotten old known tag f e clean = known tag f e (or_first_false (forgotten (name_of f)) (old (name_of f)) clean)
 
 module _ (p : Program) (look : Look) (old : Named → Bool) (before after : NetNode) (dropped gone : List Row) where
   abbrev Claims : (Snapshot → (Row → Bool) → (Named → Bool) → Type 0) → Type 0

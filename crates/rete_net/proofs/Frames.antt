@@ -1,6 +1,9 @@
 -- The shape of a network, which each step of its nodes keeps.
-use Rattle.rete_net.proofs.Common.{◌≡◌, ◌∙◌, sym, ap, subst, ℕ, ◌<◌, arith, Bool, true, List, ◌∷◌, ◌++◌, [], length, Option, Some, slice_get, slice_get_within, Fact, Delta, Named, Row, Condition, Program, pattern_of, Look, has_good_window, condition_of, RuleChange, NetNode, ForgotBelow, before, EndsAt, IsNetOf, NetStep, is_listed, IsAskedWhereMeant, IsFound, IsIndexOf, IsReplaced, IsWired, Index, Moment}
-use Rattle.rete_net.proofs.Growing.{has_at, both_at}
+use Rattle.rete_net.proofs.Common.{◌≡◌, ◌∙◌, sym, ap, subst, ℕ, ◌<◌, arith, Bool, true, List, ◌∷◌, ◌++◌, [], length, Option, Some, slice_get, slice_get_within}
+use Rattle.rete_net.proofs.Common.{Fact, Delta, Named, Row, Condition, Program, pattern_of, Look, has_good_window, condition_of, RuleChange, NetNode}
+use Rattle.rete_net.proofs.Common.{ForgotBelow, before, EndsRule, IsNetOf, NetStep, is_listed, IsAskedWhereMeant, IsNodeFound, IsIndexOf, IsReplaced, IsWired}
+use Rattle.rete_net.proofs.Common.{Index, Moment}
+use Rattle.fx_base.proofs.Sequences.{get-below, one_value}
 
 pub stepped_nodes : (p : Program) (look : Look) (gone : List Fact) (come : Option Fact) (moment : Moment) (first : Delta) (old new : List NetNode) (ends : List ℕ) (answers : List RuleChange)
     → NetStep p look gone come moment first old new ends answers → IsReplaced old new
@@ -22,13 +25,13 @@ module _ (p : Program) (old new : List NetNode) (ends ends_now : List ℕ) (same
   was k n e =
       let many = replaced.many in
       let within : k < length new = slice_get_within new k n e in
-      has_at old k (omega arith)
+      get-below old k (omega arith)
 
   pub is : (k : ℕ) (o : NetNode) → slice_get old k ≡ Some o → (n : NetNode) × (slice_get new k ≡ Some n)
   is k o e =
       let many = replaced.many in
       let within : k < length old = slice_get_within old k o e in
-      has_at new k (omega arith)
+      get-below new k (omega arith)
 
   pub own : (k : ℕ) (n : NetNode) → slice_get new k ≡ Some n → net.conditions k ≡ before net.conditions n.parent ++ condition_of n.node ∷ []
   own k n e =
@@ -48,7 +51,7 @@ module _ (p : Program) (old new : List NetNode) (ends ends_now : List ℕ) (same
     lasts = λ place rule e.
         let end = net.lasts place rule e in
         let n = is end.last end.node end.there in
-        subst (λ (places : List ℕ). EndsAt new net.conditions places place rule) (sym same)
+        subst (λ (places : List ℕ). EndsRule new net.conditions places place rule) (sym same)
         (record { last = end.last; node = n.0; found = end.found; there = n.1; all = end.all });
     count = ap length same ∙ net.count;
     fronts = λ k n e. net.fronts k (was k n e).0 (was k n e).1;
@@ -59,7 +62,7 @@ module _ (p : Program) (old new : List NetNode) (ends ends_now : List ℕ) (same
 
 -- ---- the index
 
-found_again : (index : Index) (k : ℕ) (old new : NetNode) → new.parent ≡ old.parent → condition_of new.node ≡ condition_of old.node → IsFound index k old → IsFound index k new
+found_again : (index : Index) (k : ℕ) (old new : NetNode) → new.parent ≡ old.parent → condition_of new.node ≡ condition_of old.node → IsNodeFound index k old → IsNodeFound index k new
 found_again index k old new parent condition was = record {
   typed = ap (λ (c : Condition). is_listed index.by_type (pattern_of c).ty.0 k) condition ∙ was.typed;
   asked = subst (λ (c : Condition). IsAskedWhereMeant index.alpha (pattern_of c) k) (sym condition) was.asked;
@@ -74,7 +77,7 @@ index_again old new ends ends_now index index_now replaced same same_index index
       found = λ k n e.
           let many = replaced.many in
           let within : k < length new = slice_get_within new k n e in
-          let o = has_at old k (omega arith) in
+          let o = get-below old k (omega arith) in
           found_again index k o.0 n (replaced.parent k o.0 n o.1 e) (replaced.condition k o.0 n o.1 e) (indexed.found k o.0 o.1);
       ended = indexed.ended;
     }))
@@ -87,8 +90,8 @@ wired_of p nodes ends index net indexed = record {
   lasts = λ rule end e.
       let count = net.count in
       let within : rule < length ends = slice_get_within ends rule end e in
-      let r = has_at p.rules rule (omega (arith, count)) in
+      let r = get-below p.rules rule (omega (arith, count)) in
       let last = net.lasts rule r.0 r.1 in
-      let same : last.last ≡ end = both_at (slice_get ends rule) last.last end last.found e in
+      let same : last.last ≡ end = one_value (slice_get ends rule) last.last end last.found e in
       subst (λ (i : ℕ). i < length nodes) same (slice_get_within nodes last.last last.node last.there);
 }

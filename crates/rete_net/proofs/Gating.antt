@@ -1,5 +1,8 @@
 -- A gate stays as it is until something is due in it, whatever goes and comes that is not meant.
-use Rattle.rete_net.proofs.Common.{◌≡◌, ◌∙◌, sym, ap, refl, subst, ℕ, ℤ, ◌≤ℤ◌, ◌<ℤ◌, ◌-ℤ◌, ◌&&◌, not, ◌||◌, true, false, List, [], map, Option, IfSome, IsStrictlySortedBy, nat_cmp, Fact, has, Named, fits, is_within, Snapshot, expiry_of, Pattern, Program, row_naming, candidates_of, Stands, Arrival, rows_inside, GateStands, arrival_of, arrivals, kind_of, IsOrderly, Moves, at_clock, is_meant, is_one_meant, PatternGate, filter_among, meant, same_arrivals, stands_still, IsGateStill}
+use Rattle.rete_net.proofs.Common.{◌≡◌, ◌∙◌, sym, ap, refl, subst, ℕ, ℤ, ◌≤ℤ◌, ◌<ℤ◌, ◌-ℤ◌, ◌&&◌, not, ◌||◌, true, false, List, [], map, Option, IfSome}
+use Rattle.rete_net.proofs.Common.{IsStrictlySortedBy, nat_cmp, Fact, has, Named, fits, is_within, Snapshot, expiry_of, Pattern, Program, row_naming}
+use Rattle.rete_net.proofs.Common.{candidates_of, StandsForArrivals, Arrival, rows_inside, GateStands, arrival_of, arrivals, window_kind_of, IsOrderly}
+use Rattle.rete_net.proofs.Common.{MovesSnapshot, at_clock, is_meant, is_one_meant, PatternGate, filter_among, meant, same_arrivals, stands_still, IsGateStill}
 use Rattle.rule_model.specs.Candidates.{is_present}
 use Rattle.rule_model.specs.Types.{is_event}
 use Rattle.pattern_gate.proofs.Inside.{rows_named}
@@ -38,7 +41,7 @@ AnswersUntil gate until = (p : Program) (q : Pattern) (s : Snapshot) (clock : �
 
 -- a fact that goes by its expiry may be among what goes; so the clock moves in the program without types, for the same arrivals
 module _ (gate : PatternGate) (until : Option ℤ) (stands_until : StandsUntil gate until) (answers_until : AnswersUntil gate until) (clock : ℤ) (before : IfSome until (λ at. clock <ℤ at)) where
-  module _ (p : Program) (q : Pattern) (s next : Snapshot) (gone : List Fact) (come : Option Fact) (none : is_one_meant q gone come ≡ false) (stands : GateStands p q gate s) (moves : Moves p s next gone come)
+  module _ (p : Program) (q : Pattern) (s next : Snapshot) (gone : List Fact) (come : Option Fact) (none : is_one_meant q gone come ≡ false) (stands : GateStands p q gate s) (moves : MovesSnapshot p s next gone come)
       (at : next.clock ≡ clock) where
     abbrev moved : Snapshot
     moved = at_clock s clock
@@ -56,7 +59,7 @@ module _ (gate : PatternGate) (until : Option ℤ) (stands_until : StandsUntil g
     same_moved = arrivals_meant plain q moved then ∙ sym (arrivals_meant p q s moves.before)
 
     base : GateStands plain q gate s
-    base = record { window = stands.window; stands = subst (λ (list : List Arrival). Stands gate.gate list s.clock) (sym same) stands.stands }
+    base = record { window = stands.window; stands = subst (λ (list : List Arrival). StandsForArrivals gate.gate list s.clock) (sym same) stands.stands }
 
     onward : s.clock ≤ℤ clock
     onward = subst (λ (c : ℤ). s.clock ≤ℤ c) at moves.clock
@@ -64,18 +67,18 @@ module _ (gate : PatternGate) (until : Option ℤ) (stands_until : StandsUntil g
     gate_stands : GateStands p q gate next
     gate_stands =
         stands_still p q s next moves.before moves.after (same_arrivals p q s next gone come moves none) gate stands
-        (subst (λ (c : ℤ). Stands gate.gate (arrivals p q s) c) (sym at)
-        (subst (λ (list : List Arrival). Stands gate.gate list clock) same_moved (stands_until plain q s clock base now then onward before).stands))
+        (subst (λ (c : ℤ). StandsForArrivals gate.gate (arrivals p q s) c) (sym at)
+        (subst (λ (list : List Arrival). StandsForArrivals gate.gate list clock) same_moved (stands_until plain q s clock base now then onward before).stands))
 
     same_names : (who : Named) → candidates_of p q next who ≡ candidates_of p q s who
     same_names who =
         sym (rows_named p q next moves.after.in_order who)
-        ∙ ap (λ (list : List Arrival). has (rows_inside (kind_of q.window) next.clock list) (row_naming who)) (sym (same_arrivals p q s next gone come moves none) ∙ sym same_moved)
-        ∙ ap (λ (c : ℤ). has (rows_inside (kind_of q.window) c (arrivals plain q moved)) (row_naming who)) at
+        ∙ ap (λ (list : List Arrival). has (rows_inside (window_kind_of q.window) next.clock list) (row_naming who)) (sym (same_arrivals p q s next gone come moves none) ∙ sym same_moved)
+        ∙ ap (λ (c : ℤ). has (rows_inside (window_kind_of q.window) c (arrivals plain q moved)) (row_naming who)) at
         ∙ rows_named plain q moved moves.before.in_order who
         ∙ answers_until plain q s clock base now then onward before who
         ∙ sym (rows_named plain q s moves.before.in_order who)
-        ∙ ap (λ (list : List Arrival). has (rows_inside (kind_of q.window) s.clock list) (row_naming who)) same
+        ∙ ap (λ (list : List Arrival). has (rows_inside (window_kind_of q.window) s.clock list) (row_naming who)) same
         ∙ rows_named p q s moves.before.in_order who
 
   pub gate_still : IsGateStill gate clock

@@ -1,5 +1,8 @@
 -- One node after the other is loaded, of which some are members of fans.
-use Rattle.rete_net.proofs.Common.{◌≡◌, ◌∙◌, sym, ap, refl, subst, ℕ, ◌+◌, arith, true, false, List, [], length, Option, Some, None, slice_get, filter, set, In, Fact, Delta, Extra, Row, has, InOrder, Moment, Program, Look, condition_of, Answered, Owner, Fans, Seat, Index, NetNode, left_given, some_answer, IsPut, half_at, half_of, member_at, seat_at, showing, with_fans, AreFans, AreRowsTurned, IsHalf, IsLaidAs, IsLeft, IsOf, Member, is_under, AreLoaded, IsStuck, NodeLoad, no_change, IsReplaced, IsWired}
+use Rattle.rete_net.proofs.Common.{◌≡◌, ◌∙◌, sym, ap, refl, subst, ℕ, ◌+◌, arith, true, false, List, [], length, Option, Some, None, slice_get, filter, set, In}
+use Rattle.rete_net.proofs.Common.{Fact, Delta, Extra, Row, has, InOrder, Moment, Program, Look, condition_of, Answered, Owner, Fans, Seat, Index, NetNode}
+use Rattle.rete_net.proofs.Common.{left_given, some_answer, IsAnswerPut, half_at, half_of, member_at, seat_at, showing, with_fans, AreFans, AreFanRowsTurned}
+use Rattle.rete_net.proofs.Common.{IsHalf, IsLaidAs, IsLeft, IsOfSeat, Member, is_extra_under, AreLoaded, IsStuck, NodeLoad, no_change, IsReplaced, IsWired}
 use Rattle.rete_net.proofs.Fanning as fanning
 use Rattle.rete_net.proofs.Fanning.{member_fits}
 use Rattle.rete_net.proofs.Fanwise.{wired_again}
@@ -42,7 +45,7 @@ module _ (p : Program) (look : Look) (kept : List Fact) (extras : List Extra) (m
     there : slice_get on.walked place ≡ Some (showing (member_at fans place) n)
     there = on.way.rest place (omega arith) ∙ shown_at (member_at fans) before place n was
 
-    pub stuck_at : (own : List Extra) → ((o : Owner) → slice_get owners place ≡ Some o → own ≡ filter (is_under o) extras)
+    pub stuck_at : (own : List Extra) → ((o : Owner) → slice_get owners place ≡ Some o → own ≡ filter (is_extra_under o) extras)
         → (rows : List Row) → rows ≡ (left_given first a n.parent).come → (InOrder rows → (e : Extra) × In e own × (has rows e.row ≡ false)) → IsStuck p look kept extras moment first Before owners ends
     stuck_at own own_are rows rows_are missing =
         filling.stuck_at p look kept extras moment first Before owners ends on.walked a place on.way (showing (member_at fans place) n) there own own_are rows
@@ -50,12 +53,12 @@ module _ (p : Program) (look : Look) (kept : List Fact) (extras : List Extra) (m
 
     module _ (new : NetNode) (parent : new.parent ≡ n.parent) (condition : condition_of new.node ≡ condition_of n.node) (so_far : IsReplaced before nodes) (replaced : IsReplaced nodes (set nodes place new))
         (mid : Fans) (laid : IsLaidAs now mid) (others : (seat : Seat) → (seat_at now.seats.items place ≡ Some seat → ⊥) → IsLeft now mid seat)
-        (own : List Extra) (own_are : (o : Owner) → slice_get owners place ≡ Some o → own ≡ filter (is_under o) extras) (rows : List Row) (rows_are : rows ≡ (left_given first a n.parent).come) (delta : Delta)
-        (load : (was : Option Member) → IsOf n now.list.items (seat_at now.seats.items place) → IsHalf look [] rows was (member_at now place) (half_of now (seat_at now.seats.items place))
+        (own : List Extra) (own_are : (o : Owner) → slice_get owners place ≡ Some o → own ≡ filter (is_extra_under o) extras) (rows : List Row) (rows_are : rows ≡ (left_given first a n.parent).come) (delta : Delta)
+        (load : (was : Option Member) → IsOfSeat n now.list.items (seat_at now.seats.items place) → IsHalf look [] rows was (member_at now place) (half_of now (seat_at now.seats.items place))
         → NodeLoad p look kept own moment (showing was n) (showing (member_at mid place) new) rows delta)
         (have : InOrder rows → (e : Extra) → In e own → has rows e.row ≡ true)
-        (then : Fans) (laid_on : IsLaidAs mid then) (turned : (ns : List NetNode) → AreFans ns mid → AreRowsTurned look place [] delta.come mid then)
-        (b : Answered Delta) (put : IsPut index place delta a b) where
+        (then : Fans) (laid_on : IsLaidAs mid then) (turned : (ns : List NetNode) → AreFans ns mid → AreFanRowsTurned look place [] delta.come mid then)
+        (b : Answered Delta) (put : IsAnswerPut index place delta a b) where
       half : IsHalf look [] rows (member_at fans place) (member_at now place) (half_of now (seat_at now.seats.items place))
       half =
           subst (λ (rs : List Row). IsHalf look [] rs (member_at fans place) (member_at now place) (half_of now (seat_at now.seats.items place))) (sym rows_are)

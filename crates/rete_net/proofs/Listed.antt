@@ -1,17 +1,12 @@
 -- Lists of places by number: what they have stays where more is put.
-use Rattle.rete_net.proofs.Common.{◌≡◌, ◌∙◌, sym, ap, refl, ℕ, zero, suc, arith, ◌||◌, Bool, true, false, List, [], ◌∷◌, ◌++◌, Some, None, slice_get, nat_eq, set, Vec, list_any, items_of}
-
-or_on : (a b c : Bool) → (b ≡ true → c ≡ true) → (a || b) ≡ true → (a || c) ≡ true
-or_on true b c h e = refl
-or_on false b c h e = h e
+use Rattle.rete_net.proofs.Common.{◌≡◌, ◌∙◌, sym, ap, ℕ, zero, suc, arith, ◌||◌, Bool, true, false, List, [], ◌∷◌, ◌++◌, Some, None, slice_get, nat_eq, set}
+use Rattle.rete_net.proofs.Common.{Vec, list_any, items_of}
+use Rattle.std.proofs.lemmas.Bool.{or_right}
+use Rattle.fx_base.proofs.Tests.{or_weaker}
 
 any_left : {A : Type 0} (p : A → Bool) (xs ys : List A) → list_any p xs ≡ true → list_any p (xs ++ ys) ≡ true
 any_left p [] ys h = absurd (let no : false ≡ true = h in cc)
-any_left p (x ∷ xs) ys h = or_on (p x) (list_any p xs) (list_any p (xs ++ ys)) (any_left p xs ys) h
-
-or_right : (a b : Bool) → b ≡ true → (a || b) ≡ true
-or_right true b e = refl
-or_right false b e = e
+any_left p (x ∷ xs) ys h = or_weaker (p x) (list_any p xs) (list_any p (xs ++ ys)) (any_left p xs ys) h
 
 any_last : (xs : List ℕ) (x : ℕ) → list_any (nat_eq x) (xs ++ x ∷ []) ≡ true
 any_last [] x = same x

@@ -1,17 +1,10 @@
 -- The rules of which rows are dropped are listed, one after the other.
-use Rattle.rete_net.proofs.Common.{◌≡◌, ◌∙◌, sym, ap, refl, ℕ, suc, ◌+◌, ◌<◌, ◌≤◌, ◌==◌, Bool, true, false, cond, arith, List, [], ◌∷◌, ◌++◌, length, Some, slice_get, ◌⊎◌, inl, inr, nat_tests, slice_get_within, Row, RuleRows, rows_for, with_rows, AreListed, Answered, given, answer_in, AreRuled, has_place}
-use Rattle.rete_net.proofs.Growing.{both_at, each_more}
-use Rattle.rete_net.proofs.Turns.{below_or_at}
-
-same_number : (m n : ℕ) → m ≡ n → (m == n) ≡ true
-same_number m n e = grind (arith, nat_tests)
-
-other_number : (m n : ℕ) → (m ≡ n → ⊥) → (m == n) ≡ false
-other_number m n h = by (m == n) refl
-  where
-    by : (b : Bool) → (m == n) ≡ b → b ≡ false
-    by true e = absurd (h (grind (arith, nat_tests)))
-    by false e = refl
+use Rattle.rete_net.proofs.Common.{◌≡◌, ◌∙◌, sym, ap, refl, ℕ, suc, ◌+◌, ◌<◌, ◌≤◌, ◌==◌, false, cond, arith, List, [], ◌∷◌, ◌++◌, length, Some, slice_get, ◌⊎◌}
+use Rattle.rete_net.proofs.Common.{inl, inr, slice_get_within, Row, RuleRows, rows_for, with_rows, AreListed, Answered, given, answer_in, AreRuled, has_place}
+use Rattle.std.proofs.lemmas.Bool.{eq-eqb, ne_eqb}
+use Rattle.rete_net.proofs.Growing.{each_more}
+use Rattle.fx_base.proofs.Orders.{below_or_last}
+use Rattle.fx_base.proofs.Sequences.{one_value}
 
 below_or_from : (k i : ℕ) → (k < i) ⊎ (i ≤ k)
 below_or_from k i = grind arith
@@ -21,20 +14,20 @@ abbrev AreBefore : List RuleRows → ℕ → Type 0
 AreBefore answers i = (k : ℕ) (a : RuleRows) → slice_get answers k ≡ Some a → a.place < i
 
 rows_other : (answers : List RuleRows) (x : RuleRows) (k : ℕ) → (x.place ≡ k → ⊥) → rows_for (answers ++ x ∷ []) k ≡ rows_for answers k
-rows_other [] x k h = ap (λ b. cond b x.rows []) (other_number x.place k h)
+rows_other [] x k h = ap (λ b. cond b x.rows []) (ne_eqb x.place k h)
 rows_other (a ∷ answers) x k h = ap (cond (a.place == k) a.rows) (rows_other answers x k h)
 
 rows_here : (answers : List RuleRows) (x : RuleRows) (i : ℕ) → x.place ≡ i → AreBefore answers i → rows_for (answers ++ x ∷ []) i ≡ x.rows
-rows_here [] x i at before = ap (λ b. cond b x.rows []) (same_number x.place i at)
+rows_here [] x i at before = ap (λ b. cond b x.rows []) (eq-eqb x.place i at)
 rows_here (a ∷ answers) x i at before =
     let lt : a.place < i = before 0 a refl in
-    ap (λ b. cond b a.rows (rows_for (answers ++ x ∷ []) i)) (other_number a.place i (λ e. absurd (omega arith))) ∙ rows_here answers x i at (λ k b e. before (suc k) b e)
+    ap (λ b. cond b a.rows (rows_for (answers ++ x ∷ []) i)) (ne_eqb a.place i (λ e. absurd (omega arith))) ∙ rows_here answers x i at (λ k b e. before (suc k) b e)
 
 rows_absent : (answers : List RuleRows) (i : ℕ) → AreBefore answers i → rows_for answers i ≡ []
 rows_absent [] i before = refl
 rows_absent (a ∷ answers) i before =
     let lt : a.place < i = before 0 a refl in
-    ap (λ b. cond b a.rows (rows_for answers i)) (other_number a.place i (λ e. absurd (omega arith))) ∙ rows_absent answers i (λ k b e. before (suc k) b e)
+    ap (λ b. cond b a.rows (rows_for answers i)) (ne_eqb a.place i (λ e. absurd (omega arith))) ∙ rows_absent answers i (λ k b e. before (suc k) b e)
 
 -- of more rules too
 pub listed_far : (answers : List RuleRows) (i j : ℕ) → i ≤ j → AreListed answers i → AreListed answers j
@@ -91,9 +84,9 @@ module _ (a : Answered (List Row)) (ends : List ℕ) (answers : List RuleRows) (
       → rows_for (with_rows answers place rows) k ≡ answer_in a end
   rows_more rows here at is le k end lt e =
       let far = listed_far answers next place le listed in
-      elim (below_or_at k place lt) [
+      elim (below_or_last k place lt) [
         | inl below ↦ rows_elsewhere answers place far rows k (λ same. absurd (omega arith)) ∙ rows_passed k end below e
         | inr same ↦
-            let there : here ≡ end = both_at (slice_get ends place) here end at (ap (slice_get ends) (sym same) ∙ e) in
+            let there : here ≡ end = one_value (slice_get ends place) here end at (ap (slice_get ends) (sym same) ∙ e) in
             ap (rows_for (with_rows answers place rows)) same ∙ rows_there answers place far rows ∙ is ∙ ap (answer_in a) there
       ]

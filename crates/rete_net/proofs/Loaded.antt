@@ -1,12 +1,17 @@
 -- The rows that the nodes of a network answer as it is loaded.
-use Rattle.rete_net.proofs.Common.{◌≡◌, ◌∙◌, sym, ap, refl, subst, ℕ, zero, suc, ◌<◌, ◌≤◌, nat_lt, arith, Bool, true, false, ◌||◌, List, [], ◌∷◌, ◌++◌, length, take, Option, Some, None, slice_get, fun_ext, filter, eq_by_cmp, nat_tests, length-take-le, Fact, Delta, Extra, Row, has, row_cmp, InOrder, Condition, Moment, Program, Rule, Snapshot, of_filter, Look, extra_for, empty_row, is_empty_row, condition_of, IsFirstWith, extra_at, laden_line, laden_with, Answered, Owner, NetNode, answer_in, left_given, IsLoadable, is_under, AreLoaded, IsNodeLoad, IsOwned, before, IsNetOf, IsFresh, empty_row_comes}
+use Rattle.rete_net.proofs.Common.{◌≡◌, ◌∙◌, sym, ap, refl, subst, ℕ, zero, suc, ◌<◌, ◌≤◌, nat_lt, arith, Bool, true, false, ◌||◌, List, [], ◌∷◌, ◌++◌, length}
+use Rattle.rete_net.proofs.Common.{take, Option, Some, None, slice_get, fun_ext, filter, eq_by_cmp, nat_tests, length-take-le, Fact, Delta, Extra, Row, has}
+use Rattle.rete_net.proofs.Common.{row_cmp, InOrder, Condition, Moment, Program, Rule, Snapshot, of_filter, Look, extra_for, empty_row, is_empty_row}
+use Rattle.rete_net.proofs.Common.{condition_of, IsFirstWith, extra_at, laden_line, laden_with, Answered, Owner, NetNode, answer_in, left_given, IsLoadable}
+use Rattle.rete_net.proofs.Common.{is_extra_under, AreLoaded, IsNodeLoad, IsOwned, before, IsNetOf, IsFresh, empty_row_comes}
 use Rattle.std.specs.List.Sorted.{IsStrictlySortedBy}
-use Rattle.image_laws.specs.Laden.{AreOwners, laden}
-use Rattle.loading_laws.proofs.Naming.{laden_named}
-use Rattle.rete_net.specs.Owners.{AreOwners as HaveOwners}
+use Rattle.laden_rows.specs.Laden.{AreOwners, laden}
+use Rattle.laden_rows.proofs.Naming.{laden_named}
+use Rattle.rete_net.specs.Owners.{AreNodeOwners as HaveOwners}
 use Rattle.rete_net.proofs.Counting.{longer}
-use Rattle.rete_net.proofs.Growing.{has_at, parted}
+use Rattle.rete_net.proofs.Growing.{parted}
 use Rattle.rete_net.proofs.Searched.{extra_of_owner, rows_in_order}
+use Rattle.fx_base.proofs.Sequences.{get-below}
 
 -- rules that are the first ones with the same first conditions are the same
 pub one_first : (p : Program) (n : ℕ) (cs ds : List Condition) (a b : ℕ) → IsFirstWith p n cs a → IsFirstWith p n ds b → take n cs ≡ take n ds → a ≡ b
@@ -88,7 +93,7 @@ module _ (p : Program) (look : Look) (t : Snapshot) (kept : List Fact) (extras :
 
     -- what is given to it
     pub load_at : (o : Owner) → slice_get held_by k ≡ Some o → ((q : ℕ) → q < k → Answers q)
-        → IsNodeLoad p look kept moment t (laden p t extras (owners place) rule.conditions m) old (left_given empty_row_comes a old.parent).come (filter (is_under o) extras)
+        → IsNodeLoad p look kept moment t (laden p t extras (owners place) rule.conditions m) old (left_given empty_row_comes a old.parent).come (filter (is_extra_under o) extras)
     load_at o f rest = record {
       fresh = fresh k old e;
       window = net.windows k old e;
@@ -100,11 +105,11 @@ module _ (p : Program) (look : Look) (t : Snapshot) (kept : List Fact) (extras :
       named = laden_named p t extras (owners place) rule.conditions m;
       same_rows = left_rows k old e rest old.parent refl place m rule stands (omega (arith, le)) parts.0;
       in_order = rows_in_order o extras can.in_order;
-      some = λ x i. (can.placed x (of_filter (is_under o) x extras i)).some;
+      some = λ x i. (can.placed x (of_filter (is_extra_under o) x extras i)).some;
     }
 
     -- its extras are those of the condition
-    pub extras_at : (o : Owner) → slice_get held_by k ≡ Some o → extra_for (filter (is_under o) extras) ≡ extra_at extras (owners place m) m
+    pub extras_at : (o : Owner) → slice_get held_by k ≡ Some o → extra_for (filter (is_extra_under o) extras) ≡ extra_at extras (owners place m) m
     extras_at o f =
         let it = owner_at o f in
         fun_ext (λ row. extra_of_owner o extras row ∙ ap (λ r. extra_at extras r o.condition row) (owner_rule p owners own place m rule stands (omega (arith, le)) o it)
@@ -119,10 +124,10 @@ module _ (p : Program) (look : Look) (t : Snapshot) (kept : List Fact) (extras :
         ∙ ap (λ c. laden_with p t (extra_at extras (owners place m) m) c (laden p t extras (owners place) rule.conditions m) row) (sym parts.1)
 
   pub now_at : (k : ℕ) → k < bound → (new : NetNode) × (slice_get now k ≡ Some new)
-  now_at k lt = let many = loaded.many in has_at now k (omega (arith, many, lt, within))
+  now_at k lt = let many = loaded.many in get-below now k (omega (arith, many, lt, within))
 
   pub owner_there : (k : ℕ) → k < bound → (o : Owner) × (slice_get held_by k ≡ Some o)
-  owner_there k lt = let count = owned.count in has_at held_by k (omega (arith, count, lt, within))
+  owner_there k lt = let count = owned.count in get-below held_by k (omega (arith, count, lt, within))
 
   one : (k : ℕ) (old : NetNode) → slice_get nodes k ≡ Some old → k < bound → ((q : ℕ) → q < k → Answers q) → Answers k
   one k old e lt rest place m rule stands le is = by (some_begun m rule.conditions (before net.conditions old.parent) (condition_of old.node) (sym (net.shaped.own k old e) ∙ is))
@@ -137,7 +142,7 @@ module _ (p : Program) (look : Look) (t : Snapshot) (kept : List Fact) (extras :
 
   all_below : (b k : ℕ) → k < b → k < bound → Answers k
   all_below zero k h lt = absurd (omega (arith, h))
-  all_below (suc b) k h lt = let old = has_at nodes k (omega (arith, lt, within)) in one k old.0 old.1 lt (λ q less. all_below b q (omega (arith, h, less)) (omega (arith, lt, less)))
+  all_below (suc b) k h lt = let old = get-below nodes k (omega (arith, lt, within)) in one k old.0 old.1 lt (λ q less. all_below b q (omega (arith, h, less)) (omega (arith, lt, less)))
 
   pub answered : (k : ℕ) → k < bound → Answers k
   answered k lt = all_below (suc k) k (omega arith) lt
@@ -156,7 +161,7 @@ module _ (p : Program) (look : Look) (t : Snapshot) (kept : List Fact) (extras :
       by (Some q) at =
           let lt = net.shaped.parents k q old e at in
           let low : q < bound = omega (arith, lt, le) in
-          let up = has_at nodes q (omega (arith, low, within)) in
+          let up = get-below nodes q (omega (arith, low, within)) in
           let new = now_at q low in
           let o = owner_there q low in
           (loaded.loaded q low up.0 new.0 o.0 up.1 new.1 o.1).in_order (fresh q up.0 up.1)
@@ -164,7 +169,7 @@ module _ (p : Program) (look : Look) (t : Snapshot) (kept : List Fact) (extras :
   -- nothing goes
   pub none_gone : (k : ℕ) → k < bound → (answer_in a k).gone ≡ []
   none_gone k lt =
-      let old = has_at nodes k (omega (arith, lt, within)) in
+      let old = get-below nodes k (omega (arith, lt, within)) in
       let new = now_at k lt in
       let o = owner_there k lt in
       (loaded.loaded k lt old.0 new.0 o.0 old.1 new.1 o.1).none_gone (fresh k old.0 old.1)

@@ -1,15 +1,17 @@
 -- A node that a step does not reach stays as it is, and nothing changes in the rows of its condition.
-use Rattle.rete_net.proofs.Common.{◌≡◌, ◌∙◌, sym, ap, refl, subst, ◌||◌, not, Bool, true, false, ℤ, List, map, Option, Fact, Delta, Row, has, changes_nothing, Program, Moment, IsAt, snapshot_at, pattern_of, Snapshot, floor, is_whole, Pattern, WindowTag, Whole, Time, Length, Look, Keeps, window_kept, window_of, Arrival, rows_inside, named_of, single, Kept, inside_whole, arrivals, kind_of, is_one_meant, PatternGate, same_arrivals, stands_still, same_candidates, Node, condition_of, is_negated, Stays, TellsNothing, join_still, join_tells_nothing, exists_still, exists_tells_nothing, fold_still, fold_tells_nothing, not_still, not_tells_nothing, NetNode, is_timed, IsLeftAlone, IsStillAt, IsUndue, no_change, NodeStep}
+use Rattle.rete_net.proofs.Common.{◌≡◌, ◌∙◌, sym, ap, refl, subst, ◌||◌, not, Bool, true, false, ℤ, List, map, Option, Fact, Delta, Row, has, changes_nothing}
+use Rattle.rete_net.proofs.Common.{Program, Moment, IsAt, snapshot_at, pattern_of, Snapshot, floor, is_whole, Pattern, WindowTag, Whole, Time, Length, Look}
+use Rattle.rete_net.proofs.Common.{KeepsWindow, window_kept, window_of, Arrival, rows_inside, named_of, single, Kept, inside_whole, arrivals, window_kind_of}
+use Rattle.rete_net.proofs.Common.{is_one_meant, PatternGate, same_arrivals, stands_still, same_candidates, Node, condition_of, is_negated, Stays, TellsNothing}
+use Rattle.rete_net.proofs.Common.{join_still, join_tells_nothing, exists_still, exists_tells_nothing, fold_still, fold_tells_nothing, not_still}
+use Rattle.rete_net.proofs.Common.{not_tells_nothing, NetNode, is_changed_by_clock, IsLeftAlone, IsStillAt, IsUndue, no_change, NodeStep}
 use Rattle.not_node.specs.declared.node.NotNode.{NotNode}
 use Rattle.window_gate.specs.declared.change.WindowKind.{WindowKind}
 use Rattle.window_gate.specs.declared.gate.Kept.TheVariants as kept
 use Rattle.condition_node.specs.declared.node.Node.TheVariants as node
 use Rattle.condition_node.proofs.Turning.{floor_told}
 use Rattle.rete_net.proofs.Skipping.{GateStays, skipped}
-
-pub neither_left : (a b : Bool) → (a || b) ≡ false → a ≡ false
-neither_left true b e = e
-neither_left false b e = refl
+use Rattle.fx_base.proofs.Tests.{or_first_false}
 
 pub neither_right : (a b : Bool) → (a || not b) ≡ false → b ≡ true
 neither_right true b e = absurd (let no : true ≡ false = e in cc)
@@ -18,7 +20,7 @@ neither_right false false e = sym e
 
 -- ---- without a window, where no fact is meant
 
-keeps_whole : (w : WindowTag) → is_whole w ≡ true → (k : Kept) → window_kept k ≡ kind_of w → (list : List Arrival) (now : ℤ) → Keeps k list now
+keeps_whole : (w : WindowTag) → is_whole w ≡ true → (k : Kept) → window_kept k ≡ window_kind_of w → (list : List Arrival) (now : ℤ) → KeepsWindow k list now
 keeps_whole w e kept.Whole is list now = tt
 keeps_whole Whole e (kept.Time window) is list now = absurd cc
 keeps_whole (Time span) e (kept.Time window) is list now = absurd (let n : false ≡ true = e in cc)
@@ -27,13 +29,13 @@ keeps_whole Whole e (kept.Length window) is list now = absurd cc
 keeps_whole (Time span) e (kept.Length window) is list now = absurd (let n : false ≡ true = e in cc)
 keeps_whole (Length count) e (kept.Length window) is list now = absurd (let n : false ≡ true = e in cc)
 
-rows_whole : (w : WindowTag) → is_whole w ≡ true → (was now : ℤ) (list : List Arrival) → rows_inside (kind_of w) was list ≡ rows_inside (kind_of w) now list
+rows_whole : (w : WindowTag) → is_whole w ≡ true → (was now : ℤ) (list : List Arrival) → rows_inside (window_kind_of w) was list ≡ rows_inside (window_kind_of w) now list
 rows_whole Whole e was now list = ap (λ (xs : List Arrival). map single (map named_of xs)) (inside_whole was list ∙ sym (inside_whole now list))
 rows_whole (Time span) e was now list = absurd (let n : false ≡ true = e in cc)
 rows_whole (Length count) e was now list = absurd (let n : false ≡ true = e in cc)
 
 -- what is inside does not depend on the clock
-pub inside_still : (q : Pattern) (gate : PatternGate) → is_whole q.window ≡ true → window_of gate.gate ≡ kind_of q.window → (was now : ℤ) (list : List Arrival) (row : Row)
+pub inside_still : (q : Pattern) (gate : PatternGate) → is_whole q.window ≡ true → window_of gate.gate ≡ window_kind_of q.window → (was now : ℤ) (list : List Arrival) (row : Row)
     → has (rows_inside (window_of gate.gate) now list) row ≡ has (rows_inside (window_of gate.gate) was list) row
 inside_still q gate whole window was now list row =
     ap (λ (rows : List Row). has rows row) (subst (λ (k : WindowKind). rows_inside k now list ≡ rows_inside k was list) (sym window) (rows_whole q.window whole now was list))
@@ -110,15 +112,15 @@ module _ (p : Program) (look : Look) (gone : List Fact) (come : Option Fact) (mo
       })
       (stays_at p moment n.node undue.node) (tells_nothing_at p moment n.node undue.node) none
 
-  untimed : is_timed n ≡ false → NodeStep p look gone come moment n n left no_change
+  untimed : is_changed_by_clock n ≡ false → NodeStep p look gone come moment n n left no_change
   untimed e =
-      let joins : is_negated (condition_of n.node) ≡ false = neither_left (is_negated (condition_of n.node)) (not (is_whole asked.window)) e in
+      let joins : is_negated (condition_of n.node) ≡ false = or_first_false (is_negated (condition_of n.node)) (not (is_whole asked.window)) e in
       let whole : is_whole asked.window ≡ true = neither_right (is_negated (condition_of n.node)) (is_whole asked.window) e in
       skipped p look gone come moment n left (gate_stays p asked n.gate gone come moment.clock whole alone.unreached.unmeant) (stays p moment n.node joins) (tells_nothing p moment n.node joins) none
 
   pub alone_stays : NodeStep p look gone come moment n n left no_change
-  alone_stays = by (is_timed n) refl
+  alone_stays = by (is_changed_by_clock n) refl
     where
-      by : (t : Bool) → is_timed n ≡ t → NodeStep p look gone come moment n n left no_change
+      by : (t : Bool) → is_changed_by_clock n ≡ t → NodeStep p look gone come moment n n left no_change
       by true e = by_time (alone.undue e)
       by false e = untimed e

@@ -1,9 +1,12 @@
 -- The owners of nodes, as a network is built.
-use Rattle.rete_net.proofs.Common.{◌≡◌, ◌∙◌, ◌⊎◌, inl, inr, sym, ap, refl, subst, ℕ, zero, suc, ◌+◌, ◌<◌, ◌≤◌, arith, List, [], ◌∷◌, ◌++◌, length, take, length-append, Some, None, slice_get, Ordering, Less, AllByRecursion, nat_cmp, ordering_then, nat_tests, slice_get_within, Vec, In, Condition, Program, Rule, of_append, Owner, IsOwned, AreOwners, owner_cmp, AreOwnedSoFar, PutsOwner}
+use Rattle.rete_net.proofs.Common.{◌≡◌, ◌∙◌, ◌⊎◌, inl, inr, sym, ap, refl, subst, ℕ, zero, suc, ◌+◌, ◌<◌, ◌≤◌, arith, List, [], ◌∷◌, ◌++◌, length, take}
+use Rattle.rete_net.proofs.Common.{length-append, Some, None, slice_get, Ordering, Less, AllByRecursion, nat_cmp, ordering_then, nat_tests, slice_get_within}
+use Rattle.rete_net.proofs.Common.{Vec, In, Condition, Program, Rule, Owner, IsOwned, AreNodeOwners, owner_cmp, AreOwnedSoFar, PutsOwner}
 use Rattle.std.specs.List.Sorted.{IsStrictlySortedBy}
 use Rattle.std.proofs.lemmas.List.{append-nil}
-use Rattle.rete_net.proofs.Growing.{each_more, get_left, get_seam}
-use Rattle.rete_net.proofs.Turns.{below_or_at}
+use Rattle.rete_net.proofs.Growing.{each_more}
+use Rattle.fx_base.proofs.Orders.{below_or_last, lt-nat_cmp}
+use Rattle.fx_base.proofs.Sequences.{In-append, get-append_left, get-last}
 
 -- ---- lists
 
@@ -29,14 +32,8 @@ as_long (suc n) (x ∷ xs) (y ∷ ys) le e =
 
 -- ---- the order of owners
 
-less_is : (m n : ℕ) → m < n → nat_cmp m n ≡ Less
-less_is m n lt = grind (arith, nat_tests)
-
 earlier_rule : (x o : Owner) → x.rule.0 < o.rule.0 → owner_cmp x o ≡ Less
-earlier_rule x o lt = ap (λ (c : Ordering). ordering_then c (nat_cmp x.condition o.condition)) (less_is x.rule.0 o.rule.0 lt)
-
-same_rule : (m n k : ℕ) → m ≡ n → nat_cmp m n ≡ nat_cmp n n
-same_rule m n k e = ap (λ j. nat_cmp j n) e
+earlier_rule x o lt = ap (λ (c : Ordering). ordering_then c (nat_cmp x.condition o.condition)) (lt-nat_cmp x.rule.0 o.rule.0 lt)
 
 earlier_condition : (m n : ℕ) (c : Ordering) → m ≡ n → c ≡ Less → ordering_then (nat_cmp m n) c ≡ Less
 earlier_condition m n c e less = grind (arith, nat_tests)
@@ -71,7 +68,7 @@ module _ (p : Program) (all : List (List Condition)) (place : ℕ) (rule : Rule)
   greater : (owners : List Owner) → AreOwnedSoFar p all owners place rule.conditions i → (x : Owner) → In x owners → owner_cmp x owner ≡ Less
   greater owners was x j = elim (was.below x j) [
     | inl lt ↦ earlier_rule x owner (omega (arith, lt, of_rule))
-    | inr same ↦ earlier_condition x.rule.0 owner.rule.0 (nat_cmp x.condition owner.condition) (same.0 ∙ sym of_rule) (let lt = same.1 in less_is x.condition owner.condition (omega (arith, lt, at)))
+    | inr same ↦ earlier_condition x.rule.0 owner.rule.0 (nat_cmp x.condition owner.condition) (same.0 ∙ sym of_rule) (let lt = same.1 in lt-nat_cmp x.condition owner.condition (omega (arith, lt, at)))
   ]
 
   later : (x : Owner) → (x.rule.0 < place) ⊎ ((x.rule.0 ≡ place) × (x.condition < i)) → (x.rule.0 < place) ⊎ ((x.rule.0 ≡ place) × (x.condition < i + 1))
@@ -81,7 +78,7 @@ module _ (p : Program) (all : List (List Condition)) (place : ℕ) (rule : Rule)
   -- the list of conditions that is put last, or was there
   own_more : (lists : List (List Condition)) → ((q : ℕ) → 1 ≤ q → q ≤ i → (k : ℕ) × (slice_get lists k ≡ Some (take q rule.conditions))) → (k : ℕ) → slice_get lists k ≡ Some own
       → (q : ℕ) → 1 ≤ q → q ≤ i + 1 → (j : ℕ) × (slice_get lists j ≡ Some (take q rule.conditions))
-  own_more lists earlier k e q some le = by (below_or_at q (i + 1) (omega (arith, le)))
+  own_more lists earlier k e q some le = by (below_or_last q (i + 1) (omega (arith, le)))
     where
       by : (q < i + 1) ⊎ (q ≡ i + 1) → (j : ℕ) × (slice_get lists j ≡ Some (take q rule.conditions))
       by (inl lt) = earlier q some (omega (arith, lt))
@@ -117,15 +114,15 @@ module _ (p : Program) (all : List (List Condition)) (place : ℕ) (rule : Rule)
       count = let same = was.count in simp length-append (omega arith);
       each = each_with new;
       rising = sorted_push owner_cmp owners owner was.rising (greater owners was);
-      below = λ x j. elim (of_append x owners (owner ∷ []) j) [
+      below = λ x j. elim (In-append x owners (owner ∷ []) j) [
         | inl there ↦ later x (was.below x there)
         | inr last ↦ elim last [
           | inl is ↦ inr (ap (λ (y : Owner). y.rule.0) is ∙ of_rule, (let same : x.condition ≡ owner.condition = ap (λ (y : Owner). y.condition) is in omega (arith, same, at)))
           | inr never ↦ absurd never
         ]
       ];
-      earlier = λ k other less there q some le. (let r = was.earlier k other less there q some le in (r.0, get_left all (own ∷ []) r.0 (take q other.conditions) r.1));
-      own = own_more with_own (λ q some le. (let r = was.own q some le in (r.0, get_left all (own ∷ []) r.0 (take q rule.conditions) r.1))) (length all) (get_seam all own);
+      earlier = λ k other less there q some le. (let r = was.earlier k other less there q some le in (r.0, get-append_left all (own ∷ []) r.0 (take q other.conditions) r.1));
+      own = own_more with_own (λ q some le. (let r = was.own q some le in (r.0, get-append_left all (own ∷ []) r.0 (take q rule.conditions) r.1))) (length all) (get-last all own);
     }
 
     pub owned_put : (more : List (List Condition)) (new : List Owner) (k : ℕ) → slice_get (all ++ more) k ≡ Some own → PutsOwner all more own owner owners new
@@ -147,7 +144,7 @@ rule_owned p all owners place rule stands was = record {
   each = was.each;
   rising = was.rising;
   below = λ x j. inl (elim (was.below x j) [ inl lt ↦ omega (arith, lt) | inr same ↦ (let is = same.0 in omega (arith, is)) ]);
-  earlier = λ k other less there q some le. by k other there q some le (below_or_at k place less);
+  earlier = λ k other less there q some le. by k other there q some le (below_or_last k place less);
   own = λ q some le. absurd (omega (arith, some, le));
 }
   where
@@ -185,7 +182,7 @@ none_owned p = record {
     nothing_sorted = tt
 
 -- nodes in the places of others have their owners
-pub owned_again : (p : Program) (conditions : ℕ → List Condition) (many many_now : ℕ) (owners owners_now : Vec Owner) → many_now ≡ many → owners_now ≡ owners → AreOwners p conditions many owners.items
-    → AreOwners p conditions many_now owners_now.items
+pub owned_again : (p : Program) (conditions : ℕ → List Condition) (many many_now : ℕ) (owners owners_now : Vec Owner) → many_now ≡ many → owners_now ≡ owners → AreNodeOwners p conditions many owners.items
+    → AreNodeOwners p conditions many_now owners_now.items
 owned_again p conditions many many_now owners owners_now same same_owners owned =
-    subst (λ n. AreOwners p conditions n owners_now.items) (sym same) (subst (λ (os : Vec Owner). AreOwners p conditions many os.items) (sym same_owners) owned)
+    subst (λ n. AreNodeOwners p conditions n owners_now.items) (sym same) (subst (λ (os : Vec Owner). AreNodeOwners p conditions many os.items) (sym same_owners) owned)

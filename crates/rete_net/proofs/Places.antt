@@ -1,25 +1,19 @@
 -- Sets of places: what is put, and which comes first.
-use Rattle.rete_net.proofs.Common.{◌≡◌, ◌∙◌, sym, ap, refl, subst, ℕ, ◌+◌, ◌<◌, ◌≤◌, ◌==◌, ◌||◌, Bool, true, false, cond, List, [], ◌∷◌, take, length, get_or, arith, nat_eq, slice_get, list_any, nat_cmp, eq_by_cmp, is_gt, or-true, or-false, nat_tests, Decides-eqb, Index, AreDue, is_in, is_listed, items_of, has_place}
+use Rattle.rete_net.proofs.Common.{◌≡◌, ◌∙◌, sym, ap, refl, subst, ℕ, ◌+◌, ◌<◌, ◌≤◌, ◌==◌, ◌||◌, Bool, true, false, cond, List, [], ◌∷◌, take, length, get_or}
+use Rattle.rete_net.proofs.Common.{arith, nat_eq, slice_get, list_any, nat_cmp, eq_by_cmp, is_gt, or-true, nat_tests, Decides-eqb, Index, AreDue, is_in}
+use Rattle.rete_net.proofs.Common.{is_listed, items_of, has_place}
+use Rattle.std.proofs.Math.Bool.{or_assoc}
 use Rattle.std.specs.Prelude.{IfSome}
 use Rattle.std.specs.declared.ops.Bound.TheVariants.{Included, Unbounded}
 use Rattle.std.specs.BTreeSet.{BTreeSet, IsKeyRangeOf}
 use Rattle.std.proofs.lemmas.List.Folds.{list_any_more}
-
-tie : (a b : ℕ) → eq_by_cmp nat_cmp a b ≡ (b == a)
-tie a b = grind (arith, nat_tests)
-
-put_one : (old t : Bool) → cond t true old ≡ (old || t)
-put_one old true = sym (or-true old)
-put_one old false = sym (or-false old)
-
-or_assoc : (a b c : Bool) → ((a || b) || c) ≡ (a || (b || c))
-or_assoc true b c = refl
-or_assoc false b c = refl
+use Rattle.fx_base.proofs.Orders.{eq_by_nat_cmp-turned}
+use Rattle.fx_base.proofs.Tests.{cond_true_first}
 
 pub put_more : (k : ℕ) (places : List ℕ) (i : ℕ) (old mid now : Bool) → i < length places → mid ≡ (old || list_any (nat_eq k) (take i places))
     → now ≡ cond (eq_by_cmp nat_cmp (get_or places i 0) k) true mid → now ≡ (old || list_any (nat_eq k) (take (i + 1) places))
 put_more k places i old mid now lt before after =
-    after ∙ ap (λ t. cond t true mid) (tie (get_or places i 0) k) ∙ put_one mid (k == get_or places i 0) ∙ ap (λ b. b || (k == get_or places i 0)) before
+    after ∙ ap (λ t. cond t true mid) (eq_by_nat_cmp-turned (get_or places i 0) k) ∙ cond_true_first mid (k == get_or places i 0) ∙ ap (λ b. b || (k == get_or places i 0)) before
     ∙ or_assoc old (list_any (nat_eq k) (take i places)) (k == get_or places i 0) ∙ ap (λ b. old || b) (sym (list_any_more (nat_eq k) places i 0 lt))
 
 -- what is put in a place is there, and the rest stays
@@ -58,6 +52,6 @@ due_more index types types_now due due_now ty places is put more was other k the
   where
     by : (t : Bool) → eq_by_cmp nat_cmp ty other ≡ t → has_place due_now k ≡ true
     by true e =
-        let same : other ≡ ty = (Decides-eqb other ty).0 (sym (tie ty other) ∙ e) in
+        let same : other ≡ ty = (Decides-eqb other ty).0 (sym (eq_by_nat_cmp-turned ty other) ∙ e) in
         more k ∙ ap (λ b. has_place due k || b) (ap (λ (list : List ℕ). is_in list k) is ∙ ap (λ n. is_listed index.by_type n k) (sym same) ∙ listed) ∙ or-true (has_place due k)
     by false e = more k ∙ ap (λ b. b || is_in places k) (was other k (sym (put other ∙ ap (λ t. cond t true (has_place types other)) e) ∙ there) listed)

@@ -1,10 +1,16 @@
 -- How long the nodes of a network are quiet, and the network with them.
-use Rattle.rete_net.proofs.Common.{◌≡◌, ◌∙◌, sym, ap, refl, subst, ℕ, zero, suc, ℤ, pos, ◌<◌, ◌≤ℤ◌, ◌<ℤ◌, ◌^◌, arith, Bool, List, length, get_or, Option, Some, None, slice_get, IfSome, true, false, not, fun_ext, ≤ℤ_refl, slice_get_within, slice_get-get_or, Named, Row, Condition, Pattern, Program, pattern_of, Snapshot, cleaned, line, held, candidates_of, rows_of, GateStands, arrivals, IsOrderly, at_clock, condition_of, is_negated, IsBefore, IsQuiet, shown_nodes, Rete, NetNode, HaveSame, NodesStand, NetStands, StaysAt, IsNodeQuiet, AreQuiet, before, is_whole, PatternGate, arrivals_still, same_candidates, Node, join_quiet, exists_quiet, fold_quiet, is_timed}
+use Rattle.rete_net.proofs.Common.{◌≡◌, ◌∙◌, sym, ap, refl, subst, ℕ, zero, suc, ℤ, pos, ◌<◌, ◌≤ℤ◌, ◌<ℤ◌, ◌^◌, arith, Bool, List, length, get_or, Option, Some}
+use Rattle.rete_net.proofs.Common.{None, slice_get, IfSome, true, false, not, fun_ext, ≤ℤ_refl, slice_get_within, slice_get-get_or, Named, Row, Condition}
+use Rattle.rete_net.proofs.Common.{Pattern, Program, pattern_of, Snapshot, cleaned, line, held, candidates_of, rows_of, GateStands, arrivals, IsOrderly}
+use Rattle.rete_net.proofs.Common.{at_clock, condition_of, is_negated, IsBefore, IsQuiet, shown_nodes, Rete, NetNode, HaveSameFronts, NodesStand, NetStands}
+use Rattle.rete_net.proofs.Common.{StaysAt, IsNodeQuiet, AreQuiet, before, is_whole, PatternGate, arrivals_still, same_candidates, Node, join_quiet}
+use Rattle.rete_net.proofs.Common.{exists_quiet, fold_quiet, is_changed_by_clock}
 use Rattle.rete_net.proofs.Advancing.{same_first, rows_made}
 use Rattle.rete_net.proofs.Chaining.{AreMade}
 use Rattle.rete_net.proofs.Cleaning.{line_cleaned}
 use Rattle.rete_net.proofs.Turning.{held_has, rising}
-use Rattle.rete_net.proofs.Lone.{inside_still, neither_left, neither_right}
+use Rattle.rete_net.proofs.Lone.{inside_still, neither_right}
+use Rattle.fx_base.proofs.Tests.{or_first_false}
 use Rattle.condition_node.specs.declared.node.Node.TheVariants as node
 
 -- ---- one node
@@ -45,13 +51,13 @@ node_still p (node.Not waiting) until e = absurd (let no : true ≡ false = e in
 node_still p (node.Exists tally) until e = exists_quiet p tally until
 node_still p (node.Fold fold) until e = fold_quiet p fold until
 
-pub untimed_quiet : (p : Program) (n : NetNode) (until : Option ℤ) → is_timed n ≡ false → IsNodeQuiet p n until
+pub untimed_quiet : (p : Program) (n : NetNode) (until : Option ℤ) → is_changed_by_clock n ≡ false → IsNodeQuiet p n until
 untimed_quiet p n until untimed s rows forgotten clock stands named kept kept_now begun later low before =
     let q = pattern_of (condition_of n.node) in
     let same = gate_still p q s clock n.gate (neither_right (is_negated (condition_of n.node)) (is_whole q.window) untimed) stands.gate kept kept_now in
     record {
       same_candidates = same;
-      same_line = node_still p n.node until (neither_left (is_negated (condition_of n.node)) (not (is_whole q.window)) untimed)
+      same_line = node_still p n.node until (or_first_false (is_negated (condition_of n.node)) (not (is_whole q.window)) untimed)
           (held s) s rows forgotten clock (rising s.facts kept.in_order) (held_has s forgotten) named stands.node begun later low before same;
     }
 
@@ -97,7 +103,7 @@ module _ (p : Program) (net : Rete) (s : Snapshot) (forgotten : Named → Bool) 
     all_below zero k some h l = absurd (omega arith)
     all_below (suc b) k some h l = one k (get_or (shown_nodes net) k some) (slice_get-get_or (shown_nodes net) k some l) (λ q lt. all_below b q some (omega arith) (omega arith))
 
-    stay : HaveSame p (shown_nodes net) nodes.shape.conditions forgotten next s
+    stay : HaveSameFronts p (shown_nodes net) nodes.shape.conditions forgotten next s
     stay = record {
       same_rows = λ k n e. all_below (suc k) k n (omega arith) (slice_get_within (shown_nodes net) k n e);
       same_candidates = λ k n e. (stays_at k n e).same_candidates;

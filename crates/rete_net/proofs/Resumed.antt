@@ -1,22 +1,30 @@
 -- For which snapshot a network stands that was loaded.
-use Rattle.rete_net.proofs.Common.{◌≡◌, ◌∙◌, ◌⊎◌, inl, inr, sym, ap, refl, subst, ℕ, suc, pos, ◌≤ℤ◌, ◌<◌, ◌≤◌, ◌==◌, nat_lt, cond, arith, Bool, true, false, List, [], ◌∷◌, length, take, Option, Some, None, slice_get, nat_tests, length-take-le, slice_get_within, filter, find, In, Fact, Tag, Delta, Extra, Named, Condition, WindowTag, Moment, Program, Rule, HaveDistinctTags, pattern_of, Snapshot, name_of, same_floor, in_place, Look, cleaned, no_names, extra_for, HasAllOf, rows_of, held_fact, held_in, rows_named, GateStands, rising, IsLost, IsResumed, lost_partners, values_gathered, condition_of, held_known, node_moves, IsFirstWith, count_of, extra_at, laden, values_of, extra_count, extra_values, AreFans, shown_nodes, Answered, Owner, Rete, NetNode, left_given, IsLoadable, IsIndexOf, is_under, AreLoaded, IsNodeLoad, NetStands, IsOwned, AreQuiet, AreScheduled, before, IsNetOf, IsFresh, NetNodeStands, empty_row_comes, IsReplaced}
+use Rattle.rete_net.proofs.Common.{◌≡◌, ◌∙◌, ◌⊎◌, inl, inr, sym, ap, refl, subst, ℕ, suc, pos, ◌≤ℤ◌, ◌<◌, ◌≤◌, ◌==◌, nat_lt, cond, arith, Bool, true, false}
+use Rattle.rete_net.proofs.Common.{List, [], ◌∷◌, length, take, Option, Some, None, slice_get, nat_tests, length-take-le, slice_get_within, filter, find, In}
+use Rattle.rete_net.proofs.Common.{Fact, Tag, Delta, Extra, Named, Condition, WindowTag, Moment, Program, Rule, HaveDistinctTags, pattern_of, Snapshot, name_of}
+use Rattle.rete_net.proofs.Common.{same_floor, in_place, Look, cleaned, no_names, extra_for, HasAllOf, rows_of, held_fact, held_in, rows_named, GateStands}
+use Rattle.rete_net.proofs.Common.{rising, IsLost, IsResumed, lost_partners, values_gathered, condition_of, held_known, node_moves, IsFirstWith, count_of}
+use Rattle.rete_net.proofs.Common.{extra_at, laden, extra_values_of, extra_count, extra_values, AreFans, shown_nodes, Answered, Owner, Rete, NetNode}
+use Rattle.rete_net.proofs.Common.{left_given, IsLoadable, IsIndexOf, is_extra_under, AreLoaded, IsNodeLoad, NetStands, IsOwned, AreQuiet, AreScheduled, before}
+use Rattle.rete_net.proofs.Common.{IsNetOf, IsFresh, NetNodeStands, empty_row_comes, IsReplaced}
+use Rattle.std.proofs.lemmas.Bool.{eqb-true}
 use Rattle.rule_model.specs.declared.condition.WindowTag.TheVariants as tag
 use Rattle.condition_rows.specs.Sets.{held}
 use Rattle.condition_node.proofs.Resuming.{resumes_law}
-use Rattle.image_laws.specs.Laden.{AreOwners}
-use Rattle.image_laws.proofs.Kept.{candidates_kept, known}
-use Rattle.image_laws.proofs.Rows.{laden_rows}
-use Rattle.loading_laws.specs.Gates.{IsAside, HasInFront}
-use Rattle.loading_laws.proofs.Gates.{gate_of_all}
+use Rattle.laden_rows.specs.Laden.{AreOwners}
+use Rattle.laden_rows.proofs.Kept.{candidates_kept, known}
+use Rattle.laden_rows.proofs.Rows.{laden_rows}
+use Rattle.pattern_gate.specs.Fronts.{IsLetBe, HasInFront}
+use Rattle.pattern_gate.proofs.Fronts.{gate_of_all}
 use Rattle.rete_net.specs.Loading.{IsBehind}
-use Rattle.rete_net.specs.Owners.{AreOwners as HaveOwners}
+use Rattle.rete_net.specs.Owners.{AreNodeOwners as HaveOwners}
 use Rattle.rete_net.proofs.Counted.{fronts_within}
 use Rattle.rete_net.proofs.Counting.{aside_of}
 use Rattle.rete_net.proofs.Frames.{index_again, net_again}
-use Rattle.rete_net.proofs.Growing.{both_at, has_at}
 use Rattle.rete_net.proofs.Owning.{owned_again}
 use Rattle.rete_net.proofs.Quieting.{seen_now}
 use Rattle.rete_net.proofs.Loaded.{answered, extras_at, load_at, owner_there, parts}
+use Rattle.fx_base.proofs.Sequences.{get-below, one_value}
 
 -- ---- owners
 
@@ -36,7 +44,7 @@ module _ (p : Program) (nodes : List NetNode) (ends : List ℕ) (net : IsNetOf p
       let node = fronts_within p nodes ends net (suc last.last) last.last (suc k) last.node (omega arith) last.there (λ none. not_begun k rule.conditions low (sym front ∙ none)) in
       let count = owned.count in
       let lt = node.1 in
-      let o = has_at held_by node.0 (omega (arith, count, lt)) in
+      let o = get-below held_by node.0 (omega (arith, count, lt)) in
       let theirs = owned.each node.0 o.0 o.1 in
       let same : take (suc o.0.condition) theirs.rule.conditions ≡ take (suc k) rule.conditions = sym theirs.own ∙ node.2 ∙ front in
       let at : o.0.condition ≡ k = same_length o.0.condition theirs.rule.conditions k rule.conditions theirs.within low same in
@@ -63,11 +71,11 @@ module _ (p : Program) (nodes : List NetNode) (ends : List ℕ) (net : IsNetOf p
       within : (rule : Rule) → slice_get p.rules place ≡ Some rule → (b : Bool) → nat_lt k (length rule.conditions) ≡ b → Found place k
       within rule stands true low =
           let it = found_in place k rule stands (grind (arith, nat_tests)) in
-          (it.0, λ other there lt. subst (λ (r : Rule). IsFirstWith p (suc k) r.conditions it.0) (both_at (slice_get p.rules place) rule other stands there) it.1)
+          (it.0, λ other there lt. subst (λ (r : Rule). IsFirstWith p (suc k) r.conditions it.0) (one_value (slice_get p.rules place) rule other stands there) it.1)
       within rule stands false high = (
         0,
         λ other there lt.
-            let same = both_at (slice_get p.rules place) rule other stands there in
+            let same = one_value (slice_get p.rules place) rule other stands there in
             let long : length rule.conditions ≡ length other.conditions = ap (λ (r : Rule). length r.conditions) same in
             let torn : k < length rule.conditions = omega (arith, lt, long) in
             absurd (let low : nat_lt k (length rule.conditions) ≡ true = grind (arith, nat_tests) in let no : true ≡ false = sym low ∙ high in cc),
@@ -86,7 +94,7 @@ module _ (p : Program) (nodes : List NetNode) (ends : List ℕ) (net : IsNetOf p
 
 -- ---- what is lost
 
-is_lost : (c : Condition) (lost : List Fact) (o : Option Extra) → count_of o ≡ length lost → values_of o ≡ values_gathered c lost → IsLost c lost o
+is_lost : (c : Condition) (lost : List Fact) (o : Option Extra) → count_of o ≡ length lost → extra_values_of o ≡ values_gathered c lost → IsLost c lost o
 is_lost c [] None e f = refl
 is_lost c (x ∷ lost) None e f = absurd (omega (arith, e))
 is_lost c lost (Some x) e f = (e, f)
@@ -100,15 +108,12 @@ find_passes : (test : Fact → Bool) (facts : List Fact) (f : Fact) → find tes
 find_passes test [] f e = absurd (let torn : None ≡ Some f = e in cc)
 find_passes test (x ∷ facts) f e = passed_if (test x) test x f (find test facts) refl (find_passes test facts f) e
 
-one_number : (m n : ℕ) → (m == n) ≡ true → m ≡ n
-one_number m n e = grind (arith, nat_tests)
-
 abbrev tag_numbered : ℕ → Tag
 tag_numbered n = record { 0 = n }
 
 held_tag : (s : Snapshot) (tag : Tag) (f : Fact) → held s tag ≡ Some f → f.tag ≡ tag
 unfolding held
-held_tag s tag f e = ap tag_numbered (one_number f.tag.0 tag.0 (find_passes (λ (g : Fact). g.tag.0 == tag.0) s.facts f e))
+held_tag s tag f e = ap tag_numbered (eqb-true f.tag.0 tag.0 (find_passes (λ (g : Fact). g.tag.0 == tag.0) s.facts f e))
 
 -- ---- nodes
 
@@ -155,12 +160,12 @@ module _ (p : Program) (look : Look) (t : Snapshot) (kept : List Fact) (extras :
     in_rules : In rule p.rules
     in_rules = in_place p.rules place rule theirs.stands
 
-    load : IsNodeLoad p look kept moment t (laden p t extras (owners place) rule.conditions m) old (left_given empty_row_comes a old.parent).come (filter (is_under owner.0) extras)
+    load : IsNodeLoad p look kept moment t (laden p t extras (owners place) rule.conditions m) old (left_given empty_row_comes a old.parent).come (filter (is_extra_under owner.0) extras)
     load =
         load_at p look t kept extras moment can owners own nodes ends net held_by owned fresh now a (length nodes) (omega arith) loaded k old e place m rule theirs.stands low theirs.own owner.0 owner.1
         (λ q less. answered p look t kept extras moment can owners own nodes ends net held_by owned fresh now a (length nodes) (omega arith) loaded q (let h = lt in omega (arith, h, less)))
 
-    its_extras : extra_for (filter (is_under owner.0) extras) ≡ extra_at extras (owners place m) m
+    its_extras : extra_for (filter (is_extra_under owner.0) extras) ≡ extra_at extras (owners place m) m
     its_extras =
         extras_at p look t kept extras moment can owners own nodes ends net held_by owned fresh now a (length nodes) (omega arith) loaded k old e place m rule theirs.stands low theirs.own owner.0 owner.1
 
@@ -172,16 +177,16 @@ module _ (p : Program) (look : Look) (t : Snapshot) (kept : List Fact) (extras :
       others = λ f i. by f i (forgotten (name_of f)) refl;
     }
       where
-        aside : (f : Fact) → In f s.facts → forgotten (name_of f) ≡ true → (w : WindowTag) → (pattern_of (condition_of old.node)).window ≡ w → IsAside w p (pattern_of (condition_of old.node)) s f
+        aside : (f : Fact) → In f s.facts → forgotten (name_of f) ≡ true → (w : WindowTag) → (pattern_of (condition_of old.node)).window ≡ w → IsLetBe w p (pattern_of (condition_of old.node)) s f
         aside f i h tag.Whole same = tt
         aside f i h (tag.Time span) same = is.outside rule in_rules m (condition_of old.node) two.1 span same f i h
         aside f i h (tag.Length count) same = is.kept.uncounted rule in_rules m (condition_of old.node) two.1 count same f i h
 
-        by : (f : Fact) → In f s.facts → (b : Bool) → forgotten (name_of f) ≡ b → In f t.facts ⊎ IsAside (pattern_of (condition_of old.node)).window p (pattern_of (condition_of old.node)) s f
+        by : (f : Fact) → In f s.facts → (b : Bool) → forgotten (name_of f) ≡ b → In f t.facts ⊎ IsLetBe (pattern_of (condition_of old.node)).window p (pattern_of (condition_of old.node)) s f
         by f i true h = inr (aside f i h (pattern_of (condition_of old.node)).window refl)
         by f i false h = inl ((is.kept.facts f).1 (i, h))
 
-    resumed : IsResumed p (condition_of old.node) s t (rows_of p s front) (laden p t extras (owners place) rule.conditions m) forgotten (extra_for (filter (is_under owner.0) extras))
+    resumed : IsResumed p (condition_of old.node) s t (rows_of p s front) (laden p t extras (owners place) rule.conditions m) forgotten (extra_for (filter (is_extra_under owner.0) extras))
     resumed = record {
       tags = tags;
       named = rows_named p s tags front;
@@ -203,8 +208,8 @@ module _ (p : Program) (look : Look) (t : Snapshot) (kept : List Fact) (extras :
     resumed_at =
         let told = loaded.loaded k lt old new owner.0 e g owner.1 in
         let c = told.condition in
-        let node = resumes_law p new.node look s t (rows_of p s front) (laden p t extras (owners place) rule.conditions m) forgotten (extra_for (filter (is_under owner.0) extras))
-        (subst (λ x. IsResumed p x s t (rows_of p s front) (laden p t extras (owners place) rule.conditions m) forgotten (extra_for (filter (is_under owner.0) extras))) (sym c) resumed)
+        let node = resumes_law p new.node look s t (rows_of p s front) (laden p t extras (owners place) rule.conditions m) forgotten (extra_for (filter (is_extra_under owner.0) extras))
+        (subst (λ x. IsResumed p x s t (rows_of p s front) (laden p t extras (owners place) rule.conditions m) forgotten (extra_for (filter (is_extra_under owner.0) extras))) (sym c) resumed)
         (told.laden (held s) t (laden p t extras (owners place) rule.conditions m) load at_hand_too) in
         subst (λ (parent : Option ℕ). NetNodeStands p new s (rows_of p s (before net.conditions parent)) forgotten) (sym told.parent) (record {
           gate =
@@ -234,7 +239,7 @@ loaded_stands p look t kept extras moment can was now net owned fresh a loaded r
       nodes = λ k n e.
           let many = replaced.many in
           let within : k < length (shown_nodes now) = slice_get_within (shown_nodes now) k n e in
-          let old = has_at (shown_nodes was) k (omega (arith, within, many)) in
+          let old = get-below (shown_nodes was) k (omega (arith, within, many)) in
           resumed_at p look t kept extras moment can (owners_of p (shown_nodes was) was.ends.items net was.owners.items owned) own (shown_nodes was) was.ends.items net was.owners.items owned fresh (shown_nodes now) a loaded s forgotten is
           k old.0 n old.1 e;
     }) is.orderly begun quiet

@@ -1,10 +1,12 @@
 -- The schedule of the nodes, as one of them is put anew.
-use Rattle.rete_net.proofs.Common.{◌≡◌, ◌∙◌, sym, ap, refl, subst, ℕ, ℤ, ◌+ℤ◌, ◌≤ℤ◌, pos, List, Option, Some, None, true, false, slice_get, inl, inr, arith, int_lt, set, ints, Row, Moment, Program, snapshot_at, floor, IsBefore, NetNode, EntryTimers, Schedule, is_timed, IsNodeQuiet, entry_of, AreScheduled, IsScheduled, IsUndue, IsFrom, IsSet}
+use Rattle.rete_net.proofs.Common.{◌≡◌, ◌∙◌, sym, ap, refl, subst, ℕ, ℤ, ◌+ℤ◌, pos, List, Option, Some, None, true, slice_get, inl, inr, arith, set, ints, Row}
+use Rattle.rete_net.proofs.Common.{Moment, Program, snapshot_at, floor, IsBefore, NetNode, EntryTimers, Schedule, is_changed_by_clock, IsNodeQuiet}
+use Rattle.rete_net.proofs.Common.{entry_point_of, AreScheduled, IsScheduled, IsUndue, IsFrom, IsSet}
 use Rattle.not_node.specs.Waiting as waiting
-use Rattle.rete_net.proofs.Growing.{both_at}
 use Rattle.rete_net.proofs.Quieting.{node_quieter}
-use Rattle.rete_net.proofs.Turns.{set_other, set_same}
 use Rattle.rete_net.proofs.Walking.{equal_or_not}
+use Rattle.fx_base.proofs.Orders.{int_lt-le as at_floor}
+use Rattle.fx_base.proofs.Sequences.{get-set_other, get-set_same, one_value}
 
 -- ---- one node of others
 
@@ -17,9 +19,9 @@ pub kept_beside : (floors : List EntryTimers) (place k : ℕ) (was is : EntryTim
     → (line : ℕ) (timers : EntryTimers) → slice_get floors line ≡ Some timers → IsKept (set floors place is) k timers
 kept_beside floors place k was is at same kept line timers e = elim (equal_or_not line place) [
   | inl here ↦
-      let there : was ≡ timers = both_at (slice_get floors place) was timers at (ap (slice_get floors) (sym here) ∙ e) in
-      subst (IsKept (set floors place is) k) there (place, is, set_same floors place is was at, same, kept)
-  | inr other ↦ (line, timers, set_other floors place line is other ∙ e, refl, λ up_to set. set)
+      let there : was ≡ timers = one_value (slice_get floors place) was timers at (ap (slice_get floors) (sym here) ∙ e) in
+      subst (IsKept (set floors place is) k) there (place, is, get-set_same floors place is was at, same, kept)
+  | inr other ↦ (line, timers, get-set_other floors place line is other ∙ e, refl, λ up_to set. set)
 ]
 
 -- so the node stands under its moments still
@@ -44,13 +46,13 @@ scheduled_still p old new k n clock lines was =
 -- ---- all nodes
 
 -- where one node is another now, and stands under its moments, all do
-pub scheduled_more : (p : Program) (nodes : List NetNode) (place : ℕ) (n new : NetNode) (was is : Schedule) → slice_get nodes place ≡ Some n → (is_timed new ≡ true → IsScheduled p is place new)
+pub scheduled_more : (p : Program) (nodes : List NetNode) (place : ℕ) (n new : NetNode) (was is : Schedule) → slice_get nodes place ≡ Some n → (is_changed_by_clock new ≡ true → IsScheduled p is place new)
     → ((p : Program) (k : ℕ) (m : NetNode) → (k ≡ place → ⊥) → IsScheduled p was k m → IsScheduled p is k m) → AreScheduled p nodes was → AreScheduled p (set nodes place new) is
 scheduled_more p nodes place n new was is at here others all k m e timed = elim (equal_or_not k place) [
   | inl same ↦
-      let there : new ≡ m = both_at (slice_get (set nodes place new) place) new m (set_same nodes place new n at) (ap (slice_get (set nodes place new)) (sym same) ∙ e) in
-      subst (λ (i : ℕ). IsScheduled p is i m) (sym same) (subst (IsScheduled p is place) there (here (subst (λ (x : NetNode). is_timed x ≡ true) (sym there) timed)))
-  | inr other ↦ others p k m other (all k m (sym (set_other nodes place k new other) ∙ e) timed)
+      let there : new ≡ m = one_value (slice_get (set nodes place new) place) new m (get-set_same nodes place new n at) (ap (slice_get (set nodes place new)) (sym same) ∙ e) in
+      subst (λ (i : ℕ). IsScheduled p is i m) (sym same) (subst (IsScheduled p is place) there (here (subst (λ (x : NetNode). is_changed_by_clock x ≡ true) (sym there) timed)))
+  | inr other ↦ others p k m other (all k m (sym (get-set_other nodes place k new other) ∙ e) timed)
 ]
 
 -- ---- one node at a moment
@@ -64,7 +66,7 @@ pub undue : (p : Program) (schedule : Schedule) (k : ℕ) (n : NetNode) (moment 
     → IsUndue p n moment
 undue p schedule k n moment is clock at_floor = record {
   gate = is.gate moment.clock (before_next is.until moment.clock clock);
-  node = is.still (floor p (snapshot_at moment) (entry_of n)) (subst (λ (entry : ℕ). IsFrom (floor p (snapshot_at moment) entry) is.up_to) is.entry at_floor);
+  node = is.still (floor p (snapshot_at moment) (entry_point_of n)) (subst (λ (entry : ℕ). IsFrom (floor p (snapshot_at moment) entry) is.up_to) is.entry at_floor);
 }
 
 -- and it is quiet until the first timer
@@ -74,10 +76,7 @@ quiet_first p schedule k n first least is = node_quieter p n is.until first (λ 
 
 -- ---- a `not`
 
-at_floor : (at least floor : ℤ) → int_lt at least ≡ false → floor ≤ℤ least → int_lt at floor ≡ false
-at_floor at least floor e h = grind (arith, ints)
-
 -- no row waits for a moment below a floor that is not above the least one
-pub none_below : (pairs : List (ℤ × Row)) (least : Option ℤ) (floor : ℤ) → ((at : ℤ) (row : Row) → waiting.waits pairs at row ≡ true → waiting.IsFrom least at) → IsFrom floor least → waiting.NoneDue pairs floor
+pub none_below : (pairs : List (ℤ × Row)) (least : Option ℤ) (floor : ℤ) → ((at : ℤ) (row : Row) → waiting.waits pairs at row ≡ true → waiting.IsMomentFrom least at) → IsFrom floor least → waiting.NoneDue pairs floor
 none_below pairs None floor over low at row e = absurd (over at row e)
 none_below pairs (Some least) floor over low at row e = at_floor at least floor (over at row e) low

@@ -1,5 +1,10 @@
 -- The extras under an owner, of extras in their order, and rows that are in order.
-use Rattle.rete_net.proofs.Common.{◌≡◌, ◌∙◌, ◌⊎◌, ◌&&◌, ◌||◌, sym, ap, refl, inl, inr, ℕ, zero, suc, ◌+◌, ◌<◌, ◌≤◌, ◌==◌, add-one, nat_lt, is_lt, arith, cond, get_or, length, take, drop, Bool, true, false, List, [], ◌∷◌, ◌++◌, Bor, Some, slice_get, Ordering, Less, Equal, Greater, AllByRecursion, filter, find, IsNonDecreasingBy, IsPartitionPoint, IsSortedBy, eq_by_cmp, is_eq, nat_cmp, ordering_index, ordering_reverse, ordering_then, nat_tests, fun_ext, and_assoc, take_more, In, Fact, Extra, Row, row_exact, row_total, same_equiv, has, InOrder, row_cmp, has_in, in_has, extra_for, rows_of_extras, extra_cmp, extra_at, Owner, comes_before, is_under, lent}
+use Rattle.rete_net.proofs.Common.{◌≡◌, ◌∙◌, ◌⊎◌, ◌&&◌, ◌||◌, sym, ap, refl, inl, inr, ℕ, zero, suc, ◌+◌, ◌<◌, ◌≤◌, ◌==◌, add-one, nat_lt, is_lt, arith, cond}
+use Rattle.rete_net.proofs.Common.{get_or, length, take, drop, Bool, true, false, List, [], ◌∷◌, ◌++◌, Bor, Some, slice_get, Ordering, Less, Equal, Greater}
+use Rattle.rete_net.proofs.Common.{AllByRecursion, filter, find, IsNonDecreasingBy, IsPartitionPoint, IsSortedBy, eq_by_cmp, is_eq, nat_cmp, ordering_index}
+use Rattle.rete_net.proofs.Common.{ordering_reverse, ordering_then, nat_tests, fun_ext, and_assoc, take_more, In, Fact, Extra, Row, row_exact, row_total}
+use Rattle.rete_net.proofs.Common.{same_equiv, has, InOrder, row_cmp, has_in, in_has, extra_for, rows_of_extras, extra_cmp, extra_at, Owner, comes_before}
+use Rattle.rete_net.proofs.Common.{is_extra_under, lent}
 use Rattle.std.specs.List.Sorted.{IsStrictlySortedBy}
 use Rattle.std.proofs.lemmas.List.Sorted.{searchable_from_sorted}
 use Rattle.rete_net.proofs.Counting.{sorted_at}
@@ -90,11 +95,11 @@ first_pass test (suc n) (x ∷ xs) h =
 
 -- behind those before the owner the ones under it come first
 pub under_found : (o : Owner) (extras : List Extra) (n m : ℕ) → ((k : ℕ) (e : Extra) → slice_get extras k ≡ Some e → comes_before false o e ≡ nat_lt k n)
-    → ((k : ℕ) (e : Extra) → slice_get (drop n extras) k ≡ Some e → comes_before true o e ≡ nat_lt k m) → take m (drop n extras) ≡ filter (is_under o) extras
+    → ((k : ℕ) (e : Extra) → slice_get (drop n extras) k ≡ Some e → comes_before true o e ≡ nat_lt k m) → take m (drop n extras) ≡ filter (is_extra_under o) extras
 under_found o extras n m before under =
-    sym (none_first (is_under o) n extras (λ k e there lt.
+    sym (none_first (is_extra_under o) n extras (λ k e there lt.
     let low : nat_lt k n ≡ true = grind (arith, nat_tests) in under_when e.rule.0 o.rule.0 e.condition o.condition (before k e there ∙ low))
-    ∙ first_pass (is_under o) m (drop n extras) (λ k e there.
+    ∙ first_pass (is_extra_under o) m (drop n extras) (λ k e there.
     let high : nat_lt (n + k) n ≡ false = grind (arith, nat_tests) in
     under_is e.rule.0 o.rule.0 e.condition o.condition (before (n + k) e (sym (get_dropped n extras k) ∙ there) ∙ high) ∙ under k e there))
 
@@ -106,21 +111,21 @@ sorted_behind = sorted_drop extra_cmp
 row_kernel : (a b c d x y : ℕ) (rest : Ordering) → (a == x && c == y) ≡ true → (b == x && d == y) ≡ true → ordering_then (nat_cmp a b) (ordering_then (nat_cmp c d) rest) ≡ rest
 row_kernel a b c d x y rest e f = grind (arith, nat_tests)
 
-later_rows : (o : Owner) (e : Extra) → is_under o e ≡ true → (fs : List Extra) → AllByRecursion (λ f. extra_cmp e f ≡ Less) fs → AllByRecursion (λ (r : Row). row_cmp e.row r ≡ Less) (rows_of_extras (filter (is_under o) fs))
+later_rows : (o : Owner) (e : Extra) → is_extra_under o e ≡ true → (fs : List Extra) → AllByRecursion (λ f. extra_cmp e f ≡ Less) fs → AllByRecursion (λ (r : Row). row_cmp e.row r ≡ Less) (rows_of_extras (filter (is_extra_under o) fs))
 later_rows o e is [] all = tt
-later_rows o e is (f ∷ fs) all = here (is_under o f) refl (later_rows o e is fs all.1)
+later_rows o e is (f ∷ fs) all = here (is_extra_under o f) refl (later_rows o e is fs all.1)
   where
-    here : (b : Bool) → is_under o f ≡ b → AllByRecursion (λ (r : Row). row_cmp e.row r ≡ Less) (rows_of_extras (filter (is_under o) fs))
-        → AllByRecursion (λ (r : Row). row_cmp e.row r ≡ Less) (rows_of_extras (cond b (f ∷ filter (is_under o) fs) (filter (is_under o) fs)))
+    here : (b : Bool) → is_extra_under o f ≡ b → AllByRecursion (λ (r : Row). row_cmp e.row r ≡ Less) (rows_of_extras (filter (is_extra_under o) fs))
+        → AllByRecursion (λ (r : Row). row_cmp e.row r ≡ Less) (rows_of_extras (cond b (f ∷ filter (is_extra_under o) fs) (filter (is_extra_under o) fs)))
     here true own rest = (sym (row_kernel e.rule.0 f.rule.0 e.condition f.condition o.rule.0 o.condition (row_cmp e.row f.row) is own) ∙ all.0, rest)
     here false own rest = rest
 
-pub rows_in_order : (o : Owner) (extras : List Extra) → IsStrictlySortedBy extra_cmp extras → InOrder (rows_of_extras (filter (is_under o) extras))
+pub rows_in_order : (o : Owner) (extras : List Extra) → IsStrictlySortedBy extra_cmp extras → InOrder (rows_of_extras (filter (is_extra_under o) extras))
 unfolding IsStrictlySortedBy
 rows_in_order o [] s = tt
-rows_in_order o (e ∷ extras) s = by (is_under o e) refl (rows_in_order o extras s.1)
+rows_in_order o (e ∷ extras) s = by (is_extra_under o e) refl (rows_in_order o extras s.1)
   where
-    by : (b : Bool) → is_under o e ≡ b → InOrder (rows_of_extras (filter (is_under o) extras)) → InOrder (rows_of_extras (cond b (e ∷ filter (is_under o) extras) (filter (is_under o) extras)))
+    by : (b : Bool) → is_extra_under o e ≡ b → InOrder (rows_of_extras (filter (is_extra_under o) extras)) → InOrder (rows_of_extras (cond b (e ∷ filter (is_extra_under o) extras) (filter (is_extra_under o) extras)))
     by true is rest = (later_rows o e is extras s.0, rest)
     by false is rest = rest
 
@@ -133,9 +138,9 @@ find_filter under test (x ∷ xs) = by (under x) (find_filter under test xs)
     by false rest = rest
 
 -- the extra of a row is that of the owner at the row
-pub extra_of_owner : (o : Owner) (extras : List Extra) (row : Row) → extra_for (filter (is_under o) extras) row ≡ extra_at extras o.rule.0 o.condition row
+pub extra_of_owner : (o : Owner) (extras : List Extra) (row : Row) → extra_for (filter (is_extra_under o) extras) row ≡ extra_at extras o.rule.0 o.condition row
 extra_of_owner o extras row =
-    find_filter (is_under o) (λ (e : Extra). eq_by_cmp row_cmp e.row row) extras
+    find_filter (is_extra_under o) (λ (e : Extra). eq_by_cmp row_cmp e.row row) extras
     ∙ ap (λ (test : Extra → Bool). find test extras) (fun_ext (λ (e : Extra). and_assoc (e.rule.0 == o.rule.0) (e.condition == o.condition) (eq_by_cmp row_cmp e.row row)))
 
 -- ---- rows in order

@@ -1,16 +1,17 @@
 -- Fans that are built: of the next parent there is one more, or one has a member more; and nodes that are members keep nothing.
-use Rattle.rete_net.proofs.Common.{◌≡◌, ◌∙◌, sym, ap, refl, subst, ℕ, zero, suc, ◌+◌, ◌<◌, ◌≤◌, arith, List, [], ◌∷◌, ◌++◌, length, length-append, take, Option, Some, None, slice_get, ◌⊎◌, inl, inr, Bool, true, fun_ext, set, length-set, slice_get_within, option_map, Named, Condition, Plain, Pattern, Program, pattern_of, Candidates, beside, no_names, no_rows, StandsFor, Look, AreBeside, IsEmpty, empty_snapshot, held, GateStands, has_good_window, Node, condition_of, NodeStands, no_candidates, Fan, Fans, Seat, Span, NetNode, AreBuilt, IsBehind, IsParent, given_seat, in_fan, member_at, member_of, seat_at, showing, with_fans, AreEmpty, AreFans, IsSeat, Member, AreGrowing, GrowsTo, IsFanPut, IsNewFan, IsFresh, IsReached, AreLoneFound, AreFansBelow}
+use Rattle.rete_net.proofs.Common.{◌≡◌, ◌∙◌, sym, ap, refl, subst, ℕ, zero, suc, ◌+◌, ◌<◌, ◌≤◌, arith, List, [], ◌∷◌, ◌++◌, length, length-append, take, Option}
+use Rattle.rete_net.proofs.Common.{Some, None, slice_get, ◌⊎◌, inl, inr, Bool, true, fun_ext, set, length-set, slice_get_within, option_map, Named, Condition}
+use Rattle.rete_net.proofs.Common.{Plain, Pattern, Program, pattern_of, Candidates, beside, no_names, no_rows, StandsFor, Look, AreBeside, IsEmpty}
+use Rattle.rete_net.proofs.Common.{empty_snapshot, held, GateStands, has_good_window, Node, condition_of, NodeStands, no_candidates, Fan, Fans, Seat, Span}
+use Rattle.rete_net.proofs.Common.{NetNode, AreBuilt, IsBehindParent, IsParentNode, given_seat, in_fan, member_at, member_of, seat_at, showing, with_fans}
+use Rattle.rete_net.proofs.Common.{AreEmpty, AreFans, IsSeat, Member, AreGrowing, GrowsTo, IsFanPut, IsNewFan, IsFresh, IsReached, AreLoneFound, AreFansBelow}
 use Rattle.join_tests.specs.declared.row_key.RowKey.{RowKey}
 use Rattle.fan_join.proofs.Places.{seam_or_before}
 use Rattle.fan_join.proofs.Whole.{empty_law}
-use Rattle.rete_net.proofs.Growing.{both_at, get_left, get_seam}
 use Rattle.rete_net.proofs.Showing.{condition_shown, parent_shown, shown_from, shown_length}
 use Rattle.rete_net.proofs.Siblings.{shows_join}
-use Rattle.rete_net.proofs.Turns.{set_other, set_same}
 use Rattle.rete_net.proofs.Walking.{equal_or_not}
-
-none_in : {A : Type 0} (xs : List A) (k : ℕ) (x : A) → xs ≡ [] → slice_get xs k ≡ Some x → ⊥
-none_in xs k x none e = let no : None ≡ Some x = sym (ap (λ ys. slice_get ys k) none) ∙ e in cc
+use Rattle.fx_base.proofs.Sequences.{get-append_left, get-last, get-none, get-set_other, get-set_same, one_value}
 
 -- ---- no fans
 
@@ -19,17 +20,17 @@ none_grow nodes fans many none list spans = record {
   below = record {
     many = many;
     seats = λ k n seat e h. absurd (let no : None ≡ Some seat = sym (none k) ∙ h in cc);
-    places = λ f m k fan e h. absurd (none_in fans.list.items f fan list e);
-    counts = λ f fan e. absurd (none_in fans.list.items f fan list e);
-    beside = λ f fan e. absurd (none_in fans.list.items f fan list e);
-    reached = λ f fan e. absurd (none_in fans.list.items f fan list e);
-    spanned = λ f p fan span e h inside. absurd (none_in fans.list.items f fan list e);
+    places = λ f m k fan e h. absurd (get-none fans.list.items f fan list e);
+    counts = λ f fan e. absurd (get-none fans.list.items f fan list e);
+    beside = λ f fan e. absurd (get-none fans.list.items f fan list e);
+    reached = λ f fan e. absurd (get-none fans.list.items f fan list e);
+    spanned = λ f p fan span e h inside. absurd (get-none fans.list.items f fan list e);
   };
-  behind = λ f fan lt e. absurd (none_in fans.list.items f fan list e);
-  next = λ f fan le e. absurd (none_in fans.list.items f fan list e);
-  ends = λ p span e. absurd (none_in fans.spans.items p span spans e);
+  behind = λ f fan lt e. absurd (get-none fans.list.items f fan list e);
+  next = λ f fan le e. absurd (get-none fans.list.items f fan list e);
+  ends = λ p span e. absurd (get-none fans.spans.items p span spans e);
   within = omega arith;
-  empty = λ f fan e. absurd (none_in fans.list.items f fan list e);
+  empty = λ f fan e. absurd (get-none fans.list.items f fan list e);
 }
 
 -- ---- a fan more
@@ -39,7 +40,7 @@ module _ (nodes : List NetNode) (from : ℕ) (old new : Fans) (key : RowKey) (fa
   at f x e = seam_or_before old.list.items fan f x (ap (λ l. slice_get l f) (sym list) ∙ e)
 
   found : (f : ℕ) (x : Fan) → slice_get old.list.items f ≡ Some x → slice_get new.list.items f ≡ Some x
-  found f x e = ap (λ l. slice_get l f) list ∙ get_left old.list.items (fan ∷ []) f x e
+  found f x e = ap (λ l. slice_get l f) list ∙ get-append_left old.list.items (fan ∷ []) f x e
 
   pub fan_grows : AreGrowing nodes new from
   fan_grows = record {
@@ -50,7 +51,7 @@ module _ (nodes : List NetNode) (from : ℕ) (old new : Fans) (key : RowKey) (fa
           record { fan = s.fan; found = found seat.fan s.fan s.found; own = s.own; member = s.member; place = s.place; parent = s.parent; pattern = s.pattern };
       places = λ f m k x e h. elim (at f x e) [
         | inl there ↦ ap (λ l. seat_at l.items k) seats ∙ was.below.places f m k x there h
-        | inr last ↦ absurd (none_in fan.places.items m k is.places (ap (λ (y : Fan). slice_get y.places.items m) last.1 ∙ h))
+        | inr last ↦ absurd (get-none fan.places.items m k is.places (ap (λ (y : Fan). slice_get y.places.items m) last.1 ∙ h))
       ];
       counts = λ f x e. elim (at f x e) [
         | inl there ↦ was.below.counts f x there
@@ -100,16 +101,16 @@ module _ (nodes : List NetNode) (from : ℕ) (old new : Fans) (f : ℕ) (low : f
   seat = record { fan = f; member = length was_fan.places.items }
 
   list_other : (g : ℕ) → (g ≡ f → ⊥) → slice_get new.list.items g ≡ slice_get old.list.items g
-  list_other g other = ap (λ l. slice_get l g) list ∙ set_other old.list.items f g now_fan other
+  list_other g other = ap (λ l. slice_get l g) list ∙ get-set_other old.list.items f g now_fan other
 
   list_here : slice_get new.list.items f ≡ Some now_fan
-  list_here = ap (λ l. slice_get l f) list ∙ set_same old.list.items f now_fan was_fan there
+  list_here = ap (λ l. slice_get l f) list ∙ get-set_same old.list.items f now_fan was_fan there
 
   seat_other : (k : ℕ) → (k ≡ place → ⊥) → seat_at new.seats.items k ≡ seat_at old.seats.items k
-  seat_other k other = ap (λ l. seat_at l k) seats ∙ ap given_seat (set_other old.seats.items place k (Some seat) other)
+  seat_other k other = ap (λ l. seat_at l k) seats ∙ ap given_seat (get-set_other old.seats.items place k (Some seat) other)
 
   seat_here : seat_at new.seats.items place ≡ Some seat
-  seat_here = ap (λ l. seat_at l place) seats ∙ ap given_seat (set_same old.seats.items place (Some seat) None free)
+  seat_here = ap (λ l. seat_at l place) seats ∙ ap given_seat (get-set_same old.seats.items place (Some seat) None free)
 
   -- a place that has a seat is another one
   is_other : (k : ℕ) (s : Seat) → seat_at old.seats.items k ≡ Some s → k ≡ place → ⊥
@@ -121,7 +122,7 @@ module _ (nodes : List NetNode) (from : ℕ) (old new : Fans) (f : ℕ) (low : f
 
   fan_at : (g : ℕ) (x : Fan) → slice_get new.list.items g ≡ Some x → ((g ≡ f → ⊥) × (slice_get old.list.items g ≡ Some x)) ⊎ ((g ≡ f) × (now_fan ≡ x))
   fan_at g x e = elim (equal_or_not g f) [
-    | inl same ↦ inr (same, both_at (slice_get new.list.items f) now_fan x list_here (ap (slice_get new.list.items) (sym same) ∙ e))
+    | inl same ↦ inr (same, one_value (slice_get new.list.items f) now_fan x list_here (ap (slice_get new.list.items) (sym same) ∙ e))
     | inr other ↦ inl (other, sym (list_other g other) ∙ e)
   ]
 
@@ -129,13 +130,13 @@ module _ (nodes : List NetNode) (from : ℕ) (old new : Fans) (f : ℕ) (low : f
   seat_stays k m s is = elim (equal_or_not s.fan f) [
     | inr other ↦ record { fan = is.fan; found = list_other s.fan other ∙ is.found; own = is.own; member = is.member; place = is.place; parent = is.parent; pattern = is.pattern }
     | inl same ↦
-        let fan_is : was_fan ≡ is.fan = both_at (slice_get old.list.items f) was_fan is.fan there (ap (slice_get old.list.items) (sym same) ∙ is.found) in
+        let fan_is : was_fan ≡ is.fan = one_value (slice_get old.list.items f) was_fan is.fan there (ap (slice_get old.list.items) (sym same) ∙ is.found) in
         record {
           fan = now_fan;
           found = ap (slice_get new.list.items) same ∙ list_here;
           own = is.own;
-          member = ap (λ l. slice_get l s.member) put.members ∙ get_left was_fan.join.members.items (put.own ∷ []) s.member is.own (ap (λ (y : Fan). slice_get y.join.members.items s.member) fan_is ∙ is.member);
-          place = ap (λ l. slice_get l s.member) put.places ∙ get_left was_fan.places.items (place ∷ []) s.member k (ap (λ (y : Fan). slice_get y.places.items s.member) fan_is ∙ is.place);
+          member = ap (λ l. slice_get l s.member) put.members ∙ get-append_left was_fan.join.members.items (put.own ∷ []) s.member is.own (ap (λ (y : Fan). slice_get y.join.members.items s.member) fan_is ∙ is.member);
+          place = ap (λ l. slice_get l s.member) put.places ∙ get-append_left was_fan.places.items (place ∷ []) s.member k (ap (λ (y : Fan). slice_get y.places.items s.member) fan_is ∙ is.place);
           parent = is.parent ∙ ap (λ (y : Fan). Some y.parent) (sym fan_is) ∙ ap Some (sym put.parent);
           pattern = is.pattern;
         }
@@ -146,8 +147,8 @@ module _ (nodes : List NetNode) (from : ℕ) (old new : Fans) (f : ℕ) (low : f
     fan = now_fan;
     found = list_here;
     own = put.own;
-    member = ap (λ l. slice_get l (length was_fan.places.items)) put.members ∙ ap (slice_get (was_fan.join.members.items ++ put.own ∷ [])) count ∙ get_seam was_fan.join.members.items put.own;
-    place = ap (λ l. slice_get l (length was_fan.places.items)) put.places ∙ get_seam was_fan.places.items place;
+    member = ap (λ l. slice_get l (length was_fan.places.items)) put.members ∙ ap (slice_get (was_fan.join.members.items ++ put.own ∷ [])) count ∙ get-last was_fan.join.members.items put.own;
+    place = ap (λ l. slice_get l (length was_fan.places.items)) put.places ∙ get-last was_fan.places.items place;
     parent = parent ∙ ap Some (sym (was.next f was_fan low there)) ∙ ap Some (sym put.parent);
     pattern = condition ∙ ap Plain (sym put.same);
   }
@@ -156,8 +157,8 @@ module _ (nodes : List NetNode) (from : ℕ) (old new : Fans) (f : ℕ) (low : f
   seats_now k m s e h = elim (equal_or_not k place) [
     | inr other ↦ seat_stays k m s (was.below.seats k m s e (sym (seat_other k other) ∙ h))
     | inl same ↦
-        let m_is : n ≡ m = both_at (slice_get nodes place) n m n_is (ap (slice_get nodes) (sym same) ∙ e) in
-        let s_is : seat ≡ s = both_at (seat_at new.seats.items place) seat s seat_here (ap (seat_at new.seats.items) (sym same) ∙ h) in
+        let m_is : n ≡ m = one_value (slice_get nodes place) n m n_is (ap (slice_get nodes) (sym same) ∙ e) in
+        let s_is : seat ≡ s = one_value (seat_at new.seats.items place) seat s seat_here (ap (seat_at new.seats.items) (sym same) ∙ h) in
         subst (λ (i : ℕ). IsSeat new.list.items i m s) (sym same) (subst (IsSeat new.list.items place m) s_is (subst (λ (x : NetNode). IsSeat new.list.items place x seat) m_is seat_new))
   ]
 
@@ -245,10 +246,10 @@ module _ (nodes : List NetNode) (from : ℕ) (old new : Fans) (list : new.list �
       ];
     };
     behind = λ f x lt e. elim (below_or_from f from) [
-      | inl low ↦ let b = was.behind f x low (list_at f x e) in (b.0, ap (λ l. slice_get l x.parent) spans ∙ get_left old.spans.items (span_now ∷ []) x.parent b.0 b.1, b.2)
+      | inl low ↦ let b = was.behind f x low (list_at f x e) in (b.0, ap (λ l. slice_get l x.parent) spans ∙ get-append_left old.spans.items (span_now ∷ []) x.parent b.0 b.1, b.2)
       | inr high ↦ (
         span_now,
-        ap (λ l. slice_get l x.parent) spans ∙ ap (slice_get (old.spans.items ++ span_now ∷ [])) (was.next f x high (list_at f x e)) ∙ get_seam old.spans.items span_now,
+        ap (λ l. slice_get l x.parent) spans ∙ ap (slice_get (old.spans.items ++ span_now ∷ [])) (was.next f x high (list_at f x e)) ∙ get-last old.spans.items span_now,
         (high, slice_get_within old.list.items f x (list_at f x e)),
       )
     ];
@@ -326,7 +327,7 @@ module _ (p : Program) (nodes : List NetNode) (all : List (List Condition)) (fan
     length = shown_length (member_at fans) nodes ∙ built.length;
     behind = λ k x e.
         let n = shown_from (member_at fans) nodes k x e in
-        subst (IsBehind all k) n.2 (behind_too k n.0 (built.behind k n.0 n.1));
+        subst (IsBehindParent all k) n.2 (behind_too k n.0 (built.behind k n.0 n.1));
     windows = λ k x e.
         let n = shown_from (member_at fans) nodes k x e in
         subst (λ (y : NetNode). has_good_window p (pattern_of (condition_of y.node)) ≡ true) n.2
@@ -336,9 +337,9 @@ module _ (p : Program) (nodes : List NetNode) (all : List (List Condition)) (fan
         subst (IsFresh p) n.2 (fresh_at k n.0 n.1);
   }
     where
-      behind_too : (k : ℕ) (n : NetNode) → IsBehind all k n → IsBehind all k (showing (member_at fans k) n)
+      behind_too : (k : ℕ) (n : NetNode) → IsBehindParent all k n → IsBehindParent all k (showing (member_at fans k) n)
       behind_too k n is = record {
         before = is.before;
-        parent = subst (λ (q : Option ℕ). IsParent (take k all) q is.before) (sym (parent_shown (member_at fans k) n)) is.parent;
+        parent = subst (λ (q : Option ℕ). IsParentNode (take k all) q is.before) (sym (parent_shown (member_at fans k) n)) is.parent;
         own = subst (λ (c : Condition). slice_get all k ≡ Some (is.before ++ c ∷ [])) (sym (condition_shown (member_at fans k) n)) is.own;
       }

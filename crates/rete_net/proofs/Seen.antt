@@ -1,17 +1,19 @@
 -- A network that stands for a snapshot, over the clock that its nodes have seen.
-use Rattle.rete_net.proofs.Common.{◌≡◌, ◌∙◌, sym, ap, refl, subst, ℕ, ℤ, pos, negsuc, ◌<◌, ◌≤ℤ◌, ◌<ℤ◌, ◌^◌, arith, Bool, List, length, Option, Some, None, slice_get, SFits, w64, ≤ℤ_refl, ints, slice_get_within, Fact, Named, Row, has, Condition, Program, Rule, rows, Snapshot, floor, Look, cleaned, no_names, HasAllOf, rows_of, IsRunnable, IsOrderly, Moves, at_clock, condition_of, IsBefore, AreFans, shown_nodes, RuleChange, Rete, NetNode, AreNotNeeded, IsIndexOf, AreOwners, HaveSame, NodesStand, NetStands, clean_rows, AreBetween, AreQuiet, no_change, NetStep, AreScheduled, before, IsFront, Moment, IsAt, floor_on}
+use Rattle.rete_net.proofs.Common.{◌≡◌, ◌∙◌, sym, ap, refl, subst, ℕ, ℤ, pos, negsuc, ◌<◌, ◌≤ℤ◌, ◌<ℤ◌, ◌^◌, arith, Bool, List, length, Option, Some, None}
+use Rattle.rete_net.proofs.Common.{slice_get, SFits, w64, ≤ℤ_refl, ints, slice_get_within, Fact, Named, Row, has, Condition, Program, Rule, rows, Snapshot}
+use Rattle.rete_net.proofs.Common.{floor, Look, cleaned, no_names, HasAllOf, rows_of, IsRunnable, IsOrderly, MovesSnapshot, at_clock, condition_of, IsBefore}
+use Rattle.rete_net.proofs.Common.{AreFans, shown_nodes, RuleChange, Rete, NetNode, AreNotNeeded, IsIndexOf, AreNodeOwners, HaveSameFronts, NodesStand}
+use Rattle.rete_net.proofs.Common.{NetStands, clean_rows, AreBetween, AreQuiet, no_change, NetStep, AreScheduled, before, IsRuleFront, Moment, IsAt, floor_on}
 use Rattle.condition_rows.specs.Sets.{held}
 use Rattle.rete_net.proofs.Advancing.{rows_made, same_first, first_stays, stands_now, between_now}
 use Rattle.rete_net.proofs.Answering.{few_ends}
 use Rattle.rete_net.proofs.Beside.{both_held, both_known, both_known_now, stays_beside}
 use Rattle.rete_net.proofs.Chaining.{AreMade, IsGiven, AreStanding, StaysBeside}
 use Rattle.rete_net.proofs.Cleaning.{has_clean}
-use Rattle.rete_net.proofs.Growing.{has_at}
 use Rattle.rete_net.proofs.Quieting.{seen_now}
 use Rattle.rete_net.proofs.Turning.{rising}
-
-onward : (a b c : ℤ) → a ≤ℤ b → b ≤ℤ c → a ≤ℤ c
-onward a b c h k = omega (arith, ints, h, k)
+use Rattle.fx_base.proofs.Orders.{≤ℤ_trans}
+use Rattle.fx_base.proofs.Sequences.{get-below}
 
 -- a clock of 64 bits
 pub fits_low : (clock : ℤ) → SFits w64 clock → clock <ℤ pos (2 ^ 63)
@@ -24,7 +26,7 @@ unfolding held
 at_hand_at look s clock forgotten has tag f e known = has tag f e known
 
 -- a rule has the rows of its last node
-rule_rows : (p : Program) (net : Rete) (at s other : Snapshot) (forgotten : Named → Bool) (nodes : NodesStand p net at forgotten) → HaveSame p (shown_nodes net) nodes.shape.conditions forgotten s other
+rule_rows : (p : Program) (net : Rete) (at s other : Snapshot) (forgotten : Named → Bool) (nodes : NodesStand p net at forgotten) → HaveSameFronts p (shown_nodes net) nodes.shape.conditions forgotten s other
     → (place : ℕ) (rule : Rule) → slice_get p.rules place ≡ Some rule → cleaned (rows_of p s rule.conditions) forgotten ≡ cleaned (rows_of p other rule.conditions) forgotten
 rule_rows p net at s other forgotten nodes same place rule e =
     let end = nodes.shape.lasts place rule e in
@@ -33,7 +35,7 @@ rule_rows p net at s other forgotten nodes same place rule e =
 -- ---- a step
 
 module _ (p : Program) (look : Look) (s next : Snapshot) (gone : List Fact) (come : Option Fact) (moment : Moment) (forgotten : Named → Bool) (old new : Rete) (answers : List RuleChange)
-    (moves : Moves p s next gone come) (is_at : IsAt next moment) (apart : AreNotNeeded p forgotten s next gone come) (has_before : HasAllOf look s forgotten) (has_now : HasAllOf look next forgotten)
+    (moves : MovesSnapshot p s next gone come) (is_at : IsAt next moment) (apart : AreNotNeeded p forgotten s next gone come) (has_before : HasAllOf look s forgotten) (has_now : HasAllOf look next forgotten)
     (stands : NetStands p old s forgotten) (same : new.ends.items ≡ old.ends.items)
     (step : NetStep p look gone come moment no_change (shown_nodes old) (shown_nodes new) old.ends.items answers) where
   abbrev was : Snapshot
@@ -50,8 +52,8 @@ module _ (p : Program) (look : Look) (s next : Snapshot) (gone : List Fact) (com
     moves = record {
       before = stands.kept;
       after = moves.after;
-      clock = onward stands.seen s.clock next.clock stands.later moves.clock;
-      floors = λ entry. onward (floor p was entry) (floor p s entry) (floor p next entry)
+      clock = ≤ℤ_trans stands.seen s.clock next.clock stands.later moves.clock;
+      floors = λ entry. ≤ℤ_trans (floor p was entry) (floor p s entry) (floor p next entry)
           (floor_on p was s entry stands.later (≤ℤ_refl (s.reached.last_start entry)) (≤ℤ_refl (s.reached.promise entry))) (moves.floors entry);
       held = moves.held;
       once = moves.once;
@@ -80,26 +82,26 @@ module _ (p : Program) (look : Look) (s next : Snapshot) (gone : List Fact) (com
   same_before k n e (Some q) at =
       let lt : q < k = stands.nodes.shape.shaped.parents k q n e at in
       let within : k < length (shown_nodes old) = slice_get_within (shown_nodes old) k n e in
-      let node = has_at (shown_nodes old) q (omega arith) in
+      let node = get-below (shown_nodes old) q (omega arith) in
       stands.unchanged.same_rows q node.0 node.1
 
   beside : (k : ℕ) (n : NetNode) → slice_get (shown_nodes old) k ≡ Some n
       → StaysBeside p from_seen.world was next (condition_of n.node) (rows_of p was (before stands.nodes.shape.conditions n.parent)) (rows_of p next (before stands.nodes.shape.conditions n.parent)) forgotten
   beside k n e =
       let behind = before stands.nodes.shape.conditions n.parent in
-      stays_beside p world was s next gone come forgotten apart known_now behind (condition_of n.node) (subst (IsFront p) (stands.nodes.shape.shaped.own k n e) (stands.nodes.shape.fronts k n e))
+      stays_beside p world was s next gone come forgotten apart known_now behind (condition_of n.node) (subst (IsRuleFront p) (stands.nodes.shape.shaped.own k n e) (stands.nodes.shape.fronts k n e))
       (made_now.named behind) (same_before k n e n.parent refl) (stands.unchanged.same_candidates k n e)
 
   listed : (place : ℕ) (rule : Rule) → slice_get p.rules place ≡ Some rule → cleaned (rows_of p was rule.conditions) forgotten ≡ has (clean_rows p s forgotten rule)
   listed place rule e = sym (rule_rows p old was s was forgotten stands.nodes stands.unchanged place rule e) ∙ sym (has_clean (rows p s rule.conditions) forgotten)
 
   pub net_stands : AreQuiet p (shown_nodes new) new.quiet_until → IsIndexOf (shown_nodes new) new.ends.items new.index → AreScheduled p new.nodes.items new.schedule → AreFans new.nodes.items new.fans
-      → AreOwners p stands.nodes.shape.conditions (length (shown_nodes new)) new.owners.items → NetStands p new next forgotten
+      → AreNodeOwners p stands.nodes.shape.conditions (length (shown_nodes new)) new.owners.items → NetStands p new next forgotten
   net_stands quiet indexed scheduled fans owned =
       seen_now p new next forgotten
       (stands_now p look was next gone come moment forgotten no_change (rows_of p was) (clean_rows p s forgotten) old new stands.nodes.shape answers from_seen made (first_stays p was next forgotten) standing beside
       same step listed indexed scheduled fans owned)
-      moves.after (onward (pos 0) stands.seen next.clock stands.begun from_seen.moves.clock) quiet
+      moves.after (≤ℤ_trans (pos 0) stands.seen next.clock stands.begun from_seen.moves.clock) quiet
 
   pub net_between : IsRunnable p → AreBetween p (clean_rows p s forgotten) (clean_rows p next forgotten) answers
   net_between runnable =
@@ -115,11 +117,11 @@ module _ (p : Program) (net : Rete) (s : Snapshot) (forgotten : Named → Bool) 
   quiet_stands = record {
     seen = stands.seen;
     begun = stands.begun;
-    later = onward stands.seen s.clock clock stands.later later;
+    later = ≤ℤ_trans stands.seen s.clock clock stands.later later;
     kept = stands.kept;
     nodes = stands.nodes;
     unchanged = stands.quiet clock later low before_due kept;
-    quiet = λ at more fits until there. stands.quiet at (onward s.clock clock at later more) fits until there;
+    quiet = λ at more fits until there. stands.quiet at (≤ℤ_trans s.clock clock at later more) fits until there;
   }
 
   pub quiet_rows : (place : ℕ) (rule : Rule) → slice_get p.rules place ≡ Some rule

@@ -1,13 +1,19 @@
 -- What a network answers as it is loaded, and which extras have their rows.
-use Rattle.rete_net.proofs.Common.{◌≡◌, ◌∙◌, sym, ap, refl, subst, inl, inr, ℕ, zero, suc, ◌<◌, ◌==◌, ◌&&◌, ◌^◌, zero-add, arith, cond, Bool, true, false, List, [], ◌∷◌, ◌++◌, length, length-append, take, Option, Some, None, slice_get, slice_index_or, IsStrictlySortedBy, nat_cmp, get_or-append_seam, nat_tests, get_or_append_left, take_all, slice_get_within, In, Fact, Delta, Extra, Row, has, are_none, changes_nothing, Condition, Moment, Program, Rule, Snapshot, both_of, Look, IsFirstWith, Answered, Owner, RuleChange, NetNode, answer_in, AreRuled, coming, AreLadenRows, IsLoadable, IsThere, AreLoaded, IsStuck, change_of, IsOwned, IsNetOf, IsFresh, changes_from, delta_at, empty_row_comes, no_change}
+use Rattle.rete_net.proofs.Common.{◌≡◌, ◌∙◌, sym, ap, refl, subst, inl, inr, ℕ, zero, suc, ◌<◌, ◌==◌, ◌&&◌, ◌^◌, zero-add, arith, cond, Bool, true, false, List}
+use Rattle.rete_net.proofs.Common.{[], ◌∷◌, ◌++◌, length, length-append, take, Option, Some, None, slice_get, slice_index_or, IsStrictlySortedBy, nat_cmp}
+use Rattle.rete_net.proofs.Common.{get_or-append_seam, nat_tests, get_or_append_left, take_all, slice_get_within, In, Fact, Delta, Extra, Row, has, are_none}
+use Rattle.rete_net.proofs.Common.{changes_nothing, Condition, Moment, Program, Rule, Snapshot, Look, IsFirstWith, Answered, Owner, RuleChange, NetNode}
+use Rattle.rete_net.proofs.Common.{answer_in, AreRuled, coming, AreLadenRows, IsLoadable, IsThere, AreLoaded, IsStuck, change_of, IsOwned, IsNetOf, IsFresh}
+use Rattle.rete_net.proofs.Common.{changes_from, delta_at, empty_row_comes, no_change}
+use Rattle.std.proofs.lemmas.Bool.{and_parts}
 use Rattle.std.specs.Prelude.{map}
-use Rattle.image_laws.specs.Laden.{AreOwners}
-use Rattle.rete_net.specs.Owners.{AreOwners as HaveOwners}
+use Rattle.laden_rows.specs.Laden.{AreOwners}
+use Rattle.rete_net.specs.Owners.{AreNodeOwners as HaveOwners}
 use Rattle.rete_net.proofs.Answering.{found_change, few_ends, in_order as changes_in_order, past_change}
 use Rattle.rete_net.proofs.Counted.{fronts_within}
-use Rattle.rete_net.proofs.Growing.{both_at, has_at}
 use Rattle.rete_net.proofs.Loaded.{answered, come_to, in_order, none_gone, one_first, owner_place, parts}
-use Rattle.rete_net.proofs.Turns.{below_or_at}
+use Rattle.fx_base.proofs.Orders.{below_or_last}
+use Rattle.fx_base.proofs.Sequences.{get-below, one_value}
 
 -- ---- answers in a list
 
@@ -21,7 +27,7 @@ many_told f (suc n) = let rest = many_told f n in simp length-append (omega (ari
 
 told_at : (f : ℕ → Delta) (d : Delta) (n k : ℕ) → k < n → slice_index_or (told f n) k d ≡ f k
 told_at f d zero k lt = absurd (omega (arith, lt))
-told_at f d (suc n) k lt = elim (below_or_at k n (omega (arith, lt))) [
+told_at f d (suc n) k lt = elim (below_or_last k n (omega (arith, lt))) [
   | inl less ↦ (let many = many_told f n in get_or_append_left (told f n) (f n ∷ []) d k (omega (arith, many, less)) ∙ told_at f d n k less)
   | inr same ↦ ap (λ i. slice_index_or (told f n ++ f n ∷ []) i d) (same ∙ sym (many_told f n)) ∙ get_or-append_seam (told f n) (f n) [] d ∙ ap f (sym same)
 ]
@@ -53,9 +59,9 @@ module _ (p : Program) (look : Look) (t : Snapshot) (kept : List Fact) (extras :
     last_within rule end e =
         let within : rule < length ends = slice_get_within ends rule end e in
         let count = net.count in
-        let r = has_at p.rules rule (omega (arith, within, count)) in
+        let r = get-below p.rules rule (omega (arith, within, count)) in
         let last = net.lasts rule r.0 r.1 in
-        let same : last.last ≡ end = both_at (slice_get ends rule) last.last end last.found e in
+        let same : last.last ≡ end = one_value (slice_get ends rule) last.last end last.found e in
         subst (λ i. i < length nodes) same (slice_get_within nodes last.last last.node last.there)
 
     known : (rule end : ℕ) → slice_get ends rule ≡ Some end → delta_at no_change deltas end ≡ answer_in a end
@@ -90,7 +96,7 @@ module _ (p : Program) (look : Look) (t : Snapshot) (kept : List Fact) (extras :
           let end = end_of place delta e in
           let within : place < length ends = slice_get_within ends place end.0 end.1 in
           let count = net.count in
-          has_at p.rules place (omega (arith, within, count));
+          get-below p.rules place (omega (arith, within, count));
       none_gone = λ place delta e.
           let end = end_of place delta e in
           let is = some_is (answer_in a end.0) delta (changes_nothing (answer_in a end.0)) (sym (change_is place end.0 end.1) ∙ e) in
@@ -117,16 +123,16 @@ module _ (p : Program) (look : Look) (t : Snapshot) (kept : List Fact) (extras :
     pub extras_there : (e : Extra) → In e extras → IsThere p t extras owners e true
     extras_there e i rule stands =
         let placed = can.placed e i in
-        let same : placed.rule ≡ rule = both_at (slice_get p.rules e.rule.0) placed.rule rule placed.stands stands in
+        let same : placed.rule ≡ rule = one_value (slice_get p.rules e.rule.0) placed.rule rule placed.stands stands in
         let low : e.condition < length rule.conditions = subst (λ (r : Rule). e.condition < length r.conditions) same (slice_get_within placed.rule.conditions e.condition placed.condition placed.placed) in
         let last = net.lasts e.rule.0 rule stands in
         let front : take (suc e.condition) (net.conditions last.last) ≡ take (suc e.condition) rule.conditions = ap (take (suc e.condition)) last.all in
         let node = fronts_within p nodes ends net (suc last.last) last.last (suc e.condition) last.node (omega arith) last.there (λ none. not_begun e.condition rule.conditions low (sym front ∙ none)) in
         let is : net.conditions node.0 ≡ take (suc e.condition) rule.conditions = node.2 ∙ front in
-        let n = has_at nodes node.0 node.1 in
+        let n = get-below nodes node.0 node.1 in
         let count = owned.count in
         let lt = node.1 in
-        let o = has_at held_by node.0 (omega (arith, count, lt)) in
+        let o = get-below held_by node.0 (omega (arith, count, lt)) in
         let theirs : IsOwned p (take (suc e.condition) rule.conditions) o.0 = subst (λ (cs : List Condition). IsOwned p cs o.0) is (owned.each node.0 o.0 o.1) in
         let at : o.0.condition ≡ e.condition = owner_place p owners own e.rule.0 e.condition rule stands low o.0 theirs in
         let of : o.0.rule.0 ≡ e.rule.0 =
@@ -145,7 +151,7 @@ module _ (p : Program) (look : Look) (t : Snapshot) (kept : List Fact) (extras :
       let k = stuck.place in
       let inside : k < length nodes = slice_get_within nodes k stuck.node stuck.there in
       let count = owned.count in
-      let o = has_at held_by k (omega (arith, count, inside)) in
+      let o = get-below held_by k (omega (arith, count, inside)) in
       let sorted = in_order p look t kept extras moment can owners own nodes ends net held_by owned fresh stuck.now stuck.answered k (omega (arith, inside)) stuck.loaded k stuck.node stuck.there (omega arith) in
       let it = stuck.missing o.0 o.1 sorted in (
         it.0,
@@ -153,10 +159,10 @@ module _ (p : Program) (look : Look) (t : Snapshot) (kept : List Fact) (extras :
         λ rule stands.
             let e = it.0 in
             let theirs = owned.each k o.0 o.1 in
-            let two = both_of (e.rule.0 == o.0.rule.0) (e.condition == o.0.condition) it.2 in
+            let two = and_parts (e.rule.0 == o.0.rule.0) (e.condition == o.0.condition) it.2 in
             let of : e.rule.0 ≡ o.0.rule.0 = one_number e.rule.0 o.0.rule.0 two.0 in
             let at : e.condition ≡ o.0.condition = one_number e.condition o.0.condition two.1 in
-            let same : theirs.rule ≡ rule = both_at (slice_get p.rules o.0.rule.0) theirs.rule rule theirs.stands (ap (slice_get p.rules) (sym of) ∙ stands) in
+            let same : theirs.rule ≡ rule = one_value (slice_get p.rules o.0.rule.0) theirs.rule rule theirs.stands (ap (slice_get p.rules) (sym of) ∙ stands) in
             let low : o.0.condition < length rule.conditions = subst (λ (r : Rule). o.0.condition < length r.conditions) same theirs.within in
             let is : net.conditions k ≡ take (suc e.condition) rule.conditions = theirs.own ∙ ap (λ (r : Rule). take (suc o.0.condition) r.conditions) same ∙ ap (λ i. take (suc i) rule.conditions) (sym at) in
             let front = parts p look t kept extras moment can owners own nodes ends net held_by owned fresh stuck.now stuck.answered k (omega (arith, inside)) stuck.loaded k stuck.node stuck.there

@@ -1,9 +1,13 @@
 -- Nodes with what they keep as members of fans: they stand where they stood, for the same conditions.
-use Rattle.rete_net.proofs.Common.{◌≡◌, ◌∙◌, sym, ap, refl, subst, ℕ, zero, suc, ℤ, ◌≤ℤ◌, ◌++◌, ◌||◌, not, Bool, true, false, List, [], ◌∷◌, length, Option, Some, None, slice_get, ≤ℤ_refl, filter, Fact, Delta, Moment, Program, Condition, snapshot_at, pattern_of, is_whole, Snapshot, floor, floor_on, held, IsOrderly, Moves, at_clock, shares_tag, PatternGate, is_one_meant, BetaJoin, Node, condition_of, is_negated, IsBefore, join_quiet, NetNode, Schedule, Member, shown, showing, with_member, is_timed, AreQuiet, IsNodeQuiet, AreScheduled, IsGateStill, IsLeftAlone, IsScheduled, IsStillAt, IsReplaced}
+use Rattle.rete_net.proofs.Common.{◌≡◌, ◌∙◌, sym, ap, refl, subst, ℕ, zero, suc, ℤ, ◌≤ℤ◌, ◌++◌, ◌||◌, not, Bool, true, false, List, [], ◌∷◌, length, Option}
+use Rattle.rete_net.proofs.Common.{Some, None, slice_get, ≤ℤ_refl, filter, Fact, Delta, Moment, Program, Condition, snapshot_at, pattern_of, is_whole, Snapshot}
+use Rattle.rete_net.proofs.Common.{floor, floor_on, held, IsOrderly, MovesSnapshot, at_clock, shares_tag, PatternGate, is_one_meant, BetaJoin, Node}
+use Rattle.rete_net.proofs.Common.{condition_of, is_negated, IsBefore, join_quiet, NetNode, Schedule, Member, shown, showing, with_member, is_changed_by_clock}
+use Rattle.rete_net.proofs.Common.{AreQuiet, IsNodeQuiet, AreScheduled, IsGateStill, IsLeftAlone, IsScheduled, IsStillAt, IsReplaced}
 use Rattle.condition_node.specs.declared.node.Node.TheVariants as node
-use Rattle.rete_net.proofs.Growing.{both_at}
 use Rattle.rete_net.proofs.Quieting.{untimed_quiet}
 use Rattle.rete_net.proofs.Turning.{held_has, rising}
+use Rattle.fx_base.proofs.Sequences.{one_value}
 
 -- ---- lists
 
@@ -27,7 +31,7 @@ shown_from members nodes k x e = by (slice_get nodes k) refl
   where
     by : (o : Option NetNode) → slice_get nodes k ≡ o → (n : NetNode) × (slice_get nodes k ≡ Some n) × (showing (members k) n ≡ x)
     by None none = absurd (let no : None ≡ Some x = sym (shown_none members nodes k none) ∙ e in cc)
-    by (Some n) there = (n, there, both_at (slice_get (shown members nodes) k) (showing (members k) n) x (shown_at members nodes k n there) e)
+    by (Some n) there = (n, there, one_value (slice_get (shown members nodes) k) (showing (members k) n) x (shown_at members nodes k n there) e)
 
 pub same_lists : {A : Type 0} (xs ys : List A) → ((k : ℕ) → slice_get xs k ≡ slice_get ys k) → xs ≡ ys
 same_lists [] [] h = refl
@@ -61,7 +65,7 @@ replaced_shown members nodes = record {
 }
   where
     is : (k : ℕ) (a b : NetNode) → slice_get nodes k ≡ Some a → slice_get (shown members nodes) k ≡ Some b → showing (members k) a ≡ b
-    is k a b e f = both_at (slice_get (shown members nodes) k) (showing (members k) a) b (shown_at members nodes k a e) f
+    is k a b e f = one_value (slice_get (shown members nodes) k) (showing (members k) a) b (shown_at members nodes k a e) f
 
 pub replaced_back : (old new : List NetNode) → IsReplaced old new → IsReplaced new old
 replaced_back old new is = record {
@@ -120,7 +124,7 @@ none_go : (facts : List Fact) → facts ≡ filter (λ (f : Fact). not (shares_t
 none_go [] = refl
 none_go (f ∷ facts) = ap (λ (rest : List Fact). f ∷ rest) (none_go facts)
 
-clock_moves : (p : Program) (s : Snapshot) (clock : ℤ) → IsOrderly p s → IsOrderly p (at_clock s clock) → s.clock ≤ℤ clock → Moves p s (at_clock s clock) [] None
+clock_moves : (p : Program) (s : Snapshot) (clock : ℤ) → IsOrderly p s → IsOrderly p (at_clock s clock) → s.clock ≤ℤ clock → MovesSnapshot p s (at_clock s clock) [] None
 clock_moves p s clock before after later = record {
   before = before;
   after = after;
@@ -169,8 +173,8 @@ pub shown_quiet : (p : Program) (members : ℕ → Option Member) (nodes : List 
     → ((k : ℕ) (n : NetNode) → IsScheduled p schedule k n → IsNodeQuiet p n first) → AreQuiet p (shown members nodes) first
 shown_quiet p members nodes schedule first scheduled told k x e =
     let n = shown_from members nodes k x e in
-    subst (λ y. IsNodeQuiet p y first) n.2 (by n.0 n.1 (is_timed n.0) refl)
+    subst (λ y. IsNodeQuiet p y first) n.2 (by n.0 n.1 (is_changed_by_clock n.0) refl)
   where
-    by : (n : NetNode) → slice_get nodes k ≡ Some n → (t : Bool) → is_timed n ≡ t → IsNodeQuiet p (showing (members k) n) first
+    by : (n : NetNode) → slice_get nodes k ≡ Some n → (t : Bool) → is_changed_by_clock n ≡ t → IsNodeQuiet p (showing (members k) n) first
     by n there true timed = told k (showing (members k) n) (scheduled_shown p (members k) schedule k n (scheduled k n there timed))
     by n there false untimed = untimed_quiet p (showing (members k) n) first (ap timed_by (condition_shown (members k) n) ∙ untimed)

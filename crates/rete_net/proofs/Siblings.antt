@@ -1,9 +1,17 @@
 -- What a node does as a member of a fan, out of both halves of a step.
-use Rattle.rete_net.proofs.Common.{◌≡◌, ◌∙◌, sym, ap, refl, subst, ℕ, ℤ, ◌&&◌, ◌||◌, not, Bool, true, false, List, [], ◌∷◌, map, Option, Some, None, filter, eq_by_cmp, is_some, In, RuleId, rows_of_extras, AreExtrasBeside, same_from_decides, Fact, Extra, Delta, Named, Row, name_cmp, has, row_cmp, InOrder, IsDifference, changes_nothing, Condition, Plain, Negated, Existing, Folded, Pattern, Moment, Program, IsAt, pattern_of, Snapshot, Look, Candidates, beside, row_naming, IsNameDifference, IsStepped, has_name, has_left, has_right, made, no_names, row_decides, name_decides, BetaJoin, AreNamesTurned, candidates_of, GateStands, has_good_window, nothing_differs, IsOrderly, Moves, PatternGate, Node, condition_of, node_moves, NetNode, NodeForgets, Fan, Fans, Seat, half_at, half_of, member_at, member_of, seat_at, showing, with_member, AreNamesTurnedAt, IsHalf, IsHalfTurned, IsLeft, IsOf, Member, type_of, is_of, NodeLoad, no_change, NodeStep}
+use Rattle.rete_net.proofs.Common.{◌≡◌, ◌∙◌, sym, ap, refl, subst, ℕ, ℤ, ◌&&◌, ◌||◌, not, Bool, true, false, List, [], ◌∷◌, map, Option, Some, None, filter}
+use Rattle.rete_net.proofs.Common.{eq_by_cmp, is_some, In, RuleId, rows_of_extras, AreExtrasBeside, same_from_decides, Fact, Extra, Delta, Named, Row, name_cmp}
+use Rattle.rete_net.proofs.Common.{has, row_cmp, InOrder, IsDifference, changes_nothing, Condition, Plain, Negated, Existing, Folded, Pattern, Moment, Program}
+use Rattle.rete_net.proofs.Common.{IsAt, pattern_of, Snapshot, Look, Candidates, beside, row_naming, IsNameDifference, IsStepped, has_name, has_left, has_right}
+use Rattle.rete_net.proofs.Common.{made, no_names, row_decides, name_decides, BetaJoin, AreNamesTurned, candidates_of, GateStands, has_good_window}
+use Rattle.rete_net.proofs.Common.{nothing_differs, IsOrderly, MovesSnapshot, PatternGate, Node, condition_of, node_moves, NetNode, NodeForgets, Fan, Fans}
+use Rattle.rete_net.proofs.Common.{Seat, half_at, half_of, member_at, member_of, seat_at, showing, with_member, AreNamesTurnedAt, IsHalf, IsHalfTurned, IsLeft}
+use Rattle.rete_net.proofs.Common.{IsOfSeat, Member, type_of, is_fact_of_type, NodeLoad, no_change, NodeStep}
+use Rattle.std.proofs.Math.Bool.{or-false}
 use Rattle.std.specs.Option.{IfSome}
 use Rattle.std.specs.List.Sorted.{IsStrictlySortedBy}
 use Rattle.pair_memory.specs.declared.left_rows.LeftRows.{LeftRows}
-use Rattle.pair_memory.specs.Memories.{Keeps}
+use Rattle.pair_memory.specs.Memories.{KeepsMemories}
 use Rattle.pair_memory.proofs.Turning.{keeps_then}
 use Rattle.condition_node.specs.declared.node.Node.TheVariants as node
 use Rattle.condition_node.proofs.Forgetting.{join_forgot}
@@ -81,8 +89,8 @@ module _ (p : Program) (look : Look) (gone : List Fact) (come : Option Fact) (mo
     (of : condition_of n.node ≡ Plain c.pattern) (parent : new.parent ≡ n.parent) (condition : condition_of new.node ≡ condition_of n.node)
     (stepped : IsStepped (beside was c) (beside now d) look left right) (differs : IsDifference (made (beside was c) look) (made (beside now d) look) delta) where
   pub member_step : (q : Pattern) (at : ℤ) → q ≡ c.pattern → at ≡ moment.clock
-      → ((s next : Snapshot) → has_good_window p q ≡ true → GateStands p q n.gate s → Moves p s next gone come → next.clock ≡ at → GateStands p q new.gate next)
-      → ((s next : Snapshot) → has_good_window p q ≡ true → GateStands p q n.gate s → Moves p s next gone come → next.clock ≡ at → IsNameDifference (candidates_of p q s) (candidates_of p q next) right)
+      → ((s next : Snapshot) → has_good_window p q ≡ true → GateStands p q n.gate s → MovesSnapshot p s next gone come → next.clock ≡ at → GateStands p q new.gate next)
+      → ((s next : Snapshot) → has_good_window p q ≡ true → GateStands p q n.gate s → MovesSnapshot p s next gone come → next.clock ≡ at → IsNameDifference (candidates_of p q s) (candidates_of p q next) right)
       → NodeStep p look gone come moment (showing (Some (record { left = was; own = c })) n) (showing (Some (record { left = now; own = d })) new) left delta
   member_step q at q_is at_is stands names =
       subst (λ (x : NetNode). NodeStep p look gone come moment x (showing (Some (record { left = now; own = d })) new) left delta) (sym (shown_is n was c of))
@@ -94,16 +102,12 @@ module _ (p : Program) (look : Look) (gone : List Fact) (come : Option Fact) (mo
 
 -- ---- forgetting
 
-or_nothing : (b : Bool) → (b || false) ≡ b
-or_nothing true = refl
-or_nothing false = refl
-
 module _ (p : Program) (look : Look) (n new : NetNode) (was now : LeftRows) (c d : Candidates) (rows : List Row) (names : List Named) (half delta : Delta)
     (of : condition_of n.node ≡ Plain c.pattern) (same : new ≡ n) (halved : IsHalfTurned look rows [] was now c half) (turned : AreNamesTurned now look names [] half c d delta) where
-  kept : Keeps (beside was c) (beside now d) look (λ row. has_left (beside was c) look row && not (has rows row)) (λ who. has_right (beside was c) look who && not (has_name names who))
+  kept : KeepsMemories (beside was c) (beside now d) look (λ row. has_left (beside was c) look row && not (has rows row)) (λ who. has_right (beside was c) look who && not (has_name names who))
   kept =
       keeps_then (beside was c) (beside now c) (beside now d) look _ _ _ _ _ _ halved.kept turned.kept
-      (λ row. halved.kept.rows row ∙ or_nothing (has_left (beside was c) look row && not (has rows row))) (λ who. or_nothing (has_right (beside was c) look who && not (has_name names who)))
+      (λ row. halved.kept.rows row ∙ or-false (has_left (beside was c) look row && not (has rows row))) (λ who. or-false (has_right (beside was c) look who && not (has_name names who)))
 
   pub member_forgets : NodeForgets p look (has_name names) (showing (Some (record { left = was; own = c })) n) (showing (Some (record { left = now; own = d })) new) rows delta.gone
   member_forgets =
@@ -136,7 +140,7 @@ has_naming (n ∷ names) who = ap (λ b. b || has (map row_naming names) (row_na
 
 module _ (p : Program) (look : Look) (kept : List Fact) (extras : List Extra) (moment : Moment) (n : NetNode) (gate : PatternGate) (was now : LeftRows) (c d : Candidates) (rows : List Row) (right : List Named) (half delta come : Delta) (theirs : List Fact)
     (of : condition_of n.node ≡ Plain c.pattern) (halved : IsHalfTurned look [] rows was now c half) (turned : AreNamesTurned now look [] right half c d delta)
-    (theirs_are : theirs ≡ filter (is_of (type_of n)) kept)
+    (theirs_are : theirs ≡ filter (is_fact_of_type (type_of n)) kept)
     (stands : (s : Snapshot) → has_good_window p (pattern_of (condition_of n.node)) ≡ true → IsOrderly p s → s.facts ≡ theirs → s.clock ≡ moment.clock → GateStands p (pattern_of (condition_of n.node)) gate s)
     (comes : (s : Snapshot) → has_good_window p (pattern_of (condition_of n.node)) ≡ true → IsOrderly p s → s.facts ≡ theirs → s.clock ≡ moment.clock → IsNameDifference no_names (candidates_of p (pattern_of (condition_of n.node)) s) come)
     (names : (who : Named) → has_name right who ≡ has come.come (row_naming who)) where
@@ -151,7 +155,7 @@ module _ (p : Program) (look : Look) (kept : List Fact) (extras : List Extra) (m
       let q_is : pattern_of (condition_of n.node) ≡ c.pattern = ap pattern_of of in
       subst (λ (x : NetNode). NodeLoad p look kept extras moment x (showing (Some (record { left = now; own = d })) (record { parent = n.parent; gate = gate; node = n.node })) rows delta) (sym (shown_is n was c of))
       (subst (λ (y : NetNode). NodeLoad p look kept extras moment (as_node n was c) y rows delta) (sym (shown_is (record { parent = n.parent; gate = gate; node = n.node }) now d (of ∙ ap Plain (sym whole.0.pattern))))
-      (loads_node p look kept extras moment (as_node n was c) gate (node.Join (own_join now d)) rows delta come right theirs (theirs_are ∙ ap (λ (q : Pattern). filter (is_of q.ty.0) kept) q_is)
+      (loads_node p look kept extras moment (as_node n was c) gate (node.Join (own_join now d)) rows delta come right theirs (theirs_are ∙ ap (λ (q : Pattern). filter (is_fact_of_type q.ty.0) kept) q_is)
       (subst (λ (q : Pattern). (s : Snapshot) → has_good_window p q ≡ true → IsOrderly p s → s.facts ≡ theirs → s.clock ≡ moment.clock → GateStands p q gate s) q_is stands)
       (subst (λ (q : Pattern). (s : Snapshot) → has_good_window p q ≡ true → IsOrderly p s → s.facts ≡ theirs → s.clock ≡ moment.clock → IsNameDifference no_names (candidates_of p q s) come) q_is comes)
       names (ap Plain whole.0.pattern)
@@ -184,7 +188,7 @@ nothing_is d h = by d.gone d.come h
     by [] (r ∷ come) e = absurd (let no : false ≡ true = e in cc)
     by (r ∷ gone) come e = absurd (let no : false ≡ true = e in cc)
 
-module _ (look : Look) (goes comes : List Row) (n : NetNode) (was : Option Member) (half : Delta) (fans : List Fan) (seat : Seat) (of : IsOf n fans (Some seat)) (halved : IsHalf look goes comes was (member_of fans (Some seat)) half) where
+module _ (look : Look) (goes comes : List Row) (n : NetNode) (was : Option Member) (half : Delta) (fans : List Fan) (seat : Seat) (of : IsOfSeat n fans (Some seat)) (halved : IsHalf look goes comes was (member_of fans (Some seat)) half) where
   abbrev m : Member
   m = of.0
 
@@ -193,10 +197,10 @@ module _ (look : Look) (goes comes : List Row) (n : NetNode) (was : Option Membe
 
 module _ (p : Program) (look : Look) (gone : List Fact) (come : Option Fact) (moment : Moment) (n : NetNode) (was : Option Member) (left half : Delta) where
   -- where nothing changes for a member, and its gate stays as it is, the half is all
-  pub still_steps : changes_nothing half ≡ true → (fans : List Fan) (seat : Seat) → IsOf n fans (Some seat) → IsHalf look left.gone left.come was (member_of fans (Some seat)) half
+  pub still_steps : changes_nothing half ≡ true → (fans : List Fan) (seat : Seat) → IsOfSeat n fans (Some seat) → IsHalf look left.gone left.come was (member_of fans (Some seat)) half
       → (q : Pattern) (at : ℤ) → q ≡ pattern_of (condition_of n.node) → at ≡ moment.clock
-      → ((p : Program) (s next : Snapshot) → GateStands p q n.gate s → Moves p s next gone come → next.clock ≡ at → GateStands p q n.gate next)
-      → ((p : Program) (s next : Snapshot) → GateStands p q n.gate s → Moves p s next gone come → next.clock ≡ at → (who : Named) → candidates_of p q next who ≡ candidates_of p q s who)
+      → ((p : Program) (s next : Snapshot) → GateStands p q n.gate s → MovesSnapshot p s next gone come → next.clock ≡ at → GateStands p q n.gate next)
+      → ((p : Program) (s next : Snapshot) → GateStands p q n.gate s → MovesSnapshot p s next gone come → next.clock ≡ at → (who : Named) → candidates_of p q next who ≡ candidates_of p q s who)
       → NodeStep p look gone come moment (showing was n) (showing (member_of fans (Some seat)) n) left half
   still_steps none fans seat of halved q at q_is at_is stands same =
       let m = of.0 in
@@ -210,13 +214,13 @@ module _ (p : Program) (look : Look) (gone : List Fact) (come : Option Fact) (mo
       (λ s next good standing moves clock. nothing_differs (candidates_of p q s) (candidates_of p q next) (same p s next standing moves clock) no_change no_difference)))
 
   -- candidates leave and come too
-  pub names_step : (new : NetNode) (right delta : Delta) (fans fans_now : List Fan) (seat : Seat) → IsOf n fans (Some seat) → IsHalf look left.gone left.come was (member_of fans (Some seat)) half
+  pub names_step : (new : NetNode) (right delta : Delta) (fans fans_now : List Fan) (seat : Seat) → IsOfSeat n fans (Some seat) → IsHalf look left.gone left.come was (member_of fans (Some seat)) half
       → new.parent ≡ n.parent → condition_of new.node ≡ condition_of n.node → (names_gone names_come : List Named)
       → ((who : Named) → has_name names_gone who ≡ has right.gone (row_naming who)) → ((who : Named) → has_name names_come who ≡ has right.come (row_naming who))
       → AreNamesTurnedAt look names_gone names_come half delta fans fans_now seat
       → (q : Pattern) (at : ℤ) → q ≡ pattern_of (condition_of n.node) → at ≡ moment.clock
-      → ((s next : Snapshot) → has_good_window p q ≡ true → GateStands p q n.gate s → Moves p s next gone come → next.clock ≡ at → GateStands p q new.gate next)
-      → ((s next : Snapshot) → has_good_window p q ≡ true → GateStands p q n.gate s → Moves p s next gone come → next.clock ≡ at → IsNameDifference (candidates_of p q s) (candidates_of p q next) right)
+      → ((s next : Snapshot) → has_good_window p q ≡ true → GateStands p q n.gate s → MovesSnapshot p s next gone come → next.clock ≡ at → GateStands p q new.gate next)
+      → ((s next : Snapshot) → has_good_window p q ≡ true → GateStands p q n.gate s → MovesSnapshot p s next gone come → next.clock ≡ at → IsNameDifference (candidates_of p q s) (candidates_of p q next) right)
       → NodeStep p look gone come moment (showing was n) (showing (member_of fans_now (Some seat)) new) left delta
   names_step new right delta fans fans_now seat of halved parent condition names_gone names_come gone_are come_are turned q at q_is at_is stands differs =
       let m = of.0 in
@@ -228,7 +232,7 @@ module _ (p : Program) (look : Look) (gone : List Fact) (come : Option Fact) (mo
       (member_step p look gone come moment n new whole.0 m.left m.own now.0 left right delta of.2 parent condition both.0 both.1 q at (q_is ∙ ap pattern_of of.2) at_is stands differs))
 
 -- a member forgets
-pub names_forget : (p : Program) (look : Look) (n : NetNode) (was : Option Member) (rows : List Row) (names : List Named) (half delta : Delta) (fans fans_now : List Fan) (seat : Seat) → IsOf n fans (Some seat)
+pub names_forget : (p : Program) (look : Look) (n : NetNode) (was : Option Member) (rows : List Row) (names : List Named) (half delta : Delta) (fans fans_now : List Fan) (seat : Seat) → IsOfSeat n fans (Some seat)
     → IsHalf look rows [] was (member_of fans (Some seat)) half → AreNamesTurnedAt look names [] half delta fans fans_now seat
     → NodeForgets p look (has_name names) (showing was n) (showing (member_of fans_now (Some seat)) n) rows delta.gone
 names_forget p look n was rows names half delta fans fans_now seat of halved turned =
@@ -241,8 +245,8 @@ names_forget p look n was rows names half delta fans fans_now seat of halved tur
 
 -- and is loaded
 pub names_load : (p : Program) (look : Look) (kept : List Fact) (extras : List Extra) (moment : Moment) (n : NetNode) (gate : PatternGate) (was : Option Member) (rows : List Row) (right : List Named) (half delta come : Delta) (theirs : List Fact)
-    (fans fans_now : List Fan) (seat : Seat) → IsOf n fans (Some seat) → IsHalf look [] rows was (member_of fans (Some seat)) half → AreNamesTurnedAt look [] right half delta fans fans_now seat
-    → theirs ≡ filter (is_of (type_of n)) kept
+    (fans fans_now : List Fan) (seat : Seat) → IsOfSeat n fans (Some seat) → IsHalf look [] rows was (member_of fans (Some seat)) half → AreNamesTurnedAt look [] right half delta fans fans_now seat
+    → theirs ≡ filter (is_fact_of_type (type_of n)) kept
     → ((s : Snapshot) → has_good_window p (pattern_of (condition_of n.node)) ≡ true → IsOrderly p s → s.facts ≡ theirs → s.clock ≡ moment.clock → GateStands p (pattern_of (condition_of n.node)) gate s)
     → ((s : Snapshot) → has_good_window p (pattern_of (condition_of n.node)) ≡ true → IsOrderly p s → s.facts ≡ theirs → s.clock ≡ moment.clock → IsNameDifference no_names (candidates_of p (pattern_of (condition_of n.node)) s) come)
     → ((who : Named) → has_name right who ≡ has come.come (row_naming who))
@@ -260,12 +264,12 @@ names_load p look kept extras moment n gate was rows right half delta come their
 -- where the node in a place has this seat, or none
 module _ (old mid new : Fans) (place : ℕ) (list : mid.list ≡ old.list) (seats_mid : mid.seats ≡ old.seats) (seats : new.seats ≡ mid.seats) where
   pub with_seat : (Claim : Option Member → Option Member → Type 0) (n : NetNode) (look : Look) (goes comes : List Row) (half : Delta) (seat : Seat) → seat_at old.seats.items place ≡ Some seat → half ≡ half_at old seat
-      → ((was : Option Member) → IsOf n mid.list.items (Some seat) → IsHalf look goes comes was (member_of mid.list.items (Some seat)) half → Claim was (member_of new.list.items (Some seat)))
-      → (was : Option Member) → IsOf n old.list.items (seat_at old.seats.items place) → IsHalf look goes comes was (member_at old place) (half_of old (seat_at old.seats.items place)) → Claim was (member_at new place)
+      → ((was : Option Member) → IsOfSeat n mid.list.items (Some seat) → IsHalf look goes comes was (member_of mid.list.items (Some seat)) half → Claim was (member_of new.list.items (Some seat)))
+      → (was : Option Member) → IsOfSeat n old.list.items (seat_at old.seats.items place) → IsHalf look goes comes was (member_at old place) (half_of old (seat_at old.seats.items place)) → Claim was (member_at new place)
   with_seat Claim n look goes comes half seat at half_is step was of halved =
       let at_now : seat_at new.seats.items place ≡ Some seat = ap (λ l. seat_at l.items place) (seats ∙ seats_mid) ∙ at in
-      let of_seat : IsOf n old.list.items (Some seat) = subst (IsOf n old.list.items) at of in
-      let of_mid : IsOf n mid.list.items (Some seat) = subst (λ l. IsOf n l.items (Some seat)) (sym list) of_seat in
+      let of_seat : IsOfSeat n old.list.items (Some seat) = subst (IsOfSeat n old.list.items) at of in
+      let of_mid : IsOfSeat n mid.list.items (Some seat) = subst (λ l. IsOfSeat n l.items (Some seat)) (sym list) of_seat in
       let halved_seat : IsHalf look goes comes was (member_of old.list.items (Some seat)) (half_at old seat) = subst (λ (o : Option Seat). IsHalf look goes comes was (member_of old.list.items o) (half_of old o)) at halved in
       let halved_mid : IsHalf look goes comes was (member_of mid.list.items (Some seat)) (half_at old seat) = subst (λ l. IsHalf look goes comes was (member_of l.items (Some seat)) (half_at old seat)) (sym list) halved_seat in
       subst (λ (o : Option Seat). Claim was (member_of new.list.items o)) (sym at_now) (step was of_mid (subst (IsHalf look goes comes was (member_of mid.list.items (Some seat))) (sym half_is) halved_mid))

@@ -1,11 +1,10 @@
 -- A step in which nothing reaches a node: it stays as it is, and nothing changes in the rows of its condition.
-use Rattle.rete_net.proofs.Common.{◌≡◌, sym, refl, subst, ℤ, ◌&&◌, not, Bool, true, false, List, Option, fun_ext, Fact, Delta, Named, Row, IsDifference, changes_nothing, Pattern, Program, pattern_of, Snapshot, Look, cleaned, line, candidates_of, GateStands, Moves, nothing_differs, PatternGate, condition_of, node_moves, Stays, TellsNothing, NetNode, no_change, NodeStep, Moment}
+use Rattle.rete_net.proofs.Common.{◌≡◌, sym, refl, subst, ℤ, Bool, true, List, Option, fun_ext, Fact, Delta, Named, Row, IsDifference, changes_nothing, Pattern}
+use Rattle.rete_net.proofs.Common.{Program, pattern_of, Snapshot, Look, cleaned, line, candidates_of, GateStands, MovesSnapshot, nothing_differs, PatternGate}
+use Rattle.rete_net.proofs.Common.{condition_of, node_moves, Stays, TellsNothing, NetNode, no_change, NodeStep, Moment}
 use Rattle.std.specs.List.Sorted.{IsStrictlySortedBy}
 use Rattle.rete_net.proofs.Turning.{node_step}
-
-unmoved : (b : Bool) → false ≡ (b && not b)
-unmoved true = refl
-unmoved false = refl
+use Rattle.fx_base.proofs.Tests.{and_not_self}
 
 -- nothing changes in a set that stays
 pub no_difference : (rows : Row → Bool) → IsDifference rows rows no_change
@@ -13,13 +12,13 @@ unfolding IsStrictlySortedBy
 no_difference rows = record {
   gone_in_order = tt;
   come_in_order = tt;
-  leads = record { goes = λ row. unmoved (rows row); comes = λ row. unmoved (rows row) };
+  leads = record { goes = λ row. and_not_self (rows row); comes = λ row. and_not_self (rows row) };
 }
 
 -- the gate of a pattern stays as it is, and with it the candidates
 pub record GateStays (p : Program) (q : Pattern) (gate : PatternGate) (gone : List Fact) (come : Option Fact) (clock : ℤ) : Type 0 where
-  pub stands : (s next : Snapshot) → GateStands p q gate s → Moves p s next gone come → next.clock ≡ clock → GateStands p q gate next
-  pub candidates : (s next : Snapshot) → GateStands p q gate s → Moves p s next gone come → next.clock ≡ clock → (who : Named) → candidates_of p q next who ≡ candidates_of p q s who
+  pub stands : (s next : Snapshot) → GateStands p q gate s → MovesSnapshot p s next gone come → next.clock ≡ clock → GateStands p q gate next
+  pub candidates : (s next : Snapshot) → GateStands p q gate s → MovesSnapshot p s next gone come → next.clock ≡ clock → (who : Named) → candidates_of p q next who ≡ candidates_of p q s who
 
 -- where the node of a condition stays as it is too, so does the whole
 pub skipped : (p : Program) (look : Look) (gone : List Fact) (come : Option Fact) (moment : Moment) (n : NetNode) (left : Delta) → GateStays p (pattern_of (condition_of n.node)) n.gate gone come moment.clock

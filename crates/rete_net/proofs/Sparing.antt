@@ -1,13 +1,15 @@
 -- A node whose rows and candidates name no old fact forgets without a change.
-use Rattle.rete_net.proofs.Common.{◌≡◌, ◌∙◌, sym, ap, refl, ℤ, ◌==◌, ◌&&◌, ◌||◌, not, Bool, true, false, [], Option, Some, None, fun_ext, Decides-eqb, Named, Row, InOrder, Condition, Plain, Negated, Existing, Folded, Pattern, Program, is_candidate, is_present, is_inside, pattern_of, Snapshot, tests_hold, name_of, unbound, both_of, of_filter, passed, Look, joins, Memories, clean, cleaned, either, remembered, StandsFor, joined, unvalued, splits_value, from_unvalued, joined_clean, gives, is_ripe, line, held, candidates_of, has_partner, held_fact, candidate_of, Node, counts_blockers, counts_witnesses, gathers, condition_of, Counts, NodeStands, NetNode, HasNoOld, IsForgetting, NodeForgets, HaveDistinctTags, HasAllOf}
+use Rattle.rete_net.proofs.Common.{◌≡◌, ◌∙◌, sym, ap, refl, ℤ, ◌==◌, ◌&&◌, ◌||◌, not, Bool, true, false, [], Option, Some, None, fun_ext, Decides-eqb, Named}
+use Rattle.rete_net.proofs.Common.{Row, InOrder, Condition, Plain, Negated, Existing, Folded, Pattern, Program, is_candidate, is_present, is_inside, pattern_of}
+use Rattle.rete_net.proofs.Common.{Snapshot, tests_hold, name_of, unbound, of_filter, passed, Look, joins, Memories, clean, cleaned, either, remembered}
+use Rattle.rete_net.proofs.Common.{StandsFor, joined, unvalued, splits_value, from_unvalued, joined_clean, gives, is_ripe, line, held, candidates_of}
+use Rattle.rete_net.proofs.Common.{has_partner, held_fact, candidate_of, Node, counts_blockers, counts_witnesses, gathers, condition_of, CountsPartners}
+use Rattle.rete_net.proofs.Common.{NodeStands, NetNode, HasNoOld, IsForgetting, NodeForgets, HaveDistinctTags, HasAllOf}
+use Rattle.std.proofs.lemmas.Bool.{and_parts, false_from_ne_true}
 use Rattle.std.specs.List.Sorted.{IsStrictlySortedBy}
 use Rattle.pair_memory.specs.Valued.{valued}
 use Rattle.condition_node.specs.declared.node.Node.TheVariants as node
 use Rattle.rete_net.proofs.Cleaning.{cleaned_either}
-
-not_true : (b : Bool) → (b ≡ true → ⊥) → b ≡ false
-not_true true h = absurd (h refl)
-not_true false h = refl
 
 kept_whole : (a k : Bool) → false ≡ (a && not k) → (a && k) ≡ a
 kept_whole true true e = refl
@@ -38,13 +40,13 @@ more_forgotten false f o h = refl
 
 pub none_old : (p : Program) (look : Look) (s : Snapshot) (forgotten old : Named → Bool) (n : NetNode) → HasNoOld look old n → HaveDistinctTags s.facts → HasAllOf look s forgotten
     → (who : Named) → candidates_of p (pattern_of (condition_of n.node)) s who ≡ true → forgotten who ≡ false → old who ≡ false
-none_old p look s forgotten old n none tags at_hand who candidate known = not_true (old who) (λ e.
+none_old p look s forgotten old n none tags at_hand who candidate known = false_from_ne_true (old who) (λ e.
     let q = pattern_of (condition_of n.node) in
     let r = candidate_of p s tags q who candidate in
     let there = of_filter (is_candidate p q s) r.0 s.facts r.1 in
-    let fits = (both_of (is_present p s.clock r.0 && (r.0.ty.0 == q.ty.0 && (r.0.entry.0 == q.entry.0 && tests_hold unbound r.0 q.alone))) (is_inside p q q.window s.clock s.facts r.0) (passed (is_candidate p q s) r.0 s.facts r.1)).0 in
-    let meant = (both_of (is_present p s.clock r.0) (r.0.ty.0 == q.ty.0 && (r.0.entry.0 == q.entry.0 && tests_hold unbound r.0 q.alone)) fits).1 in
-    let typed = (Decides-eqb r.0.ty.0 q.ty.0).0 (both_of (r.0.ty.0 == q.ty.0) (r.0.entry.0 == q.entry.0 && tests_hold unbound r.0 q.alone) meant).0 in
+    let fits = (and_parts (is_present p s.clock r.0 && (r.0.ty.0 == q.ty.0 && (r.0.entry.0 == q.entry.0 && tests_hold unbound r.0 q.alone))) (is_inside p q q.window s.clock s.facts r.0) (passed (is_candidate p q s) r.0 s.facts r.1)).0 in
+    let meant = (and_parts (is_present p s.clock r.0) (r.0.ty.0 == q.ty.0 && (r.0.entry.0 == q.entry.0 && tests_hold unbound r.0 q.alone)) fits).1 in
+    let typed = (Decides-eqb r.0.ty.0 q.ty.0).0 (and_parts (r.0.ty.0 == q.ty.0) (r.0.entry.0 == q.entry.0 && tests_hold unbound r.0 q.alone) meant).0 in
     none (name_of r.0) r.0 (ap old r.2 ∙ e) (at_hand r.0.tag r.0 (held_fact s tags r.0 there) (ap forgotten r.2 ∙ known)) (sym typed))
 
 -- ---- what is left of rows and candidates is the same
@@ -72,7 +74,7 @@ module _ (p : Program) (look : Look) (s : Snapshot) (rows : Row → Bool) (forgo
     agrees = stands.agrees;
   }
 
-  counted : {T : Type 0} (holds : T → Look → (Named → Bool) → Type 0) (m : Memories T) (other : Look) → m.pattern ≡ pattern_of c → Counts holds p m other s rows forgotten → Counts holds p m other s rows (either forgotten old)
+  counted : {T : Type 0} (holds : T → Look → (Named → Bool) → Type 0) (m : Memories T) (other : Look) → m.pattern ≡ pattern_of c → CountsPartners holds p m other s rows forgotten → CountsPartners holds p m other s rows (either forgotten old)
   counted holds m other at stands = record { stands = memories_stand m other m.pattern at stands.stands; counts = stands.counts }
 
   node_stands : (m : Node) → condition_of m ≡ c → (other : Look) → NodeStands p m other s rows forgotten → NodeStands p m other s rows (either forgotten old)

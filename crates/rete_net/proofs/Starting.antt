@@ -1,5 +1,13 @@
 -- The first step of a network, over no facts: the empty row comes.
-use Rattle.rete_net.proofs.Common.{◌≡◌, ◌∙◌, sym, ap, refl, subst, inl, inr, ℕ, ℤ, pos, ◌≤ℤ◌, ◌<◌, arith, ◌&&◌, not, Bool, true, false, List, [], ◌∷◌, ◌++◌, length, take, get_or, Option, Some, None, slice_get, fun_ext, In, ≤ℤ_refl, get_or-take, length-take, slice_get_within, get_or_from_slice_get, slice_get-get_or, Named, Row, has, Leads, Condition, Plain, Negated, Existing, Folded, Pattern, Program, Rule, rows, Snapshot, floor, both_of, Look, joins, splits, unjoined, clean, cleaned, no_rows, no_names, splits_value, unvalued, rows_of, empty_row, line, gives, empty_snapshot, HasAllOf, has_in, rows_named, IsOrderly, condition_of, IsRunnable, AreFans, shown_nodes, RuleChange, Rete, NetNode, IsIndexOf, NodesStand, NetStands, AreBetween, CountsNone, AreOwners, AreOwnedSoFar, AreQuiet, AreScheduled, before, EndsAt, IsFront, IsNetOf, StandOnce, empty_row_comes, NetStep, IsParent, AreBuilt, HaveEnds, AreFronts, AreDistinct, IsAt, Moment}
+use Rattle.rete_net.proofs.Common.{◌≡◌, ◌∙◌, sym, ap, refl, subst, inl, inr, ℕ, ℤ, pos, ◌≤ℤ◌, ◌<◌, arith, ◌&&◌, not, Bool, true, false, List, [], ◌∷◌, ◌++◌}
+use Rattle.rete_net.proofs.Common.{length, take, get_or, Option, Some, None, slice_get, fun_ext, In, ≤ℤ_refl, get_or-take, length-take, slice_get_within}
+use Rattle.rete_net.proofs.Common.{get_or_from_slice_get, slice_get-get_or, Named, Row, has, LeadsRows, Condition, Plain, Negated, Existing, Folded, Pattern}
+use Rattle.rete_net.proofs.Common.{Program, Rule, rows, Snapshot, floor, Look, joins, splits, unjoined, clean, cleaned, no_rows, no_names, splits_value}
+use Rattle.rete_net.proofs.Common.{unvalued, rows_of, empty_row, line, gives, empty_snapshot, HasAllOf, has_in, rows_named, IsOrderly, condition_of, IsRunnable}
+use Rattle.rete_net.proofs.Common.{AreFans, shown_nodes, RuleChange, Rete, NetNode, IsIndexOf, NodesStand, NetStands, AreBetween, CountsNone, AreNodeOwners}
+use Rattle.rete_net.proofs.Common.{AreOwnedSoFar, AreQuiet, AreScheduled, before, EndsRule, IsRuleFront, IsNetOf, StandOnce, empty_row_comes, NetStep}
+use Rattle.rete_net.proofs.Common.{IsParentNode, AreBuilt, HaveEnds, AreFronts, AreDistinctFronts, IsAt, Moment}
+use Rattle.std.proofs.lemmas.Bool.{and_parts}
 use Rattle.std.specs.List.Sorted.{IsStrictlySortedBy}
 use Rattle.pair_memory.specs.Joined.{joined}
 use Rattle.pair_memory.specs.Valued.{valued}
@@ -9,8 +17,8 @@ use Rattle.rete_net.proofs.Answering.{few_ends}
 use Rattle.rete_net.proofs.Beside.{stay_of}
 use Rattle.rete_net.proofs.Chaining.{AreMade, IsGiven, AreStanding, StaysBeside}
 use Rattle.rete_net.proofs.Cleaning.{all_clean}
-use Rattle.rete_net.proofs.Growing.{has_at}
 use Rattle.rete_net.proofs.Quieting.{seen_now}
+use Rattle.fx_base.proofs.Sequences.{get-below}
 
 -- ---- conditions make nothing of no rows
 
@@ -48,12 +56,9 @@ none_held : (forgotten : Named → Bool) → HasAllOf no_facts empty_snapshot fo
 unfolding held
 none_held forgotten tag f e n = e
 
-standstill : (n : ℤ) → n ≤ℤ n
-standstill n = ≤ℤ_refl n
-
 abbrev starts : (p : Program) (moment : Moment) → IsAt empty_snapshot moment → (forgotten : Named → Bool) → IsGiven p no_facts empty_snapshot empty_snapshot [] None moment forgotten
 starts p moment is_at forgotten = record {
-  moves = record { before = kept p; after = kept p; clock = standstill (pos 0); floors = λ entry. standstill (floor p empty_snapshot entry); held = λ f i. absurd i; once = tt; facts = refl };
+  moves = record { before = kept p; after = kept p; clock = ≤ℤ_refl (pos 0); floors = λ entry. ≤ℤ_refl (floor p empty_snapshot entry); held = λ f i. absurd i; once = tt; facts = refl };
   is_at = is_at;
   at_hand = none_held forgotten;
   at_hand_now = none_held forgotten;
@@ -70,7 +75,7 @@ names_nothing : (forgotten : Named → Bool) (row : Row) → In row (empty_row �
 names_nothing forgotten row (inl e) = ap (clean forgotten) e
 names_nothing forgotten row (inr i) = absurd i
 
-first_comes : (p : Program) (forgotten : Named → Bool) → Leads (cleaned no_rows forgotten) (cleaned (rows_of p empty_snapshot []) forgotten) empty_row_comes.gone empty_row_comes.come
+first_comes : (p : Program) (forgotten : Named → Bool) → LeadsRows (cleaned no_rows forgotten) (cleaned (rows_of p empty_snapshot []) forgotten) empty_row_comes.gone empty_row_comes.come
 first_comes p forgotten = record {
   goes = λ row. refl;
   comes = λ row.
@@ -95,14 +100,14 @@ beside p forgotten c behind = record {
   same = λ who e. refl;
   stay = λ left leads.
       stay_of p no_facts empty_snapshot empty_snapshot no_rows (rows_of p empty_snapshot behind) forgotten left c (none_held no_names) (rows_named p empty_snapshot tt behind)
-      (λ row e. (both_of (rows_of p empty_snapshot behind row) (clean forgotten row) (both_of (cleaned (rows_of p empty_snapshot behind) forgotten row) (not (cleaned no_rows forgotten row)) (sym (leads.comes row) ∙ e)).0).0)
+      (λ row e. (and_parts (rows_of p empty_snapshot behind row) (clean forgotten row) (and_parts (cleaned (rows_of p empty_snapshot behind) forgotten row) (not (cleaned no_rows forgotten row)) (sym (leads.comes row) ∙ e)).0).0)
       (λ who e. refl) (λ row e. counts_none p forgotten c row);
 }
 
 -- ---- what was built
 
 module _ (p : Program) (net : Rete) (all : List (List Condition)) (built : AreBuilt p (shown_nodes net) all)
-    (ends : HaveEnds all net.ends.items p.rules (length p.rules)) (fronts_are : AreFronts p all) (distinct : AreDistinct all) (count : length net.ends.items ≡ length p.rules) where
+    (ends : HaveEnds all net.ends.items p.rules (length p.rules)) (fronts_are : AreFronts p all) (distinct : AreDistinctFronts all) (count : length net.ends.items ≡ length p.rules) where
   abbrev conditions : ℕ → List Condition
   conditions k = get_or all k []
 
@@ -112,9 +117,9 @@ module _ (p : Program) (net : Rete) (all : List (List Condition)) (built : AreBu
   earlier : (k parent : ℕ) (n : NetNode) → slice_get (shown_nodes net) k ≡ Some n → n.parent ≡ Some parent → parent < k
   earlier k parent n e at =
       let is = built.behind k n e in
-      within k parent is.before (subst (λ (o : Option ℕ). IsParent (take k all) o is.before) at is.parent)
+      within k parent is.before (subst (λ (o : Option ℕ). IsParentNode (take k all) o is.before) at is.parent)
 
-  before_is : (k : ℕ) (cs : List Condition) (o : Option ℕ) → IsParent (take k all) o cs → before conditions o ≡ cs
+  before_is : (k : ℕ) (cs : List Condition) (o : Option ℕ) → IsParentNode (take k all) o cs → before conditions o ≡ cs
   before_is k cs None is = sym is
   before_is k cs (Some parent) is =
       let lt = within k parent cs is in
@@ -128,22 +133,22 @@ module _ (p : Program) (net : Rete) (all : List (List Condition)) (built : AreBu
   standing : (forgotten : Named → Bool) → AreStanding p empty_snapshot nothing forgotten (shown_nodes net) conditions
   standing forgotten = record { shaped = record { parents = earlier; own = own }; windows = built.windows; stand = λ k n e. built.fresh k n e forgotten }
 
-  end_at : (place : ℕ) (rule : Rule) → slice_get p.rules place ≡ Some rule → EndsAt (shown_nodes net) conditions net.ends.items place rule
+  end_at : (place : ℕ) (rule : Rule) → slice_get p.rules place ≡ Some rule → EndsRule (shown_nodes net) conditions net.ends.items place rule
   end_at place rule e =
       let r = ends place rule (slice_get_within p.rules place rule e) e in
       let inside : r.0 < length all = slice_get_within all r.0 rule.conditions r.2 in
       let many = built.length in
-      there r.0 r.1 r.2 (has_at (shown_nodes net) r.0 (omega arith))
+      there r.0 r.1 r.2 (get-below (shown_nodes net) r.0 (omega arith))
     where
       there : (last : ℕ) → slice_get net.ends.items place ≡ Some last → slice_get all last ≡ Some rule.conditions
-          → (n : NetNode) × (slice_get (shown_nodes net) last ≡ Some n) → EndsAt (shown_nodes net) conditions net.ends.items place rule
+          → (n : NetNode) × (slice_get (shown_nodes net) last ≡ Some n) → EndsRule (shown_nodes net) conditions net.ends.items place rule
       there last found has n = record { last = last; node = n.0; found = found; there = n.1; all = get_or_from_slice_get all last rule.conditions [] has }
 
   -- the conditions of a node are those that it was built for
   listed : (k : ℕ) → k < length (shown_nodes net) → slice_get all k ≡ Some (conditions k)
   listed k h = let many = built.length in slice_get-get_or all k [] (omega arith)
 
-  fronts : (k : ℕ) (n : NetNode) → slice_get (shown_nodes net) k ≡ Some n → IsFront p (conditions k)
+  fronts : (k : ℕ) (n : NetNode) → slice_get (shown_nodes net) k ≡ Some n → IsRuleFront p (conditions k)
   fronts k n e = fronts_are k (conditions k) (listed k (slice_get_within (shown_nodes net) k n e))
 
   -- the conditions of two nodes are not the same
@@ -156,7 +161,7 @@ module _ (p : Program) (net : Rete) (all : List (List Condition)) (built : AreBu
   pub built_shape : IsNetOf p (shown_nodes net) net.ends.items
   built_shape = shape
 
-  pub built_owned : (rules : ℕ) → AreOwnedSoFar p all net.owners.items rules [] 0 → AreOwners p conditions (length (shown_nodes net)) net.owners.items
+  pub built_owned : (rules : ℕ) → AreOwnedSoFar p all net.owners.items rules [] 0 → AreNodeOwners p conditions (length (shown_nodes net)) net.owners.items
   built_owned rules so = record {
     count = so.count ∙ sym built.length;
     each = λ k o e.
@@ -167,14 +172,14 @@ module _ (p : Program) (net : Rete) (all : List (List Condition)) (built : AreBu
     rising = so.rising;
   }
 
-  pub shape_owned : (rules : ℕ) → AreOwnedSoFar p all net.owners.items rules [] 0 → AreOwners p built_shape.conditions (length (shown_nodes net)) net.owners.items
+  pub shape_owned : (rules : ℕ) → AreOwnedSoFar p all net.owners.items rules [] 0 → AreNodeOwners p built_shape.conditions (length (shown_nodes net)) net.owners.items
   unfolding built_shape
   shape_owned rules so = built_owned rules so
 
   module _ (moment : Moment) (is_at : IsAt empty_snapshot moment) (new : Rete) (answers : List RuleChange) (same : new.ends.items ≡ net.ends.items)
       (step : NetStep p no_facts [] None moment empty_row_comes (shown_nodes net) (shown_nodes new) net.ends.items answers) where
     nodes_now : IsIndexOf (shown_nodes new) new.ends.items new.index → AreScheduled p new.nodes.items new.schedule → AreFans new.nodes.items new.fans
-        → AreOwners p conditions (length (shown_nodes new)) new.owners.items → (forgotten : Named → Bool) → NodesStand p new empty_snapshot forgotten
+        → AreNodeOwners p conditions (length (shown_nodes new)) new.owners.items → (forgotten : Named → Bool) → NodesStand p new empty_snapshot forgotten
     nodes_now indexed scheduled fans owned forgotten =
         stands_now p no_facts empty_snapshot empty_snapshot [] None moment forgotten empty_row_comes nothing (λ rule. []) net new shape answers (starts p moment is_at forgotten) (nothing_made p empty_snapshot) (first_comes p forgotten)
         (standing forgotten) (λ k n e. beside p forgotten (condition_of n.node) (before conditions n.parent)) same step (λ place rule e. refl) indexed scheduled fans owned
@@ -185,9 +190,9 @@ module _ (p : Program) (net : Rete) (all : List (List Condition)) (built : AreBu
         (standing no_names) (λ k n e. beside p no_names (condition_of n.node) (before conditions n.parent)) same step (λ place rule e. refl)
 
     pub built_stands : AreQuiet p (shown_nodes new) new.quiet_until → IsIndexOf (shown_nodes new) new.ends.items new.index → AreScheduled p new.nodes.items new.schedule → AreFans new.nodes.items new.fans
-        → AreOwners p conditions (length (shown_nodes new)) new.owners.items → (forgotten : Named → Bool) → NetStands p new empty_snapshot forgotten
+        → AreNodeOwners p conditions (length (shown_nodes new)) new.owners.items → (forgotten : Named → Bool) → NetStands p new empty_snapshot forgotten
     built_stands quiet indexed scheduled fans owned forgotten =
-        seen_now p new empty_snapshot forgotten (nodes_now indexed scheduled fans owned forgotten) (kept p) (standstill (pos 0)) quiet
+        seen_now p new empty_snapshot forgotten (nodes_now indexed scheduled fans owned forgotten) (kept p) (≤ℤ_refl (pos 0)) quiet
 
     pub built_between : IsRunnable p → AreBetween p (λ rule. []) (λ rule. rows p empty_snapshot rule.conditions) answers
     built_between runnable =

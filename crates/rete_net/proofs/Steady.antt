@@ -1,5 +1,9 @@
 -- The walk over the nodes of a network, by the steps of nodes.
-use Rattle.rete_net.proofs.Common.{◌≡◌, refl, [], ◌∷◌, ◌+◌, ◌<◌, ◌≤◌, ℕ, true, false, List, Option, None, Some, length, slice_get, set, Fact, Delta, Program, Moment, Look, Index, NetNode, Answered, left_given, some_answer, IsPut, Fans, Seat, half_at, half_of, member_at, seat_at, showing, with_fans, AreFans, AreRowsTurned, IsHalf, IsLaidAs, IsLeft, IsOf, Member, IsFound, IsLeftAlone, has_place, changes_nothing, Row, no_change, left_delta, NodeStep, HasAnswered, IsReplaced, IsWired, condition_of, are_none, AreWoken}
+use Rattle.rete_net.proofs.Common.{◌≡◌, refl, [], ◌∷◌, ◌+◌, ◌<◌, ◌≤◌, ℕ, true, false, List, Option, None, Some, length, slice_get, set, Fact, Delta, Program}
+use Rattle.rete_net.proofs.Common.{Moment, Look, Index, NetNode, Answered, left_given, some_answer, IsAnswerPut, Fans, Seat, half_at, half_of, member_at}
+use Rattle.rete_net.proofs.Common.{seat_at, showing, with_fans, AreFans, AreFanRowsTurned, IsHalf, IsLaidAs, IsLeft, IsOfSeat, Member, IsNodeFound, IsLeftAlone}
+use Rattle.rete_net.proofs.Common.{has_place, changes_nothing, Row, no_change, left_delta, NodeStep, HasAnswered, IsReplaced, IsWired, condition_of, are_none}
+use Rattle.rete_net.proofs.Common.{AreWoken}
 use Rattle.rete_net.proofs.Idle.{idle_steps}
 use Rattle.rete_net.proofs.Lone.{alone_stays}
 use Rattle.rete_net.proofs.Showing.{alone_shown}
@@ -36,7 +40,7 @@ module _ (p : Program) (look : Look) (gone : List Fact) (come : Option Fact) (mo
 
   pub set_off : (now : Fans) (due : List ℕ) (a : Answered Delta) → AreFans before fans → now.seats ≡ fans.seats → now.spans ≡ fans.spans → now.lone ≡ fans.lone → now.list ≡ fans.list → ((seat : Seat) → half_at now seat ≡ no_change)
       → a.none ≡ no_change → ((k : ℕ) → some_answer a k ≡ None)
-      → ((k : ℕ) (n : NetNode) → slice_get before k ≡ Some n → IsFound index k n → has_place due k ≡ false → Alone n) → IsUnderWay before now due a 0
+      → ((k : ℕ) (n : NetNode) → slice_get before k ≡ Some n → IsNodeFound index k n → has_place due k ≡ false → Alone n) → IsUnderWay before now due a 0
   set_off =
       fanwise.set_off (NodeStep p look gone come moment) (left_delta first) first no_change first Alone look goes comes refl refl before fans ends index wired (λ deltas. refl) (λ deltas q. refl) begun stays
       (λ n was list seat left. idle_steps p look gone come moment first n was list seat left)
@@ -46,10 +50,10 @@ module _ (p : Program) (look : Look) (gone : List Fact) (come : Option Fact) (mo
         → (n new : NetNode) → slice_get nodes place ≡ Some n → new.parent ≡ n.parent → condition_of new.node ≡ condition_of n.node → IsReplaced nodes (set nodes place new)
         → (mid : Fans) → IsLaidAs now mid → ((seat : Seat) → (seat_at now.seats.items place ≡ Some seat → ⊥) → IsLeft now mid seat)
         → (left delta : Delta) → left ≡ left_given first a n.parent
-        → ((was : Option Member) → IsOf n now.list.items (seat_at now.seats.items place) → IsHalf look left.gone left.come was (member_at now place) (half_of now (seat_at now.seats.items place))
+        → ((was : Option Member) → IsOfSeat n now.list.items (seat_at now.seats.items place) → IsHalf look left.gone left.come was (member_at now place) (half_of now (seat_at now.seats.items place))
         → NodeStep p look gone come moment (showing was n) (showing (member_at mid place) new) left delta)
-        → (then : Fans) → IsLaidAs mid then → ((ns : List NetNode) → AreFans ns mid → AreRowsTurned look place delta.gone delta.come mid then)
-        → (b : Answered Delta) → (a.none ≡ no_change → IsPut index place delta a b) → (are_none delta.gone delta.come ≡ true → b ≡ a)
+        → (then : Fans) → IsLaidAs mid then → ((ns : List NetNode) → AreFans ns mid → AreFanRowsTurned look place delta.gone delta.come mid then)
+        → (b : Answered Delta) → (a.none ≡ no_change → IsAnswerPut index place delta a b) → (are_none delta.gone delta.come ≡ true → b ≡ a)
         → (due_now : List ℕ) → ((ns : List NetNode) → AreFans ns mid → AreWoken place delta.gone delta.come mid then due due_now)
         → IsUnderWay (set nodes place new) then due_now b (place + 1)
     step_at =

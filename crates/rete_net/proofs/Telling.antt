@@ -1,7 +1,9 @@
 -- The changes of rules, rule by rule; those that are passed over have none.
-use Rattle.rete_net.proofs.Common.{◌≡◌, ◌∙◌, sym, ap, subst, ℕ, zero, suc, ◌+◌, ◌-◌, ◌<◌, ◌≤◌, Bool, true, false, cond, List, [], ◌∷◌, ◌++◌, drop, length, arith, append-nil, None, Some, slice_get, ◌⊎◌, inl, inr, In, Delta, changes_nothing, RuleChange, Answered, given, answer_in, AreRuled, has_place, no_change, change_at, changes_from, delta_at, drop_of_length-le}
+use Rattle.rete_net.proofs.Common.{◌≡◌, ◌∙◌, sym, ap, subst, ℕ, zero, suc, ◌+◌, ◌-◌, ◌<◌, ◌≤◌, Bool, true, false, cond, List, [], ◌∷◌, ◌++◌, drop, length}
+use Rattle.rete_net.proofs.Common.{arith, append-nil, None, Some, slice_get, inl, inr, In, Delta, changes_nothing, RuleChange, Answered, given, answer_in}
+use Rattle.rete_net.proofs.Common.{AreRuled, has_place, no_change, change_at, changes_from, delta_at, drop_of_length-le}
 use Rattle.std.proofs.Common.{append_assoc}
-use Rattle.rete_net.proofs.Growing.{has_at}
+use Rattle.fx_base.proofs.Sequences.{In-append, get-below}
 
 -- what is left from a place on begins with what stands there
 dropped : {A : Type 0} (xs : List A) (k : ℕ) (x : A) → slice_get xs k ≡ Some x → drop k xs ≡ x ∷ drop (suc k) xs
@@ -28,7 +30,7 @@ module _ (first : Delta) (deltas : List Delta) (ends : List ℕ) where
   module _ (a : Answered Delta) (none : a.none ≡ no_change) (ruled : AreRuled a ends) (known : (rule end : ℕ) → slice_get ends rule ≡ Some end → delta_at first deltas end ≡ answer_in a end) where
     pass_one : (place : ℕ) → place < length ends → has_place a.rules.keys place ≡ false → From place ≡ From (place + 1)
     pass_one place lt out =
-        let end = has_at ends place lt in
+        let end = get-below ends place lt in
         let nothing : delta_at first deltas end.0 ≡ no_change = known place end.0 end.1 ∙ ap (given a.none) (ruled place end.0 end.1 out) ∙ none in
         from_next place end.0 end.1 ∙ ap (λ d. change_at place d ++ From (place + 1)) nothing
 
@@ -47,14 +49,6 @@ module _ (first : Delta) (deltas : List Delta) (ends : List ℕ) where
   pub past_end : (place : ℕ) → length ends ≤ place → From place ≡ []
   past_end place h = ap (changes_from first deltas place) (drop_of_length-le ends h)
 
-pub in_append : {A : Type 0} (x : A) (xs ys : List A) → In x (xs ++ ys) → In x xs ⊎ In x ys
-in_append x [] ys i = inr i
-in_append x (y ∷ xs) ys (inl e) = inl (inl e)
-in_append x (y ∷ xs) ys (inr i) = elim (in_append x xs ys i) [
-  | inl left ↦ inl (inr left)
-  | inr right ↦ inr right
-]
-
 -- a change more is of a rule that is there
 pub one_within : (changes now : List RuleChange) (place rules : ℕ) (delta : Delta) → now ≡ changes ++ change_at place delta → place < rules → ((c : RuleChange) → In c changes → c.rule.0 < rules)
     → (c : RuleChange) → In c now → c.rule.0 < rules
@@ -66,7 +60,7 @@ one_within changes now place rules delta is lt within c i = by (changes_nothing 
 
     by : (t : Bool) → In c (changes ++ cond t [] (record { rule = record { 0 = place }; delta = delta } ∷ [])) → c.rule.0 < rules
     by true j = within c (subst (In c) (append-nil changes) j)
-    by false j = elim (in_append c changes (record { rule = record { 0 = place }; delta = delta } ∷ []) j) [
+    by false j = elim (In-append c changes (record { rule = record { 0 = place }; delta = delta } ∷ []) j) [
       | inl was ↦ within c was
       | inr last ↦ here last
     ]

@@ -1,5 +1,9 @@
 -- A step of a node and its gate, out of what each of them answers.
-use Rattle.rete_net.proofs.Common.{◌≡◌, ◌∙◌, sym, ap, refl, subst, inl, inr, ℕ, ℤ, ◌&&◌, not, Bool, true, false, List, [], ◌∷◌, map, Option, Less, nat_cmp_total, eq_by_cmp_equiv, AllByRecursion, nat_cmp, is_eq, In, Fact, Tag, Delta, Named, Row, IsDifference, Condition, Pattern, Program, HaveDistinctTags, pattern_of, Snapshot, Look, IsNameDifference, cleaned, remembered, held, candidates_of, line, HasAllOf, NameHeld, GateStands, has_good_window, Moves, Node, condition_of, NodeStands, IsTurn, NetNode, IsNodeTurn, NodeStep, Moment, IsAt}
+use Rattle.rete_net.proofs.Common.{◌≡◌, ◌∙◌, sym, ap, refl, subst, inl, inr, ℕ, ℤ, ◌&&◌, not, Bool, true, false, List, [], ◌∷◌, map, Option, Less}
+use Rattle.rete_net.proofs.Common.{nat_cmp_total, eq_by_cmp_equiv, AllByRecursion, nat_cmp, is_eq, In, Fact, Tag, Delta, Named, Row, IsDifference, Condition}
+use Rattle.rete_net.proofs.Common.{Pattern, Program, HaveDistinctTags, pattern_of, Snapshot, Look, IsNameDifference, cleaned, remembered, held, candidates_of}
+use Rattle.rete_net.proofs.Common.{line, HasAllOf, NameHeld, GateStands, has_good_window, MovesSnapshot, Node, condition_of, NodeStands, IsConditionTurn}
+use Rattle.rete_net.proofs.Common.{NetNode, IsNodeTurn, NodeStep, Moment, IsAt}
 use Rattle.std.specs.List.Sorted.{IsStrictlySortedBy}
 
 -- ---- tags in order are distinct
@@ -24,10 +28,6 @@ rising [] rise = tt
 rising (f ∷ facts) rise = (below f.tag facts rise.0, rising facts rise.1)
 
 -- ---- what is remembered
-
-pub and_true : (b : Bool) → (b && true) ≡ b
-and_true true = refl
-and_true false = refl
 
 -- where what is forgotten is the same in both sets, they differ in what is remembered alone
 only_remembered : (a b f : Bool) → (f ≡ true → a ≡ b) → (a && not b) ≡ ((a && not f) && not (b && not f))
@@ -60,7 +60,7 @@ module _ (p : Program) (look : Look) (gone : List Fact) (come : Option Fact) (mo
   meant = pattern_of (condition_of old.node)
 
   abbrev FromTo : Pattern → ℤ → (Snapshot → Snapshot → Type 0) → Type 0
-  FromTo q at claim = (s next : Snapshot) → has_good_window p q ≡ true → GateStands p q old.gate s → Moves p s next gone come → next.clock ≡ at → claim s next
+  FromTo q at claim = (s next : Snapshot) → has_good_window p q ≡ true → GateStands p q old.gate s → MovesSnapshot p s next gone come → next.clock ≡ at → claim s next
 
   -- what the gate answers of a pattern and a clock, and what the node answers
   abbrev GateStays : Pattern → ℤ → Type 0
@@ -71,7 +71,7 @@ module _ (p : Program) (look : Look) (gone : List Fact) (come : Option Fact) (mo
 
   abbrev Steps : (Snapshot → Snapshot → (Row → Bool) → (Row → Bool) → (Named → Bool) → Type 0) → Type 0
   Steps claim = (world : Look) (s next : Snapshot) (rows rows_now : Row → Bool) (forgotten : Named → Bool) → NodeStands p old.node look s rows forgotten → IsAt next moment
-      → IsTurn p (condition_of old.node) look world s next rows rows_now forgotten left right → claim s next rows rows_now forgotten
+      → IsConditionTurn p (condition_of old.node) look world s next rows rows_now forgotten left right → claim s next rows rows_now forgotten
 
   abbrev NodeStays : Type 0
   NodeStays = Steps (λ s next rows rows_now forgotten. NodeStands p new.node look next rows_now forgotten)
@@ -81,7 +81,7 @@ module _ (p : Program) (look : Look) (gone : List Fact) (come : Option Fact) (mo
 
   module _ (s next : Snapshot) (rows rows_now : Row → Bool) (forgotten : Named → Bool) (is : IsNodeTurn p look s next gone come (condition_of old.node) rows rows_now forgotten left)
       (names : IsNameDifference (candidates_of p meant s) (candidates_of p meant next) right) where
-    turn : IsTurn p (condition_of old.node) look is.world s next rows rows_now forgotten left right
+    turn : IsConditionTurn p (condition_of old.node) look is.world s next rows rows_now forgotten left right
     turn = record {
       tags = rising s.facts is.moves.before.in_order;
       tags_now = rising next.facts is.moves.after.in_order;

@@ -1,20 +1,7 @@
 -- One node after the others.
-use Rattle.rete_net.proofs.Common.{◌≡◌, ◌∙◌, sym, ap, refl, subst, ℕ, zero, suc, ◌+◌, ◌<◌, ◌^◌, List, [], ◌∷◌, length, arith, Option, Some, slice_get, ◌⊎◌, set, Fact, Delta, Program, Look, RuleChange, NetNode, Index, Answered, given, some_answer, answer_in, AreRuled, no_change, delta_at, changes_from, NetStep, HasAnswered, IsWired, Moment}
-
-pub set_other : {A : Type 0} (xs : List A) (i k : ℕ) (v : A) → (k ≡ i → ⊥) → slice_get (set xs i v) k ≡ slice_get xs k
-set_other [] i k v h = refl
-set_other (x ∷ xs) zero zero v h = absurd (h refl)
-set_other (x ∷ xs) zero (suc k) v h = refl
-set_other (x ∷ xs) (suc i) zero v h = refl
-set_other (x ∷ xs) (suc i) (suc k) v h = set_other xs i k v (λ e. h (ap suc e))
-
-pub set_same : {A : Type 0} (xs : List A) (i : ℕ) (v x : A) → slice_get xs i ≡ Some x → slice_get (set xs i v) i ≡ Some v
-set_same [] i v x e = cc
-set_same (y ∷ xs) zero v x e = refl
-set_same (y ∷ xs) (suc i) v x e = set_same xs i v x e
-
-pub below_or_at : (k i : ℕ) → k < i + 1 → (k < i) ⊎ (k ≡ i)
-below_or_at k i h = grind arith
+use Rattle.rete_net.proofs.Common.{◌≡◌, ◌∙◌, sym, ap, subst, ℕ, ◌<◌, ◌^◌, List, [], length, Option, Some, slice_get, Fact, Delta, Program, Look, RuleChange}
+use Rattle.rete_net.proofs.Common.{NetNode, Index, Answered, given, some_answer, answer_in, AreRuled, no_change, delta_at, changes_from, NetStep, HasAnswered}
+use Rattle.rete_net.proofs.Common.{IsWired, Moment}
 
 -- ---- the step of a network, out of that of its nodes
 

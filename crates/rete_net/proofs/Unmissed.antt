@@ -1,5 +1,16 @@
 -- A network stands for a snapshot without a fact that no rule misses.
-use Rattle.rete_net.proofs.Common.{◌≡◌, ◌∙◌, sym, ap, refl, subst, ℕ, ℤ, ◌==◌, ◌&&◌, ◌||◌, ◌-ℤ◌, not, Bool, true, false, List, map, take, length, Some, slice_get, arith, fun_ext, or-true, take_all, filter, IsStrictlySortedBy, is_some, nat_cmp, In, Fact, Named, Row, has, Condition, Negated, Existing, Folded, Pattern, WindowTag, Whole, Time, Length, Program, Rule, fits, is_candidate, is_inside, is_within, HaveDistinctTags, pattern_of, rows, is_length, Snapshot, name_of, is_event, both_of, of_filter, one_fact, in_filter, in_place, filter_swap, Look, joins, Memories, cleaned, StandsFor, counts_blockers, counts_witnesses, gathers, all_passing, StandsCounted, NameHeld, held, candidates_of, rows_of, candidate_named, candidate_of, rows_named, Kept, Keeps, KeepsTime, Stands, TagsDiffer, with_tag, window_kept, Arrival, has_tag, inside, named_of, differ_after, PatternGate, GateStands, arrival_of, arrivals, kind_of, IsOrderly, at_clock, filter_made, is_other, number, rising, inside_are, Node, condition_of, NodeStands, AsksOfSet, blockers_ask, witnesses_ask, gathers_ask, held_known, where_true, node_moves, shown_nodes, Rete, NetNode, less_fact, IsUnmissed, HaveSame, NodesStand, NetStands, clean_rows, NetNodeStands, before, IsFront, Holds}
+use Rattle.rete_net.proofs.Common.{◌≡◌, ◌∙◌, sym, ap, refl, subst, ℕ, ℤ, ◌==◌, ◌&&◌, ◌||◌, ◌-ℤ◌, not, Bool, true, false, List, map, take, length, Some}
+use Rattle.rete_net.proofs.Common.{slice_get, arith, fun_ext, or-true, take_all, filter, IsStrictlySortedBy, is_some, nat_cmp, In, Fact, Named, Row, has}
+use Rattle.rete_net.proofs.Common.{Condition, Negated, Existing, Folded, Pattern, WindowTag, Whole, Time, Length, Program, Rule, fits, is_candidate, is_inside}
+use Rattle.rete_net.proofs.Common.{is_within, HaveDistinctTags, pattern_of, rows, is_length, Snapshot, name_of, is_event, of_filter, one_fact, in_filter}
+use Rattle.rete_net.proofs.Common.{in_place, filter_swap, Look, joins, Memories, cleaned, StandsFor, counts_blockers, counts_witnesses, gathers, all_passing}
+use Rattle.rete_net.proofs.Common.{StandsCounted, NameHeld, held, candidates_of, rows_of, candidate_named, candidate_of, rows_named, Kept, KeepsWindow}
+use Rattle.rete_net.proofs.Common.{KeepsTime, StandsForArrivals, TagsDiffer, with_tag, window_kept, Arrival, has_tag, inside, named_of, differ_after}
+use Rattle.rete_net.proofs.Common.{PatternGate, GateStands, arrival_of, arrivals, window_kind_of, IsOrderly, at_clock, filter_made, is_other, number, rising}
+use Rattle.rete_net.proofs.Common.{inside_are, Node, condition_of, NodeStands, AsksOfSet, blockers_ask, witnesses_ask, gathers_ask, held_known, node_moves}
+use Rattle.rete_net.proofs.Common.{shown_nodes, Rete, NetNode, snapshot_without, IsUnmissed, HaveSameFronts, NodesStand, NetStands, clean_rows, NetNodeStands}
+use Rattle.rete_net.proofs.Common.{before, IsRuleFront, HoldsArrivals}
+use Rattle.std.proofs.lemmas.Bool.{and_parts, eqb-true}
 use Rattle.std.proofs.lemmas.List.Kept.{IsStrictlySortedBy-filter}
 use Rattle.rule_model.specs.Candidates.{is_present}
 use Rattle.rule_model.specs.Snapshots.{floor}
@@ -11,19 +22,21 @@ use Rattle.window_gate.specs.declared.time_window.TimeWindow.{TimeWindow}
 use Rattle.condition_node.specs.declared.node.Node.TheVariants as node
 use Rattle.rete_net.proofs.Beside.{at_end}
 use Rattle.rete_net.proofs.Cleaning.{has_clean}
-use Rattle.rete_net.proofs.Fewer.{IsApart, Unobserved, of_other, of_binding, one_number, tag_of, unobserved_of, same_left, no_fit, candidates_apart, candidate_other, held_still, less_known, candidates_less, remembered_same, joins_named, front_same}
+use Rattle.rete_net.proofs.Fewer.{IsApart, Unobserved, of_other, of_binding, tag_of, unobserved_of, same_left, no_fit, candidates_apart, candidate_other}
+use Rattle.rete_net.proofs.Fewer.{held_still, less_known, candidates_less, remembered_same, joins_named, front_same}
+use Rattle.fx_base.proofs.Tests.{and_where}
 
 -- ---- a snapshot without a fact
 
 module _ (s : Snapshot) (f : Fact) where
-  less_in_order : IsStrictlySortedBy nat_cmp (map number s.facts) → IsStrictlySortedBy nat_cmp (map number (less_fact s f).facts)
+  less_in_order : IsStrictlySortedBy nat_cmp (map number s.facts) → IsStrictlySortedBy nat_cmp (map number (snapshot_without s f).facts)
   less_in_order rise =
       subst (IsStrictlySortedBy nat_cmp) (filter_made (λ n. not (f.tag.0 == n)) number s.facts) (IsStrictlySortedBy-filter nat_cmp (λ n. not (f.tag.0 == n)) (map number s.facts) rise)
 
-  less_in : (g : Fact) → In g (less_fact s f).facts → In g s.facts
+  less_in : (g : Fact) → In g (snapshot_without s f).facts → In g s.facts
   less_in g i = of_filter (is_other f) g s.facts i
 
-  less_kept : (p : Program) → IsOrderly p s → IsOrderly p (less_fact s f)
+  less_kept : (p : Program) → IsOrderly p s → IsOrderly p (snapshot_without s f)
   less_kept p is = record {
     in_order = less_in_order is.in_order;
     present = λ g i. is.present g (less_in g i);
@@ -33,7 +46,7 @@ module _ (s : Snapshot) (f : Fact) where
 
 module _ (p : Program) (s : Snapshot) (f : Fact) (forgotten : Named → Bool) (kept_s : IsOrderly p s) (there : In f s.facts) (known : forgotten (name_of f) ≡ true) where
   abbrev less : Snapshot
-  less = less_fact s f
+  less = snapshot_without s f
 
   d : HaveDistinctTags s.facts
   d = rising s.facts kept_s.in_order
@@ -57,10 +70,10 @@ module _ (p : Program) (s : Snapshot) (f : Fact) (forgotten : Named → Bool) (k
         ∙ sym (inside_are p q s kept_s.in_order (Time span))
 
     time_less : (w : TimeWindow) → inside (kind.Time w.millis) s.clock (arrivals p q less) ≡ inside (kind.Time w.millis) s.clock (arrivals p q s) → KeepsTime w (arrivals p q s) s.clock → KeepsTime w (arrivals p q less) s.clock
-    time_less w same keeps = subst (λ (list : List Arrival). Holds w (λ tag. with_tag tag list)) (sym same) keeps
+    time_less w same keeps = subst (λ (list : List Arrival). HoldsArrivals w (λ tag. with_tag tag list)) (sym same) keeps
 
-    keeps_less : (k : Kept) (w : WindowTag) → window_kept k ≡ kind_of w → is_length w ≡ false → ((span : ℤ) → w ≡ Time span → (fits p q s.clock f && is_inside p q (Time span) s.clock s.facts f) ≡ false)
-        → Keeps k (arrivals p q s) s.clock → Keeps k (arrivals p q less) s.clock
+    keeps_less : (k : Kept) (w : WindowTag) → window_kept k ≡ window_kind_of w → is_length w ≡ false → ((span : ℤ) → w ≡ Time span → (fits p q s.clock f && is_inside p q (Time span) s.clock s.facts f) ≡ false)
+        → KeepsWindow k (arrivals p q s) s.clock → KeepsWindow k (arrivals p q less) s.clock
     keeps_less kept.Whole w is short out keeps = tt
     keeps_less (kept.Time t) Whole is short out keeps = absurd cc
     keeps_less (kept.Time t) (Time span) is short out keeps =
@@ -74,7 +87,7 @@ module _ (p : Program) (s : Snapshot) (f : Fact) (forgotten : Named → Bool) (k
     gate_apart : IsApart q f → GateStands p q gate less
     gate_apart is = record {
       window = stands.window;
-      stands = subst (λ (list : List Arrival). Stands gate.gate list s.clock)
+      stands = subst (λ (list : List Arrival). StandsForArrivals gate.gate list s.clock)
           (ap (map arrival_of) (sym (same_left p s f forgotten d d_less there known (fits p q s.clock) (no_fit p s f forgotten d d_less there known q is s.clock)))) stands.stands;
     }
 
@@ -114,12 +127,12 @@ module _ (p : Program) (s : Snapshot) (f : Fact) (forgotten : Named → Bool) (k
           let row_there : cleaned rows forgotten row ≡ true = sym (was.stands.rows row) ∙ ap is_some e in
           asks t (held s) (held less) (all_passing (joins q (held less)) (candidates_of p q less) row)
           (λ who h.
-          let candidate = sym (candidates_apart p s f forgotten d d_less there known q is who) ∙ (both_of (candidates_of p q less who) (joins q (held less) row who) h).0 in
+          let candidate = sym (candidates_apart p s f forgotten d d_less there known q is who) ∙ (and_parts (candidates_of p q less who) (joins q (held less) row who) h).0 in
           let r = candidate_of p s d q who candidate in
           let other = candidate_other p s f forgotten d d_less there known q is r.0 r.1 in
           subst (λ (n : Named). held s n.tag ≡ held less n.tag) r.2 (sym (held_still p s f forgotten d d_less there known r.0 other.0 other.1)))
           (subst (holds t (held s)) (fun_ext (λ who.
-          where_true (candidates_of p q s who) (joins q (held s) row who) (joins q (held less) row who) (λ h. sym (joins_named p s f forgotten d d_less there known rows named q is row row_there who h))
+          and_where (candidates_of p q s who) (joins q (held s) row who) (joins q (held less) row who) (λ h. sym (joins_named p s f forgotten d d_less there known rows named q is row row_there who h))
           ∙ ap (λ b. b && joins q (held less) row who) (sym (candidates_apart p s f forgotten d d_less there known q is who)))) (was.counts row t e));
     }
 
@@ -162,12 +175,12 @@ module _ (p : Program) (net : Rete) (s : Snapshot) (forgotten : Named → Bool) 
   apart : HaveDistinctTags s.facts
   apart = rising s.facts stands.kept.in_order
 
-  apart_less : HaveDistinctTags (less_fact s f).facts
-  apart_less = rising (less_fact s f).facts (less_in_order s f stands.kept.in_order)
+  apart_less : HaveDistinctTags (snapshot_without s f).facts
+  apart_less = rising (snapshot_without s f).facts (less_in_order s f stands.kept.in_order)
 
   -- the rule of a node, and the place of the node's condition in it
   module _ (k : ℕ) (n : NetNode) (e : slice_get (shown_nodes net) k ≡ Some n) where
-    abbrev front : IsFront p (stands.nodes.shape.conditions k)
+    abbrev front : IsRuleFront p (stands.nodes.shape.conditions k)
     front = stands.nodes.shape.fronts k n e
 
     abbrev place : (i : ℕ) × (slice_get front.0.conditions i ≡ Some (condition_of n.node)) × (before stands.nodes.shape.conditions n.parent ≡ take i front.0.conditions)
@@ -179,17 +192,17 @@ module _ (p : Program) (net : Rete) (s : Snapshot) (forgotten : Named → Bool) 
     unseen : (c : Condition) → In c front.0.conditions → Unobserved f c
     unseen c i = unobserved_of p f unmissed.unobserved front.0 front.1 c i
 
-    rows_less : (t : ℤ) → cleaned (rows_of p (at_clock (less_fact s f) t) (stands.nodes.shape.conditions k)) forgotten ≡ cleaned (rows_of p (at_clock s t) (stands.nodes.shape.conditions k)) forgotten
+    rows_less : (t : ℤ) → cleaned (rows_of p (at_clock (snapshot_without s f) t) (stands.nodes.shape.conditions k)) forgotten ≡ cleaned (rows_of p (at_clock s t) (stands.nodes.shape.conditions k)) forgotten
     rows_less t =
-        subst (λ (cs : List Condition). cleaned (rows_of p (at_clock (less_fact s f) t) cs) forgotten ≡ cleaned (rows_of p (at_clock s t) cs) forgotten) (sym front.3)
+        subst (λ (cs : List Condition). cleaned (rows_of p (at_clock (snapshot_without s f) t) cs) forgotten ≡ cleaned (rows_of p (at_clock s t) cs) forgotten) (sym front.3)
         (front_same p (at_clock s t) f forgotten apart apart_less unmissed.there unmissed.known front.0 unseen front.2)
 
-    rows_before : cleaned (rows_of p (at_clock (less_fact s f) stands.seen) (before stands.nodes.shape.conditions n.parent)) forgotten ≡ cleaned (rows_of p was (before stands.nodes.shape.conditions n.parent)) forgotten
+    rows_before : cleaned (rows_of p (at_clock (snapshot_without s f) stands.seen) (before stands.nodes.shape.conditions n.parent)) forgotten ≡ cleaned (rows_of p was (before stands.nodes.shape.conditions n.parent)) forgotten
     rows_before =
-        subst (λ (cs : List Condition). cleaned (rows_of p (at_clock (less_fact s f) stands.seen) cs) forgotten ≡ cleaned (rows_of p was cs) forgotten) (sym place.2)
+        subst (λ (cs : List Condition). cleaned (rows_of p (at_clock (snapshot_without s f) stands.seen) cs) forgotten ≡ cleaned (rows_of p was cs) forgotten) (sym place.2)
         (front_same p was f forgotten apart apart_less unmissed.there unmissed.known front.0 unseen place.0)
 
-    candidates_at : (t : ℤ) (who : Named) → candidates_of p (pattern_of (condition_of n.node)) (at_clock (less_fact s f) t) who ≡ (candidates_of p (pattern_of (condition_of n.node)) (at_clock s t) who && not (f.tag.0 == who.tag.0))
+    candidates_at : (t : ℤ) (who : Named) → candidates_of p (pattern_of (condition_of n.node)) (at_clock (snapshot_without s f) t) who ≡ (candidates_of p (pattern_of (condition_of n.node)) (at_clock s t) who && not (f.tag.0 == who.tag.0))
     candidates_at t who = candidates_less p (at_clock s t) f forgotten apart apart_less unmissed.there unmissed.known (condition_of n.node) (unseen (condition_of n.node) in_rule) who
 
     outside : (span : ℤ) → (pattern_of (condition_of n.node)).window ≡ Time span → is_candidate p (pattern_of (condition_of n.node)) was f ≡ false
@@ -198,17 +211,17 @@ module _ (p : Program) (net : Rete) (s : Snapshot) (forgotten : Named → Bool) 
         ∙ sym (stands.unchanged.same_candidates k n e (name_of f))
         ∙ unmissed.outside front.0 front.1 (condition_of n.node) in_rule span at
 
-    node_now : NetNodeStands p n (at_clock (less_fact s f) stands.seen) (rows_of p (at_clock (less_fact s f) stands.seen) (before stands.nodes.shape.conditions n.parent)) forgotten
+    node_now : NetNodeStands p n (at_clock (snapshot_without s f) stands.seen) (rows_of p (at_clock (snapshot_without s f) stands.seen) (before stands.nodes.shape.conditions n.parent)) forgotten
     node_now =
         let behind = before stands.nodes.shape.conditions n.parent in
         let at = stands.nodes.nodes k n e in
         let u = unseen (condition_of n.node) in_rule in
         record {
           gate = gate_less p was f forgotten stands.kept unmissed.there unmissed.known (condition_of n.node) u outside n.gate at.gate;
-          node = node_less p was f forgotten stands.kept unmissed.there unmissed.known (rows_of p was behind) (rows_of p (at_clock (less_fact s f) stands.seen) behind) (rows_named p was apart behind) rows_before n.node u at.node;
+          node = node_less p was f forgotten stands.kept unmissed.there unmissed.known (rows_of p was behind) (rows_of p (at_clock (snapshot_without s f) stands.seen) behind) (rows_named p was apart behind) rows_before n.node u at.node;
         }
 
-  abbrev nodes_less : NodesStand p net (at_clock (less_fact s f) stands.seen) forgotten
+  abbrev nodes_less : NodesStand p net (at_clock (snapshot_without s f) stands.seen) forgotten
   nodes_less = record {
     shape = stands.nodes.shape;
     indexed = stands.nodes.indexed;
@@ -218,8 +231,8 @@ module _ (p : Program) (net : Rete) (s : Snapshot) (forgotten : Named → Bool) 
     nodes = node_now;
   }
 
-  same_less : (a b : ℤ) → HaveSame p (shown_nodes net) stands.nodes.shape.conditions forgotten (at_clock s a) (at_clock s b)
-      → HaveSame p (shown_nodes net) stands.nodes.shape.conditions forgotten (at_clock (less_fact s f) a) (at_clock (less_fact s f) b)
+  same_less : (a b : ℤ) → HaveSameFronts p (shown_nodes net) stands.nodes.shape.conditions forgotten (at_clock s a) (at_clock s b)
+      → HaveSameFronts p (shown_nodes net) stands.nodes.shape.conditions forgotten (at_clock (snapshot_without s f) a) (at_clock (snapshot_without s f) b)
   same_less a b same = record {
     same_rows = λ k n e. rows_less k n e a ∙ same.same_rows k n e ∙ sym (rows_less k n e b);
     same_candidates = λ k n e who. candidates_at k n e a who ∙ ap (λ c. c && not (f.tag.0 == who.tag.0)) (same.same_candidates k n e who) ∙ sym (candidates_at k n e b who);
@@ -230,7 +243,7 @@ module _ (p : Program) (net : Rete) (s : Snapshot) (forgotten : Named → Bool) 
   unfolding is_present
   always clock = ap (λ expiry. not (is_event p f.ty.0) || is_within expiry (clock -ℤ f.times.start)) unmissed.lasting ∙ or-true (not (is_event p f.ty.0))
 
-  with_fact : (clock : ℤ) → IsOrderly p (at_clock (less_fact s f) clock) → IsOrderly p (at_clock s clock)
+  with_fact : (clock : ℤ) → IsOrderly p (at_clock (snapshot_without s f) clock) → IsOrderly p (at_clock s clock)
   with_fact clock is = record {
     in_order = stands.kept.in_order;
     present = λ g i. by g i (f.tag.0 == g.tag.0) refl;
@@ -239,10 +252,10 @@ module _ (p : Program) (net : Rete) (s : Snapshot) (forgotten : Named → Bool) 
   }
     where
       by : (g : Fact) → In g s.facts → (b : Bool) → (f.tag.0 == g.tag.0) ≡ b → is_present p clock g ≡ true
-      by g i true e = subst (λ (h : Fact). is_present p clock h ≡ true) (one_fact s.facts apart f g unmissed.there i (ap tag_of (one_number f.tag.0 g.tag.0 e))) (always clock)
+      by g i true e = subst (λ (h : Fact). is_present p clock h ≡ true) (one_fact s.facts apart f g unmissed.there i (ap tag_of (eqb-true f.tag.0 g.tag.0 e))) (always clock)
       by g i false e = is.present g (in_filter (is_other f) g s.facts (ap not e) i)
 
-  pub net_less : NetStands p net (less_fact s f) forgotten
+  pub net_less : NetStands p net (snapshot_without s f) forgotten
   net_less = record {
     seen = stands.seen;
     begun = stands.begun;
@@ -256,11 +269,11 @@ module _ (p : Program) (net : Rete) (s : Snapshot) (forgotten : Named → Bool) 
 -- ---- the rows of rules
 
 module _ (p : Program) (s : Snapshot) (forgotten : Named → Bool) (f : Fact) (tags : HaveDistinctTags s.facts) (unmissed : IsUnmissed p s forgotten f) (rule : Rule) (in_rules : In rule p.rules) where
-  all_same : cleaned (rows_of p (less_fact s f) rule.conditions) forgotten ≡ cleaned (rows_of p s rule.conditions) forgotten
+  all_same : cleaned (rows_of p (snapshot_without s f) rule.conditions) forgotten ≡ cleaned (rows_of p s rule.conditions) forgotten
   all_same =
-      subst (λ (cs : List Condition). cleaned (rows_of p (less_fact s f) cs) forgotten ≡ cleaned (rows_of p s cs) forgotten) (take_all (length rule.conditions) rule.conditions (omega arith))
+      subst (λ (cs : List Condition). cleaned (rows_of p (snapshot_without s f) cs) forgotten ≡ cleaned (rows_of p s cs) forgotten) (take_all (length rule.conditions) rule.conditions (omega arith))
       (front_same p s f forgotten tags (distinct_filtered (is_other f) s.facts tags) unmissed.there unmissed.known rule (unobserved_of p f unmissed.unobserved rule in_rules) (length rule.conditions))
 
-  pub clean_rows_less : (row : Row) → has (clean_rows p (less_fact s f) forgotten rule) row ≡ has (clean_rows p s forgotten rule) row
+  pub clean_rows_less : (row : Row) → has (clean_rows p (snapshot_without s f) forgotten rule) row ≡ has (clean_rows p s forgotten rule) row
   clean_rows_less row =
-      ap (λ (set : Row → Bool). set row) (has_clean (rows p (less_fact s f) rule.conditions) forgotten ∙ all_same ∙ sym (has_clean (rows p s rule.conditions) forgotten))
+      ap (λ (set : Row → Bool). set row) (has_clean (rows p (snapshot_without s f) rule.conditions) forgotten ∙ all_same ∙ sym (has_clean (rows p s rule.conditions) forgotten))

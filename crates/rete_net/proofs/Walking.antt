@@ -1,8 +1,12 @@
 -- A walk over some nodes, each after its parent.
-use Rattle.rete_net.proofs.Common.{◌≡◌, ◌∙◌, sym, ap, refl, subst, ℕ, zero, suc, ◌+◌, ◌<◌, ◌≤◌, Bool, true, false, List, [], ◌∷◌, ◌++◌, length, take, arith, length-append, Option, Some, None, slice_get, ◌⊎◌, inl, inr, slice_index_or, set, length-set, get_or-append_seam, take-append_seam, take-append-le, get_or_append_left, Index, NetNode, Answered, some_answer, left_given, AreRuled, IsPut, is_listed, has_place, IsReplaced, IsWired, condition_of}
+use Rattle.rete_net.proofs.Common.{◌≡◌, ◌∙◌, sym, ap, refl, subst, ℕ, zero, suc, ◌+◌, ◌<◌, ◌≤◌, true, false, List, [], ◌∷◌, ◌++◌, length, take, arith}
+use Rattle.rete_net.proofs.Common.{length-append, Option, Some, None, slice_get, ◌⊎◌, inl, inr, slice_index_or, set, length-set, get_or-append_seam}
+use Rattle.rete_net.proofs.Common.{take-append_seam, take-append-le, get_or_append_left, Index, NetNode, Answered, some_answer, left_given, AreRuled}
+use Rattle.rete_net.proofs.Common.{IsAnswerPut, is_listed, has_place, IsReplaced, IsWired, condition_of}
+use Rattle.std.proofs.lemmas.Bool.{false_from_ne_true}
 use Rattle.rete_net.specs.Answers.{given as kept}
-use Rattle.rete_net.proofs.Growing.{both_at}
-use Rattle.rete_net.proofs.Turns.{set_other, set_same, below_or_at}
+use Rattle.fx_base.proofs.Orders.{below_or_last}
+use Rattle.fx_base.proofs.Sequences.{get-set_other, get-set_same, one_value}
 
 -- one node more took its turn; `given` is what comes to a node of the answers of the nodes before it, by its parent
 module _ {D : Type 0} (Turn : NetNode → NetNode → D → D → Type 0) (given : List D → Option ℕ → D) (last : D) where
@@ -27,8 +31,8 @@ module _ {D : Type 0} (Turn : NetNode → NetNode → D → D → Type 0) (given
 
     here : (k : ℕ) → k ≡ i → Turns k
     here k at old new e f =
-        let old_is : node ≡ old = both_at (slice_get before i) node old was (ap (slice_get before) (sym at) ∙ e) in
-        let new_is : new_node ≡ new = both_at (slice_get then i) new_node new is (ap (slice_get then) (sym at) ∙ f) in
+        let old_is : node ≡ old = one_value (slice_get before i) node old was (ap (slice_get before) (sym at) ∙ e) in
+        let new_is : new_node ≡ new = one_value (slice_get then i) new_node new is (ap (slice_get then) (sym at) ∙ f) in
         let len : k ≡ length answers = at ∙ sym done in
         subst (λ (xs : List D). Turn old new (given xs old.parent) (slice_index_or (answers ++ answer ∷ []) k last)) (sym (ap (λ n. take n (answers ++ answer ∷ [])) len ∙ take-append_seam answers (answer ∷ [])))
         (subst (λ (x : D). Turn old new (given answers old.parent) x) (sym (ap (λ n. slice_index_or (answers ++ answer ∷ []) n last) len ∙ get_or-append_seam answers answer [] last))
@@ -36,14 +40,10 @@ module _ {D : Type 0} (Turn : NetNode → NetNode → D → D → Type 0) (given
         (subst (λ n. Turn n new_node (given answers n.parent) answer) old_is turn)))
 
     pub below_more : Below before then (answers ++ answer ∷ []) (i + 1)
-    below_more k h = elim (below_or_at k i h) [
+    below_more k h = elim (below_or_last k i h) [
       | inl lt ↦ earlier k lt
       | inr at ↦ here k at
     ]
-
-pub not_true : (b : Bool) → (b ≡ true → ⊥) → b ≡ false
-not_true true h = absurd (h refl)
-not_true false h = refl
 
 pub equal_or_not : (j k : ℕ) → (j ≡ k) ⊎ (j ≡ k → ⊥)
 equal_or_not zero zero = inl refl
@@ -71,23 +71,23 @@ replaced_more before now place n new replaced at parent condition = record {
   many = length-set now place new ∙ replaced.many;
   parent = λ k a b e f. elim (equal_or_not k place) [
     | inl is ↦
-        let there : new ≡ b = both_at (slice_get (set now place new) place) new b (set_same now place new n at) (ap (slice_get (set now place new)) (sym is) ∙ f) in
+        let there : new ≡ b = one_value (slice_get (set now place new) place) new b (get-set_same now place new n at) (ap (slice_get (set now place new)) (sym is) ∙ f) in
         ap (λ (m : NetNode). m.parent) (sym there) ∙ parent ∙ replaced.parent k a n e (ap (slice_get now) is ∙ at)
-    | inr other ↦ replaced.parent k a b e (sym (set_other now place k new other) ∙ f)
+    | inr other ↦ replaced.parent k a b e (sym (get-set_other now place k new other) ∙ f)
   ];
   condition = λ k a b e f. elim (equal_or_not k place) [
     | inl is ↦
-        let there : new ≡ b = both_at (slice_get (set now place new) place) new b (set_same now place new n at) (ap (slice_get (set now place new)) (sym is) ∙ f) in
+        let there : new ≡ b = one_value (slice_get (set now place new) place) new b (get-set_same now place new n at) (ap (slice_get (set now place new)) (sym is) ∙ f) in
         ap (λ (m : NetNode). condition_of m.node) (sym there) ∙ condition ∙ replaced.condition k a n e (ap (slice_get now) is ∙ at)
-    | inr other ↦ replaced.condition k a b e (sym (set_other now place k new other) ∙ f)
+    | inr other ↦ replaced.condition k a b e (sym (get-set_other now place k new other) ∙ f)
   ];
 }
 
 pub not_replaced : (nodes : List NetNode) → IsReplaced nodes nodes
 not_replaced nodes = record {
   many = refl;
-  parent = λ k a b e f. ap (λ (m : NetNode). m.parent) (sym (both_at (slice_get nodes k) a b e f));
-  condition = λ k a b e f. ap (λ (m : NetNode). condition_of m.node) (sym (both_at (slice_get nodes k) a b e f));
+  parent = λ k a b e f. ap (λ (m : NetNode). m.parent) (sym (one_value (slice_get nodes k) a b e f));
+  condition = λ k a b e f. ap (λ (m : NetNode). condition_of m.node) (sym (one_value (slice_get nodes k) a b e f));
 }
 
 module _ {D : Type 0} (Turn : NetNode → NetNode → D → D → Type 0) (given : List D → Option ℕ → D) (last none first : D) (before : List NetNode) (ends : List ℕ) (index : Index)
@@ -110,7 +110,7 @@ module _ {D : Type 0} (Turn : NetNode → NetNode → D → D → Type 0) (given
 
   -- a node takes its turn
   module _ (now : List NetNode) (a : Answered D) (place : ℕ) (way : Way now a place) (n new : NetNode) (left answer : D) (b : Answered D) (at : slice_get now place ≡ Some n)
-      (turn : Turn n new left answer) (left_is : left ≡ left_given first a n.parent) (put : IsPut index place answer a b) where
+      (turn : Turn n new left answer) (left_is : left ≡ left_given first a n.parent) (put : IsAnswerPut index place answer a b) where
     was : slice_get before place ≡ Some n
     was = sym (way.rest place (omega arith)) ∙ at
 
@@ -126,7 +126,7 @@ module _ {D : Type 0} (Turn : NetNode → NetNode → D → D → Type 0) (given
         by (Some q) at = to_behind way.answers q ∙ way.known q (wired.parents place q n was at) ∙ ap (λ x. kept x (some_answer a q)) (sym way.nothing)
 
     known_more : (k : ℕ) → k < place + 1 → slice_index_or (way.answers ++ answer ∷ []) k last ≡ kept none (some_answer b k)
-    known_more k h = elim (below_or_at k place h) [
+    known_more k h = elim (below_or_last k place h) [
       | inl lt ↦
           let count = way.count in
           let within : k < length way.answers = omega (arith, count) in
@@ -145,15 +145,15 @@ module _ {D : Type 0} (Turn : NetNode → NetNode → D → D → Type 0) (given
 
     ruled_now : AreRuled b ends
     ruled_now rule end e out =
-        still_none end (way.ruled rule end e (not_true (has_place a.rules.keys rule) (λ h. let no : true ≡ false = sym (put.rules_still rule h) ∙ out in cc)))
+        still_none end (way.ruled rule end e (false_from_ne_true (has_place a.rules.keys rule) (λ h. let no : true ≡ false = sym (put.rules_still rule h) ∙ out in cc)))
         (λ is. put.rules rule (subst (λ (i : ℕ). is_listed index.rules i rule ≡ true) is (wired.indexed.ended rule end e)) out)
 
     pub take_one : Way (set now place new) b (place + 1)
     take_one = record {
       answers = way.answers ++ answer ∷ [];
       count = let count = way.count in simp length-append (omega (arith, count));
-      rest = λ k le. set_other now place k new (λ e. absurd (omega arith)) ∙ way.rest k (omega arith);
-      below = below_more Turn given last before now (set now place new) way.answers place n new answer way.count (λ k lt. set_other now place k new (λ e. absurd (omega arith))) way.below was (set_same now place new n at)
+      rest = λ k le. get-set_other now place k new (λ e. absurd (omega arith)) ∙ way.rest k (omega arith);
+      below = below_more Turn given last before now (set now place new) way.answers place n new answer way.count (λ k lt. get-set_other now place k new (λ e. absurd (omega arith))) way.below was (get-set_same now place new n at)
           (subst (λ (x : D). Turn n new x answer) (left_is ∙ sym left_known) turn);
       nothing = put.none ∙ way.nothing;
       known = known_more;

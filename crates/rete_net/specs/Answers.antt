@@ -5,7 +5,7 @@ use Rattle.std.specs.Ordering.{nat_cmp}
 use Rattle.rete_net.specs.declared.answered.Answered.{Answered}
 use Rattle.rete_net.specs.declared.index.Index.{Index}
 use Rattle.rete_net.specs.Indexes.{is_listed}
-use Rattle.rete_net.specs.Places.{has_place}
+use Rattle.fan_join.specs.Reaching.{has_place}
 
 -- what is kept of a node, or this without it
 abbrev pub given : {D : Type 0} → D → Option D → D
@@ -26,7 +26,7 @@ left_given first a None = first
 left_given first a (Some parent) = answer_in a parent
 
 -- what the node in a place answers is put: where it is kept, the rules that end there are known
-pub record IsPut {D : Type 0} (index : Index) (place : ℕ) (answer : D) (was is : Answered D) : Type 0 where
+pub record IsAnswerPut {D : Type 0} (index : Index) (place : ℕ) (answer : D) (was is : Answered D) : Type 0 where
   pub none : is.none ≡ was.none
   pub others : (k : ℕ) → (k ≡ place → ⊥) → some_answer is k ≡ some_answer was k
   pub here : some_answer was place ≡ None → given was.none (some_answer is place) ≡ answer

@@ -21,7 +21,7 @@ use Rattle.rete_net.specs.declared.index.Index.{Index}
 use Rattle.rete_net.specs.Answers.{given, some_answer, AreRuled}
 use Rattle.rete_net.specs.Indexes.{is_listed, type_of}
 use Rattle.rete_net.specs.Standing.{NetNodeStands}
-use Rattle.rete_net.specs.Places.{has_place}
+use Rattle.fan_join.specs.Reaching.{has_place}
 
 -- these rows, in order, are those of a set that name an old fact
 pub record AreOld (rows : Row → Bool) (old : Named → Bool) (dropped : List Row) : Type 0 where

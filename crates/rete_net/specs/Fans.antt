@@ -13,8 +13,8 @@ use Rattle.join_tests.specs.Joins.{Look}
 use Rattle.pair_memory.specs.declared.candidates.Candidates.{Candidates}
 use Rattle.pair_memory.specs.declared.left_rows.LeftRows.{LeftRows}
 use Rattle.pair_memory.specs.Apart.{beside}
-use Rattle.pair_memory.specs.Memories.{has_left, has_right, made, Keeps}
-use Rattle.fan_join.specs.Fans.{delta_of, AreBeside, IsEmpty, IsReached}
+use Rattle.pair_memory.specs.Memories.{has_left, has_right, made, KeepsMemories}
+use Rattle.fan_join.specs.Fans.{member_delta, AreBeside, IsEmpty, IsReached}
 use Rattle.fan_join.specs.Turns.{AreNamesTurned}
 use Rattle.condition_node.specs.declared.node.Node.{Node}
 use Rattle.condition_node.specs.declared.node.Node.TheVariants as node
@@ -27,7 +27,7 @@ use Rattle.rete_net.specs.declared.lists.Lists.{Lists}
 use Rattle.rete_net.specs.declared.net.Rete.{Rete}
 use Rattle.rete_net.specs.declared.node.NetNode.{NetNode}
 use Rattle.rete_net.specs.Indexes.{is_listed}
-use Rattle.rete_net.specs.Places.{has_place}
+use Rattle.fan_join.specs.Reaching.{has_place}
 use Rattle.rete_net.specs.Steps.{no_change}
 
 -- ---- what a node keeps
@@ -153,7 +153,7 @@ pub record IsLaidAs (old new : Fans) : Type 0 where
 -- what the rows before a member have changed for it so far, where they changed something
 abbrev pub half_in : ℕ → Option (BTreeMap ℕ Delta) → Delta
 half_in k None = no_change
-half_in k (Some deltas) = delta_of deltas k
+half_in k (Some deltas) = member_delta deltas k
 
 abbrev pub half_at : Fans → Seat → Delta
 half_at fans seat = half_in seat.member (get nat_cmp fans.halves seat.fan)
@@ -165,7 +165,7 @@ half_of fans (Some seat) = half_at fans seat
 
 -- The rows that a member shares left and came, and this is what has changed with them in the rows that it makes.
 pub record IsHalfTurned (look : Look) (gone come : List Row) (was now : LeftRows) (c : Candidates) (half : Delta) : Type 0 where
-  pub kept : Keeps (beside was c) (beside now c) look (λ r. (has_left (beside was c) look r && not (has gone r)) || has come r) (has_right (beside was c) look)
+  pub kept : KeepsMemories (beside was c) (beside now c) look (λ r. (has_left (beside was c) look r && not (has gone r)) || has come r) (has_right (beside was c) look)
   pub difference : IsDifference (made (beside was c) look) (made (beside now c) look) half
 
 -- so it is for a node that is a member; one that is none stays none
@@ -176,16 +176,16 @@ IsHalf look gone come (Some was) None half = ⊥
 IsHalf look gone come (Some was) (Some now) half = (now.own ≡ was.own) × IsHalfTurned look gone come was.left now.left was.own half
 
 -- with a seat the node is a member, of its pattern
-abbrev pub IsOf : NetNode → List Fan → Option Seat → Type 0
-IsOf n fans None = Unit {0}
-IsOf n fans (Some seat) = (m : Member) × (member_of fans (Some seat) ≡ Some m) × (condition_of n.node ≡ Plain m.own.pattern)
+abbrev pub IsOfSeat : NetNode → List Fan → Option Seat → Type 0
+IsOfSeat n fans None = Unit {0}
+IsOfSeat n fans (Some seat) = (m : Member) × (member_of fans (Some seat) ≡ Some m) × (condition_of n.node ≡ Plain m.own.pattern)
 
 -- another member keeps what it kept, and so does what its rows have changed
 abbrev pub IsLeft : Fans → Fans → Seat → Type 0
 IsLeft old new seat = (member_of new.list.items (Some seat) ≡ member_of old.list.items (Some seat)) × (half_at new seat ≡ half_at old seat)
 
 -- Rows left and came for the fans behind the node in a place, where nothing had changed for their members before; the others stay.
-pub record AreRowsTurned (look : Look) (place : ℕ) (gone come : List Row) (old new : Fans) : Type 0 where
+pub record AreFanRowsTurned (look : Look) (place : ℕ) (gone come : List Row) (old new : Fans) : Type 0 where
   pub others : (seat : Seat) (fan : Fan) → slice_get old.list.items seat.fan ≡ Some fan → (fan.parent ≡ place → ⊥) → IsLeft old new seat
   pub turned : (seat : Seat) (fan : Fan) → slice_get old.list.items seat.fan ≡ Some fan → fan.parent ≡ place → half_at old seat ≡ no_change
       → IsHalf look gone come (member_of old.list.items (Some seat)) (member_of new.list.items (Some seat)) (half_at new seat)

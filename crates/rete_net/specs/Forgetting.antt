@@ -36,8 +36,8 @@ pub record AreNotNeeded (p : Program) (forgotten : Named → Bool) (s next : Sna
 -- ---- a fact that goes
 
 -- the snapshot without a fact
-abbrev pub less_fact : Snapshot → Fact → Snapshot
-less_fact s f = record s { facts = filter (λ (g : Fact). not (f.tag.0 == g.tag.0)) s.facts }
+abbrev pub snapshot_without : Snapshot → Fact → Snapshot
+snapshot_without s f = record s { facts = filter (λ (g : Fact). not (f.tag.0 == g.tag.0)) s.facts }
 
 -- A forgotten fact of the snapshot that no rule misses when it goes: no condition observes its type, that is, binds no fact or has a window
 -- of length; it is inside no window of time; and without an expiry it is present until it goes.

@@ -15,7 +15,7 @@ use Rattle.rete_net.specs.declared.alpha_index.AlphaIndex.{AlphaIndex}
 use Rattle.rete_net.specs.declared.index.Index.{Index}
 use Rattle.rete_net.specs.declared.lists.Lists.{Lists}
 use Rattle.rete_net.specs.declared.node.NetNode.{NetNode}
-use Rattle.rete_net.specs.Selectors.{slot_of}
+use Rattle.rete_net.specs.Selectors.{list_slot_of}
 
 -- ---- lists of places
 
@@ -39,30 +39,30 @@ abbrev pub type_of : NetNode → ℕ
 type_of n = (pattern_of (condition_of n.node)).ty.0
 
 -- a node that the clock alone may change: of a `not`, or with a window
-abbrev pub is_timed : NetNode → Bool
-is_timed n = is_negated (condition_of n.node) || not (is_whole (pattern_of (condition_of n.node)).window)
+abbrev pub is_changed_by_clock : NetNode → Bool
+is_changed_by_clock n = is_negated (condition_of n.node) || not (is_whole (pattern_of (condition_of n.node)).window)
 
 -- The place stands where the fact is looked up: among the nodes of its type that no constant tells apart, or in the list of what it has in
 -- a field by which some are.
-abbrev pub IsAsked : AlphaIndex → Fact → ℕ → Type 0
-IsAsked alpha f k =
+abbrev pub IsLookedUp : AlphaIndex → Fact → ℕ → Type 0
+IsLookedUp alpha f k =
     (is_listed alpha.others f.ty.0 k ≡ true)
     ⊎ ((field : ℕ) × (value : Value) × (slice_get f.fields field ≡ Some value) × (is_listed alpha.fields f.ty.0 field ≡ true)
-    × (is_listed alpha.constants (slot_of alpha.mask f.ty.0 field value) k ≡ true))
+    × (is_listed alpha.constants (list_slot_of alpha.mask f.ty.0 field value) k ≡ true))
 
 -- so it does for each fact that the pattern means
 abbrev pub IsAskedWhereMeant : AlphaIndex → Pattern → ℕ → Type 0
-IsAskedWhereMeant alpha pattern k = (f : Fact) → is_meant pattern f ≡ true → IsAsked alpha f k
+IsAskedWhereMeant alpha pattern k = (f : Fact) → is_meant pattern f ≡ true → IsLookedUp alpha f k
 
 -- the node in a place is found by its type, by what its pattern means, and where it has no parent
-pub record IsFound (index : Index) (k : ℕ) (n : NetNode) : Type 0 where
+pub record IsNodeFound (index : Index) (k : ℕ) (n : NetNode) : Type 0 where
   pub typed : is_listed index.by_type (type_of n) k ≡ true
   pub asked : IsAskedWhereMeant index.alpha (pattern_of (condition_of n.node)) k
   pub first : n.parent ≡ None → is_in index.firsts.items k ≡ true
 
 -- all nodes are found, and each rule by its last node
 pub record IsIndexOf (nodes : List NetNode) (ends : List ℕ) (index : Index) : Type 0 where
-  pub found : (k : ℕ) (n : NetNode) → slice_get nodes k ≡ Some n → IsFound index k n
+  pub found : (k : ℕ) (n : NetNode) → slice_get nodes k ≡ Some n → IsNodeFound index k n
   pub ended : (rule end : ℕ) → slice_get ends rule ≡ Some end → is_listed index.rules end rule ≡ true
 
 -- A step does not reach the node by facts: none that goes or comes is meant, and nothing comes to it where it has no parent.

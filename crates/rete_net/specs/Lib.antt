@@ -1,5 +1,4 @@
 pub mod Shapes
-pub mod Places
 pub mod Selectors
 pub mod Indexes
 pub mod Standing

@@ -11,7 +11,6 @@ use Rattle.row_delta.specs.declared.row.Row.{Row}
 use Rattle.row_delta.specs.Rows.{has}
 use Rattle.rule_model.specs.declared.condition.Condition.{Condition}
 use Rattle.rule_model.specs.declared.condition.WindowTag.TheVariants.{Time}
-use Rattle.rule_model.specs.declared.life.LifeTable.{LifeTable}
 use Rattle.rule_model.specs.declared.moment.Moment.{Moment}
 use Rattle.rule_model.specs.declared.program.Program.{Program}
 use Rattle.rule_model.specs.declared.program.Rule.{Rule}
@@ -25,9 +24,9 @@ use Rattle.join_tests.specs.Joins.{Look}
 use Rattle.pair_memory.specs.Standing.{no_names}
 use Rattle.condition_rows.specs.Looks.{empty_snapshot, HasAllOf}
 use Rattle.pattern_gate.specs.Moves.{IsOrderly}
-use Rattle.image_laws.specs.Extras.{AreExtras, extra_cmp}
-use Rattle.image_laws.specs.Fitting.{IsPlaced}
-use Rattle.image_laws.specs.Laden.{IsKeptOf, laden}
+use Rattle.laden_rows.specs.Extras.{AreExtras, extra_cmp}
+use Rattle.laden_rows.specs.Laden.{IsKeptOf, laden}
+use Rattle.laden_rows.specs.Placed.{IsPlaced}
 use Rattle.rete_net.specs.declared.changes.RuleChange.{RuleChange}
 use Rattle.rete_net.specs.Nets.{change_of}
 
@@ -41,8 +40,7 @@ pub record IsLoadable (p : Program) (t : Snapshot) (kept : List Fact) (extras : 
   pub orderly : IsOrderly p t
   pub floors : (entry : ℕ) → floor p empty_snapshot entry ≤ℤ floor p t entry
   pub at_hand : HasAllOf look t no_names
-  pub table : LifeTable
-  pub placed : (e : Extra) → In e extras → IsPlaced p table e
+  pub placed : (e : Extra) → In e extras → IsPlaced p e
   pub in_order : IsStrictlySortedBy extra_cmp extras
 
 -- a row of the first conditions of a rule is there, over the facts of a snapshot with these extras

@@ -23,7 +23,7 @@ use Rattle.pattern_gate.specs.Gates.{GateStands, has_good_window}
 use Rattle.pattern_gate.specs.Moves.{IsOrderly}
 use Rattle.condition_node.specs.Loading.{Laden}
 use Rattle.condition_node.specs.Nodes.{condition_of}
-use Rattle.image_laws.specs.Laden.{laden_line}
+use Rattle.laden_rows.specs.Laden.{laden_line}
 use Rattle.rete_net.specs.declared.answered.Answered.{Answered}
 use Rattle.rete_net.specs.declared.build.Owner.{Owner}
 use Rattle.rete_net.specs.declared.node.NetNode.{NetNode}
@@ -32,20 +32,20 @@ use Rattle.rete_net.specs.Standing.{IsFresh}
 use Rattle.rete_net.specs.Steps.{no_change}
 
 -- a fact is of the type in a place
-abbrev pub is_of : ℕ → Fact → Bool
-is_of ty f = f.ty.0 == ty
+abbrev pub is_fact_of_type : ℕ → Fact → Bool
+is_fact_of_type ty f = f.ty.0 == ty
 
 -- the facts of a type in a place, of those by types
 abbrev pub given_facts : Option (Vec (Bor Fact)) → List Fact
 given_facts None = []
 given_facts (Some list) = lent list.items
 
-abbrev pub facts_at : List (Vec (Bor Fact)) → ℕ → List Fact
-facts_at groups ty = given_facts (slice_get groups ty)
+abbrev pub grouped_facts_at : List (Vec (Bor Fact)) → ℕ → List Fact
+grouped_facts_at groups ty = given_facts (slice_get groups ty)
 
 -- an extra stands under an owner
-abbrev pub is_under : Owner → Extra → Bool
-is_under o e = e.rule.0 == o.rule.0 && e.condition == o.condition
+abbrev pub is_extra_under : Owner → Extra → Bool
+is_extra_under o e = e.rule.0 == o.rule.0 && e.condition == o.condition
 
 -- an extra comes before an owner, or under it too
 abbrev pub comes_before : Bool → Owner → Extra → Bool
@@ -85,7 +85,7 @@ pub record NodeLoad (p : Program) (look : Look) (kept : List Fact) (extras : Lis
 
 -- the rows of all extras under an owner are among these rows
 abbrev pub HasRowsOf : Owner → List Extra → List Row → Type 0
-HasRowsOf o extras rows = (e : Extra) → In e extras → is_under o e ≡ true → has rows e.row ≡ true
+HasRowsOf o extras rows = (e : Extra) → In e extras → is_extra_under o e ≡ true → has rows e.row ≡ true
 
 -- The nodes before a place are loaded, each with what its parent answered and with the extras of its owner, whose rows are among those;
 -- `first` comes to those without a parent. The others are as they were.
@@ -95,7 +95,7 @@ pub record AreLoaded (p : Program) (look : Look) (kept : List Fact) (extras : Li
   pub ahead : (k : ℕ) → n ≤ k → some_answer a k ≡ None
   pub rest : (k : ℕ) → n ≤ k → slice_get now k ≡ slice_get before k
   pub loaded : (k : ℕ) → k < n → (old new : NetNode) (o : Owner) → slice_get before k ≡ Some old → slice_get now k ≡ Some new → slice_get owners k ≡ Some o
-      → NodeLoad p look kept (filter (is_under o) extras) moment old new (left_given first a old.parent).come (answer_in a k)
+      → NodeLoad p look kept (filter (is_extra_under o) extras) moment old new (left_given first a old.parent).come (answer_in a k)
   pub there : (k : ℕ) → k < n → (old : NetNode) (o : Owner) → slice_get before k ≡ Some old → slice_get owners k ≡ Some o → InOrder (left_given first a old.parent).come
       → HasRowsOf o extras (left_given first a old.parent).come
   pub ruled : AreRuled a ends
@@ -109,4 +109,4 @@ pub record IsStuck (p : Program) (look : Look) (kept : List Fact) (extras : List
   pub node : NetNode
   pub there : slice_get before place ≡ Some node
   pub missing : (o : Owner) → slice_get owners place ≡ Some o → InOrder (left_given first answered node.parent).come
-      → (e : Extra) × In e extras × (is_under o e ≡ true) × (has (left_given first answered node.parent).come e.row ≡ false)
+      → (e : Extra) × In e extras × (is_extra_under o e ≡ true) × (has (left_given first answered node.parent).come e.row ≡ false)

@@ -24,7 +24,7 @@ use Rattle.rete_net.specs.declared.node.NetNode.{NetNode}
 use Rattle.rete_net.specs.declared.net.Rete.{Rete}
 use Rattle.rete_net.specs.Fans.{AreFans, shown_nodes}
 use Rattle.rete_net.specs.Indexes.{IsIndexOf}
-use Rattle.rete_net.specs.Owners.{AreOwners}
+use Rattle.rete_net.specs.Owners.{AreNodeOwners}
 use Rattle.rete_net.specs.Schedules.{AreScheduled}
 use Rattle.rete_net.specs.Standing.{NetNodeStands}
 use Rattle.rete_net.specs.Shapes.{before, IsNetOf}
@@ -36,12 +36,12 @@ pub record NodesStand (p : Program) (net : Rete) (s : Snapshot) (forgotten : Nam
   pub indexed : IsIndexOf (shown_nodes net) net.ends.items net.index
   pub scheduled : AreScheduled p net.nodes.items net.schedule
   pub fans : AreFans net.nodes.items net.fans
-  pub owned : AreOwners p shape.conditions (length (shown_nodes net)) net.owners.items
+  pub owned : AreNodeOwners p shape.conditions (length (shown_nodes net)) net.owners.items
   pub nodes : (k : ℕ) (n : NetNode) → slice_get (shown_nodes net) k ≡ Some n → NetNodeStands p n s (rows_of p s (before shape.conditions n.parent)) forgotten
 
 -- The nodes have the same before them in both snapshots: the conditions of each have the same rows that name no forgotten fact, and its
 -- pattern has the same candidates.
-pub record HaveSame (p : Program) (nodes : List NetNode) (conditions : ℕ → List Condition) (forgotten : Named → Bool) (s other : Snapshot) : Type 0 where
+pub record HaveSameFronts (p : Program) (nodes : List NetNode) (conditions : ℕ → List Condition) (forgotten : Named → Bool) (s other : Snapshot) : Type 0 where
   pub same_rows : (k : ℕ) (n : NetNode) → slice_get nodes k ≡ Some n → cleaned (rows_of p s (conditions k)) forgotten ≡ cleaned (rows_of p other (conditions k)) forgotten
   pub same_candidates : (k : ℕ) (n : NetNode) → slice_get nodes k ≡ Some n → (who : Named)
       → candidates_of p (pattern_of (condition_of n.node)) s who ≡ candidates_of p (pattern_of (condition_of n.node)) other who
@@ -54,9 +54,9 @@ pub record NetStands (p : Program) (net : Rete) (s : Snapshot) (forgotten : Name
   pub later : seen ≤ℤ s.clock
   pub kept : IsOrderly p (at_clock s seen)
   pub nodes : NodesStand p net (at_clock s seen) forgotten
-  pub unchanged : HaveSame p (shown_nodes net) nodes.shape.conditions forgotten s (at_clock s seen)
+  pub unchanged : HaveSameFronts p (shown_nodes net) nodes.shape.conditions forgotten s (at_clock s seen)
   pub quiet : (clock : ℤ) → s.clock ≤ℤ clock → clock <ℤ pos (2 ^ 63) → IsBefore net.quiet_until clock → IsOrderly p (at_clock s clock)
-      → HaveSame p (shown_nodes net) nodes.shape.conditions forgotten (at_clock s clock) (at_clock s seen)
+      → HaveSameFronts p (shown_nodes net) nodes.shape.conditions forgotten (at_clock s clock) (at_clock s seen)
 
 -- the rows of a rule in a snapshot that name no forgotten fact
 abbrev pub clean_rows : Program → Snapshot → (Named → Bool) → Rule → List Row

@@ -7,7 +7,7 @@ use Rattle.fx_base.specs.Lists.{In}
 use Rattle.rule_model.specs.declared.condition.Condition.{Condition}
 use Rattle.rule_model.specs.declared.program.Program.{Program}
 use Rattle.rule_model.specs.declared.program.Rule.{Rule}
-use Rattle.image_laws.specs.Extras.{IsFirstWith}
+use Rattle.laden_rows.specs.Extras.{IsFirstWith}
 use Rattle.rete_net.specs.declared.build.Owner.{Owner}
 
 -- The owner of a node with these conditions: the first rule that has them as its first ones, and the place of the last of them.
@@ -23,7 +23,7 @@ abbrev pub owner_cmp : Owner → Owner → Ordering
 owner_cmp a b = ordering_then (nat_cmp a.rule.0 b.rule.0) (nat_cmp a.condition b.condition)
 
 -- nodes of these conditions, so many, have these owners, which rise with the nodes
-pub record AreOwners (p : Program) (conditions : ℕ → List Condition) (many : ℕ) (owners : List Owner) : Type 0 where
+pub record AreNodeOwners (p : Program) (conditions : ℕ → List Condition) (many : ℕ) (owners : List Owner) : Type 0 where
   pub count : length owners ≡ many
   pub each : (k : ℕ) (o : Owner) → slice_get owners k ≡ Some o → IsOwned p (conditions k) o
   pub rising : IsStrictlySortedBy owner_cmp owners

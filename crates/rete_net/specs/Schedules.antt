@@ -13,7 +13,7 @@ use Rattle.condition_rows.specs.Sets.{candidates_of}
 use Rattle.not_node.specs.Waiting.{NoneDue}
 use Rattle.pattern_gate.specs.declared.gate.PatternGate.{PatternGate}
 use Rattle.pattern_gate.specs.Gates.{GateStands}
-use Rattle.pattern_gate.specs.Moves.{Moves}
+use Rattle.pattern_gate.specs.Moves.{MovesSnapshot}
 use Rattle.pattern_gate.specs.Turns.{is_one_meant}
 use Rattle.condition_node.specs.Nodes.{condition_of}
 use Rattle.condition_node.specs.Quiet.{IsBefore}
@@ -22,19 +22,19 @@ use Rattle.condition_node.specs.declared.node.Node.TheVariants as node
 use Rattle.rete_net.specs.declared.node.NetNode.{NetNode}
 use Rattle.rete_net.specs.declared.schedule.EntryTimers.{EntryTimers}
 use Rattle.rete_net.specs.declared.schedule.Schedule.{Schedule}
-use Rattle.rete_net.specs.Indexes.{is_timed, IsUnreached}
+use Rattle.rete_net.specs.Indexes.{is_changed_by_clock, IsUnreached}
 use Rattle.rete_net.specs.Quiet.{IsNodeQuiet}
 use Rattle.rete_net.specs.Timers.{IsFrom, IsSet}
 
 -- the place of the entry point of a node's candidates
-abbrev pub entry_of : NetNode → ℕ
-entry_of n = (pattern_of (condition_of n.node)).entry.0
+abbrev pub entry_point_of : NetNode → ℕ
+entry_point_of n = (pattern_of (condition_of n.node)).entry.0
 
 -- a gate stays as it is at this clock, and with it the candidates, where no fact that goes or comes is meant
 pub record IsGateStill (gate : PatternGate) (clock : ℤ) : Type 0 where
-  pub stands : (p : Program) (q : Pattern) (s next : Snapshot) (gone : List Fact) (come : Option Fact) → is_one_meant q gone come ≡ false → GateStands p q gate s → Moves p s next gone come → next.clock ≡ clock
+  pub stands : (p : Program) (q : Pattern) (s next : Snapshot) (gone : List Fact) (come : Option Fact) → is_one_meant q gone come ≡ false → GateStands p q gate s → MovesSnapshot p s next gone come → next.clock ≡ clock
       → GateStands p q gate next
-  pub candidates : (p : Program) (q : Pattern) (s next : Snapshot) (gone : List Fact) (come : Option Fact) → is_one_meant q gone come ≡ false → GateStands p q gate s → Moves p s next gone come → next.clock ≡ clock
+  pub candidates : (p : Program) (q : Pattern) (s next : Snapshot) (gone : List Fact) (come : Option Fact) → is_one_meant q gone come ≡ false → GateStands p q gate s → MovesSnapshot p s next gone come → next.clock ≡ clock
       → (who : Named) → candidates_of p q next who ≡ candidates_of p q s who
 
 -- no row of a `not` waits for a moment below this floor
@@ -47,12 +47,12 @@ IsStillAt (node.Fold fold) floor = Unit {0}
 -- nothing is due in a node at this moment
 pub record IsUndue (p : Program) (n : NetNode) (moment : Moment) : Type 0 where
   pub gate : IsGateStill n.gate moment.clock
-  pub node : IsStillAt n.node (floor p (snapshot_at moment) (entry_of n))
+  pub node : IsStillAt n.node (floor p (snapshot_at moment) (entry_point_of n))
 
 -- a step does not reach the node but by what changes in the rows of its parent
 pub record IsLeftAlone (p : Program) (n : NetNode) (first : Delta) (gone : List Fact) (come : Option Fact) (moment : Moment) : Type 0 where
   pub unreached : IsUnreached n first gone come
-  pub undue : is_timed n ≡ true → IsUndue p n moment
+  pub undue : is_changed_by_clock n ≡ true → IsUndue p n moment
 
 -- the node in a place stands under a moment of the clock until which it is quiet, and under one up to which the floor of its entry point
 -- lets no row come
@@ -64,11 +64,11 @@ pub record IsScheduled (p : Program) (schedule : Schedule) (k : ℕ) (n : NetNod
   pub line : ℕ
   pub timers : EntryTimers
   pub found : slice_get schedule.floors.items line ≡ Some timers
-  pub entry : timers.entry.0 ≡ entry_of n
+  pub entry : timers.entry.0 ≡ entry_point_of n
   pub up_to : Option ℤ
   pub waits : IsSet timers.timers k up_to
   pub still : (floor : ℤ) → IsFrom floor up_to → IsStillAt n.node floor
 
 -- so does each node that time alone may change
 abbrev pub AreScheduled : Program → List NetNode → Schedule → Type 0
-AreScheduled p nodes schedule = (k : ℕ) (n : NetNode) → slice_get nodes k ≡ Some n → is_timed n ≡ true → IsScheduled p schedule k n
+AreScheduled p nodes schedule = (k : ℕ) (n : NetNode) → slice_get nodes k ≡ Some n → is_changed_by_clock n ≡ true → IsScheduled p schedule k n

@@ -20,7 +20,7 @@ pub record IsShaped (nodes : List NetNode) (conditions : ℕ → List Condition)
   pub own : (k : ℕ) (n : NetNode) → slice_get nodes k ≡ Some n → conditions k ≡ before conditions n.parent ++ condition_of n.node ∷ []
 
 -- the last node of the rule with this place is there, and has the conditions of the rule
-pub record EndsAt (nodes : List NetNode) (conditions : ℕ → List Condition) (ends : List ℕ) (place : ℕ) (rule : Rule) : Type 0 where
+pub record EndsRule (nodes : List NetNode) (conditions : ℕ → List Condition) (ends : List ℕ) (place : ℕ) (rule : Rule) : Type 0 where
   pub last : ℕ
   pub node : NetNode
   pub found : slice_get ends place ≡ Some last
@@ -28,8 +28,8 @@ pub record EndsAt (nodes : List NetNode) (conditions : ℕ → List Condition) (
   pub all : conditions last ≡ rule.conditions
 
 -- these are the first conditions of a rule, so many
-abbrev pub IsFront : Program → List Condition → Type 0
-IsFront p conditions = (rule : Rule) × In rule p.rules × (q : ℕ) × (conditions ≡ take q rule.conditions)
+abbrev pub IsRuleFront : Program → List Condition → Type 0
+IsRuleFront p conditions = (rule : Rule) × In rule p.rules × (q : ℕ) × (conditions ≡ take q rule.conditions)
 
 -- no two nodes have the same conditions
 abbrev pub StandOnce : List NetNode → (ℕ → List Condition) → Type 0
@@ -41,9 +41,9 @@ pub record IsNetOf (p : Program) (nodes : List NetNode) (ends : List ℕ) : Type
   pub conditions : ℕ → List Condition
   pub shaped : IsShaped nodes conditions
   pub once : StandOnce nodes conditions
-  pub lasts : (place : ℕ) (rule : Rule) → slice_get p.rules place ≡ Some rule → EndsAt nodes conditions ends place rule
+  pub lasts : (place : ℕ) (rule : Rule) → slice_get p.rules place ≡ Some rule → EndsRule nodes conditions ends place rule
   pub count : length ends ≡ length p.rules
-  pub fronts : (k : ℕ) (n : NetNode) → slice_get nodes k ≡ Some n → IsFront p (conditions k)
+  pub fronts : (k : ℕ) (n : NetNode) → slice_get nodes k ≡ Some n → IsRuleFront p (conditions k)
   pub windows : (k : ℕ) (n : NetNode) → slice_get nodes k ≡ Some n → has_good_window p (pattern_of (condition_of n.node)) ≡ true
 
 -- So many distinct lists are the first conditions, one or more, of some rule of the program: `each` lists them.
@@ -51,5 +51,5 @@ pub record CountsFronts (p : Program) (many : ℕ) : Type 0 where
   pub each : List (List Condition)
   pub number : length each ≡ many
   pub distinct : (j k : ℕ) (conditions : List Condition) → slice_get each j ≡ Some conditions → slice_get each k ≡ Some conditions → j ≡ k
-  pub are_fronts : (conditions : List Condition) → In conditions each → IsFront p conditions × (conditions ≡ [] → ⊥)
-  pub all : (conditions : List Condition) → IsFront p conditions → (conditions ≡ [] → ⊥) → In conditions each
+  pub are_fronts : (conditions : List Condition) → In conditions each → IsRuleFront p conditions × (conditions ≡ [] → ⊥)
+  pub all : (conditions : List Condition) → IsRuleFront p conditions → (conditions ≡ [] → ⊥) → In conditions each

@@ -4,7 +4,7 @@ use Rattle.fx_base.specs.declared.fact.Fact.{Fact}
 use Rattle.row_delta.specs.declared.delta.Delta.{Delta}
 use Rattle.row_delta.specs.declared.row.Named.{Named}
 use Rattle.row_delta.specs.declared.row.Row.{Row}
-use Rattle.row_change.specs.Changes.{Leads, IsDifference, changes_nothing}
+use Rattle.row_change.specs.Changes.{LeadsRows, IsDifference, changes_nothing}
 use Rattle.rule_model.specs.declared.condition.Condition.{Condition}
 use Rattle.rule_model.specs.declared.program.Program.{Program}
 use Rattle.rule_model.specs.Rows.{pattern_of}
@@ -15,7 +15,7 @@ use Rattle.condition_rows.specs.Lines.{line, empty_row}
 use Rattle.condition_rows.specs.Looks.{HasAllOf, NameHeld}
 use Rattle.condition_rows.specs.Sets.{candidates_of}
 use Rattle.pattern_gate.specs.Gates.{has_good_window}
-use Rattle.pattern_gate.specs.Moves.{Moves}
+use Rattle.pattern_gate.specs.Moves.{MovesSnapshot}
 use Rattle.condition_node.specs.Nodes.{condition_of}
 use Rattle.condition_node.specs.Turns.{CountedStay}
 use Rattle.rete_net.specs.declared.changes.RuleChange.{RuleChange}
@@ -44,7 +44,7 @@ left_delta first deltas (Some parent) = delta_at first deltas parent
 -- the forgotten facts; `world` has all versions of both snapshots.
 pub record IsNodeTurn (p : Program) (look : Look) (s next : Snapshot) (gone : List Fact) (come : Option Fact) (condition : Condition) (rows rows_now : Row → Bool) (forgotten : Named → Bool) (left : Delta) : Type 0 where
   pub window : has_good_window p (pattern_of condition) ≡ true
-  pub moves : Moves p s next gone come
+  pub moves : MovesSnapshot p s next gone come
   pub at_hand : HasAllOf look s forgotten
   pub at_hand_now : HasAllOf look next forgotten
   pub world : Look
@@ -52,7 +52,7 @@ pub record IsNodeTurn (p : Program) (look : Look) (s next : Snapshot) (gone : Li
   pub known_now : HasAllOf world next no_names
   pub named : NameHeld s rows
   pub named_now : NameHeld next rows_now
-  pub leads : Leads (cleaned rows forgotten) (cleaned rows_now forgotten) left.gone left.come
+  pub leads : LeadsRows (cleaned rows forgotten) (cleaned rows_now forgotten) left.gone left.come
   pub same : (who : Named) → forgotten who ≡ true → candidates_of p (pattern_of condition) s who ≡ candidates_of p (pattern_of condition) next who
   pub stay : CountedStay condition p world s next rows rows_now forgotten left
 

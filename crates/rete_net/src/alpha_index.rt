@@ -1,7 +1,7 @@
 ghost use Rattle.std.specs.Prelude.{◌≡◌, ℕ, slice_get, OnOk};
 ghost use Rattle.fx_base.specs.declared.fact.Fact.{Fact as FactData};
-ghost use Rattle.rete_net.specs.Indexes.{items_of, IsAsked, IsAskedWhereMeant};
-ghost use Rattle.rete_net.specs.Selectors.{slot_of};
+ghost use Rattle.rete_net.specs.Indexes.{items_of, IsLookedUp, IsAskedWhereMeant};
+ghost use Rattle.rete_net.specs.Selectors.{list_slot_of};
 
 use crate::lists::Lists;
 use crate::selector::{number_of, selector_of};
@@ -41,7 +41,7 @@ impl AlphaIndex {
         pattern: &Pattern,
     ) -> Result<(), NoMemory>
         ensures asked { OnOk result (IsAskedWhereMeant self.new pattern.now place) }
-        ensures kept { OnOk result ((f : FactData) (k : ℕ) → IsAsked self.old f k → IsAsked self.new f k) }
+        ensures kept { OnOk result ((f : FactData) (k : ℕ) → IsLookedUp self.old f k → IsLookedUp self.new f k) }
     {
         let ty = usize::from(pattern.ty.0);
         match selector_of(pattern.alone.as_slice()) {
@@ -68,7 +68,7 @@ impl AlphaIndex {
 
     /// The nodes of a type that are told apart by this value in a field, and perhaps others. It costs the hash. Takes no memory.
     pub(crate) fn constants(&self, ty: TypeId, field: usize, value: &Value) -> &[usize]
-        ensures { result.now ≡ items_of (slice_get self.now.constants.lists.items (slot_of self.now.mask ty.0 field value.now)) }
+        ensures { result.now ≡ items_of (slice_get self.now.constants.lists.items (list_slot_of self.now.mask ty.0 field value.now)) }
     {
         self.constants.list(self.slot(ty, field, value))
     }
@@ -82,7 +82,7 @@ impl AlphaIndex {
 
     // The number of the list for a value in a field of a type.
     fn slot(&self, ty: TypeId, field: usize, value: &Value) -> usize
-        ensures { result ≡ slot_of self.now.mask ty.0 field value.now }
+        ensures { result ≡ list_slot_of self.now.mask ty.0 field value.now }
     {
         (number_of(ty, field, value) & self.mask) as usize
     }

@@ -1,5 +1,5 @@
 ghost use Rattle.std.specs.Prelude.{◌≡◌, ℕ, None, OnOk};
-ghost use Rattle.rete_net.specs.Answers.{answer_in, left_given, some_answer, IsPut};
+ghost use Rattle.rete_net.specs.Answers.{answer_in, left_given, some_answer, IsAnswerPut};
 
 use crate::due::put_all;
 use crate::index::Index;
@@ -57,7 +57,7 @@ impl<D: Drop> Answered<D> {
 
     /// Takes what the node in a place answers, which is not `none`.
     pub(crate) fn put(&mut self, index: &Index, place: usize, answer: D) -> Result<(), NoMemory>
-        ensures { OnOk result (IsPut index.now place answer self.old self.new) }
+        ensures { OnOk result (IsAnswerPut index.now place answer self.old self.new) }
     {
         put_all(&mut self.rules, index.rules(place))?;
         self.answers.insert(place, answer)?;

@@ -6,16 +6,15 @@ ghost use Rattle.rule_model.specs.declared.program.Program.{Program as ProgramDa
 ghost use Rattle.rule_model.specs.Rows.{pattern_of};
 ghost use Rattle.rule_world.specs.Programs.{IsRunnable, has_window};
 ghost use Rattle.rete_net.specs.declared.build.Origin.{Origin as OriginData};
-ghost use Rattle.rete_net.specs.Building.{AreGrown, IsParent};
+ghost use Rattle.rete_net.specs.Building.{AreGrown, IsParentNode};
 ghost use Rattle.rete_net.specs.Owners.{AreOwnedSoFar, PutsOwner};
-ghost use Rattle.rete_net.specs.Shapes.{IsFront};
+ghost use Rattle.rete_net.specs.Shapes.{IsRuleFront};
 ghost use Rattle.rete_net.specs.Steps.{no_change, empty_row_comes};
 
 use crate::node::NetNode;
 use fx_base::{Fact, Facts, NoMemory, RuleId, Seq, Tag};
 use row_delta::{Delta, Row};
 use rule_model::{Condition, Program, Rule};
-use same_condition::Same;
 use std::alloc::Global;
 
 /// The store that holds nothing.
@@ -140,7 +139,7 @@ impl<'p> Builder<'p> {
         ensures { IfOk result (λ last. (all : List (List Condition)) → AreGrown program.now self.old.nodes.items self.old.origins.items all
             → slice_get program.now.rules place.0 ≡ Some rule.now → length rule.now.conditions ≤ 8 → list_all (has_window program.now) rule.now.conditions ≡ true
             → AreOwnedSoFar program.now all self.old.owners.items place.0 [] 0
-            → (more : List (List Condition)) × AreGrown program.now self.new.nodes.items self.new.origins.items (all ++ more) × IsParent (all ++ more) last rule.now.conditions
+            → (more : List (List Condition)) × AreGrown program.now self.new.nodes.items self.new.origins.items (all ++ more) × IsParentNode (all ++ more) last rule.now.conditions
             × AreOwnedSoFar program.now (all ++ more) self.new.owners.items place.0 rule.now.conditions (length rule.now.conditions)) }
     {
         let mut last = None;
@@ -166,7 +165,7 @@ impl<'p> Builder<'p> {
         owner: Owner,
     ) -> Result<usize, NoMemory>
         ensures { IfOk result (λ place. (all : List (List Condition)) (front : List Condition) → AreGrown program.now self.old.nodes.items self.old.origins.items all
-            → IsParent all parent front → IsFront program.now (front ++ condition.now ∷ []) → has_window program.now condition.now ≡ true
+            → IsParentNode all parent front → IsRuleFront program.now (front ++ condition.now ∷ []) → has_window program.now condition.now ≡ true
             → (more : List (List Condition)) × AreGrown program.now self.new.nodes.items self.new.origins.items (all ++ more) × (slice_get (all ++ more) place ≡ Some (front ++ condition.now ∷ []))
             × PutsOwner all more (front ++ condition.now ∷ []) owner self.old.owners.items self.new.owners.items) }
     {

@@ -5,9 +5,9 @@ ghost use Rattle.rule_model.specs.Lent.{lent};
 ghost use Rattle.rule_model.specs.Rows.{pattern_of};
 ghost use Rattle.pattern_gate.specs.Turns.{is_meant};
 ghost use Rattle.condition_node.specs.Nodes.{condition_of};
-ghost use Rattle.rete_net.specs.Indexes.{is_in, is_listed, IsFound, IsUnreached};
-ghost use Rattle.rete_net.specs.Places.{has_place};
-ghost use Rattle.rete_net.specs.Selectors.{slot_of};
+ghost use Rattle.rete_net.specs.Indexes.{is_in, is_listed, IsNodeFound, IsUnreached};
+ghost use Rattle.fan_join.specs.Reaching.{has_place};
+ghost use Rattle.rete_net.specs.Selectors.{list_slot_of};
 ghost use Rattle.rete_net.specs.declared.node.NetNode.{NetNode as NetNodeData};
 
 use crate::alpha_index::AlphaIndex;
@@ -95,7 +95,7 @@ fn put_fact(
     fact: &Fact,
 ) -> Result<(), NoMemory>
     ensures kept { OnOk result ((k : ℕ) → has_place due.old.keys k ≡ true → has_place due.new.keys k ≡ true) }
-    ensures put { OnOk result ((k : ℕ) (n : NetNodeData) → slice_get nodes.now k ≡ Some n → IsFound index.now k n
+    ensures put { OnOk result ((k : ℕ) (n : NetNodeData) → slice_get nodes.now k ≡ Some n → IsNodeFound index.now k n
         → is_meant (pattern_of (condition_of n.node)) fact.now ≡ true → has_place due.new.keys k ≡ true) }
 {
     let alpha = &index.alpha;
@@ -116,7 +116,7 @@ fn put_selected(
 ) -> Result<(), NoMemory>
     ensures kept { OnOk result ((k : ℕ) → has_place due.old.keys k ≡ true → has_place due.new.keys k ≡ true) }
     ensures put { OnOk result ((k : ℕ) (n : NetNodeData) (value : ValueData) → slice_get nodes.now k ≡ Some n → slice_get fact.now.fields field ≡ Some value
-        → is_listed alpha.now.constants (slot_of alpha.now.mask fact.now.ty.0 field value) k ≡ true
+        → is_listed alpha.now.constants (list_slot_of alpha.now.mask fact.now.ty.0 field value) k ≡ true
         → is_meant (pattern_of (condition_of n.node)) fact.now ≡ true → has_place due.new.keys k ≡ true) }
 {
     match fact.fields.as_slice().get(field) {
@@ -133,7 +133,7 @@ fn put_facts(
     facts: &[&Fact],
 ) -> Result<(), NoMemory>
     ensures kept { OnOk result ((k : ℕ) → has_place due.old.keys k ≡ true → has_place due.new.keys k ≡ true) }
-    ensures put { OnOk result ((k : ℕ) (n : NetNodeData) → slice_get nodes.now k ≡ Some n → IsFound index.now k n
+    ensures put { OnOk result ((k : ℕ) (n : NetNodeData) → slice_get nodes.now k ≡ Some n → IsNodeFound index.now k n
         → list_any (is_meant (pattern_of (condition_of n.node))) (lent facts.now) ≡ true → has_place due.new.keys k ≡ true) }
 {
     for fact in facts {
@@ -153,7 +153,7 @@ pub(crate) fn put_reached(
     come: Option<&Fact>,
 ) -> Result<(), NoMemory>
     ensures kept { OnOk result ((k : ℕ) → has_place due.old.keys k ≡ true → has_place due.new.keys k ≡ true) }
-    ensures put { OnOk result ((k : ℕ) (n : NetNodeData) → slice_get nodes.now k ≡ Some n → IsFound index.now k n → has_place due.new.keys k ≡ false
+    ensures put { OnOk result ((k : ℕ) (n : NetNodeData) → slice_get nodes.now k ≡ Some n → IsNodeFound index.now k n → has_place due.new.keys k ≡ false
         → IsUnreached n first.now (lent gone.now) (option_map (λ f. f.now) come.entry)) }
 {
     if !changes_nothing(first) {

@@ -7,7 +7,7 @@ ghost use Rattle.rule_model.specs.Snapshots.{Snapshot};
 ghost use Rattle.condition_rows.specs.Looks.{HasAllOf, NameHeld};
 ghost use Rattle.condition_node.specs.Loading.{AreExtrasBeside};
 ghost use Rattle.condition_node.specs.Nodes.{condition_of, NodeStands};
-ghost use Rattle.image_laws.specs.Extras.{AreExtras};
+ghost use Rattle.laden_rows.specs.Extras.{AreExtras};
 ghost use Rattle.rete_net.specs.declared.build.Owner.{Owner as OwnerData};
 ghost use Rattle.rete_net.specs.declared.node.NetNode.{NetNode as NetNodeData};
 ghost use Rattle.rete_net.specs.Fans.{showing, Member};

@@ -1,11 +1,11 @@
 ghost use Rattle.std.specs.Prelude.{◌≡◌, ◌<◌, ℕ, List, true, false, length, slice_get, None, Some, IfOk, OnOk, IsTrue};
 ghost use Rattle.row_change.specs.Changes.{are_none};
-ghost use Rattle.fan_join.specs.Fans.{delta_of, AreBeside, IsReached, AreRowsTurned as JoinTurned};
+ghost use Rattle.fan_join.specs.Fans.{member_delta, AreBeside, IsReached, AreRowsTurned as JoinTurned};
 ghost use Rattle.rete_net.specs.declared.fans.Fan.{Fan as FanData};
 ghost use Rattle.rete_net.specs.declared.fans.Seat.{Seat as SeatData};
 ghost use Rattle.rete_net.specs.declared.node.NetNode.{NetNode as NetNodeData};
-ghost use Rattle.rete_net.specs.Fans.{half_at, member_of, seat_at, given_span, AreFans, AreNamesTurnedAt, AreRowsTurned, AreWoken, IsHalf, IsLaidAs, IsLeft};
-ghost use Rattle.rete_net.specs.Places.{has_place};
+ghost use Rattle.rete_net.specs.Fans.{half_at, member_of, seat_at, given_span, AreFans, AreNamesTurnedAt, AreFanRowsTurned, AreWoken, IsHalf, IsLaidAs, IsLeft};
+ghost use Rattle.fan_join.specs.Reaching.{has_place};
 ghost use Rattle.rete_net.specs.Steps.{no_change as nothing};
 
 use crate::build::no_change;
@@ -84,7 +84,7 @@ impl Fans {
         facts: &F,
     ) -> Result<(), NoMemory>
         ensures laid { OnOk result (IsLaidAs self.old self.new) }
-        ensures turned { OnOk result ((nodes : List NetNodeData) → AreFans nodes self.old → AreRowsTurned (F.map facts.now) parent gone.now come.now self.old self.new) }
+        ensures turned { OnOk result ((nodes : List NetNodeData) → AreFans nodes self.old → AreFanRowsTurned (F.map facts.now) parent gone.now come.now self.old self.new) }
         ensures woken { OnOk result ((nodes : List NetNodeData) → AreFans nodes self.old → AreWoken parent gone.now come.now self.old self.new due.old.keys due.new.keys) }
     {
         if is_nothing(gone, come) {
@@ -208,8 +208,8 @@ fn is_nothing(gone: &[Row], come: &[Row]) -> bool
 
 // Takes out what has changed for a member; where nothing stands, nothing has. Takes no memory.
 fn taken(halves: &mut BTreeMap<usize, Delta>, alloc: Global, member: usize) -> Delta
-    ensures half { result ≡ delta_of halves.old member }
-    ensures others { (other : ℕ) → (other ≡ member → ⊥) → delta_of halves.new other ≡ delta_of halves.old other }
+    ensures half { result ≡ member_delta halves.old member }
+    ensures others { (other : ℕ) → (other ≡ member → ⊥) → member_delta halves.new other ≡ member_delta halves.old other }
 {
     match halves.remove(&member) {
         Some(half) => half,
@@ -234,7 +234,7 @@ impl Fan {
         ensures reached { OnOk result (self.new.join.reached ≡ self.old.join.reached) }
         ensures turned { IfOk result (λ halves. AreBeside self.old.join → IsReached self.old.join → JoinTurned self.old.join self.new.join (F.map facts.now) gone.now come.now halves) }
         ensures still { OnOk result ((k : ℕ) → has_place due.old.keys k ≡ true → has_place due.new.keys k ≡ true) }
-        ensures woken { IfOk result (λ halves. (m k : ℕ) → slice_get self.old.places.items m ≡ Some k → has_place due.new.keys k ≡ false → delta_of halves m ≡ nothing) }
+        ensures woken { IfOk result (λ halves. (m k : ℕ) → slice_get self.old.places.items m ≡ Some k → has_place due.new.keys k ≡ false → member_delta halves m ≡ nothing) }
     {
         let halves = self.join.turn_rows(alloc, gone, come, facts)?;
         put_members(due, &self.places, &halves)?;
@@ -249,7 +249,7 @@ fn put_members(
     halves: &BTreeMap<usize, Delta>,
 ) -> Result<(), NoMemory>
     ensures still { OnOk result ((k : ℕ) → has_place due.old.keys k ≡ true → has_place due.new.keys k ≡ true) }
-    ensures woken { OnOk result ((m k : ℕ) → slice_get places.now m ≡ Some k → has_place due.new.keys k ≡ false → delta_of halves.now m ≡ nothing) }
+    ensures woken { OnOk result ((m k : ℕ) → slice_get places.now m ≡ Some k → has_place due.new.keys k ≡ false → member_delta halves.now m ≡ nothing) }
 {
     for member in halves.keys() {
         put_member(due, places, *member)?;

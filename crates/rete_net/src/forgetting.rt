@@ -1,9 +1,9 @@
 ghost use Rattle.std.specs.Prelude.{◌≡◌, ℕ, [], false, true, length, Some, slice_get, IfOk, OnOk};
 ghost use Rattle.pair_memory.specs.Joined.{has_name};
-ghost use Rattle.rete_net.specs.Answers.{answer_in, AreRuled, IsPut};
+ghost use Rattle.rete_net.specs.Answers.{answer_in, AreRuled, IsAnswerPut};
 ghost use Rattle.rete_net.specs.Dropped.{rows_for, with_rows, AreDue, AreListed, HasNoOld};
-ghost use Rattle.rete_net.specs.Indexes.{IsFound};
-ghost use Rattle.rete_net.specs.Places.{has_place};
+ghost use Rattle.rete_net.specs.Indexes.{IsNodeFound};
+ghost use Rattle.fan_join.specs.Reaching.{has_place};
 ghost use Rattle.fx_base.specs.declared.fact.Fact.{Fact as FactData};
 ghost use Rattle.rete_net.specs.declared.node.NetNode.{NetNode as NetNodeData};
 
@@ -29,7 +29,7 @@ pub(crate) fn with_old<F: Facts>(
     old: &[Named],
     facts: &F,
 ) -> Result<BTreeSet<usize, Global>, NoMemory>
-    ensures { IfOk result (λ due. (k : ℕ) (n : NetNodeData) → IsFound index.now k n → has_place due.keys k ≡ false → HasNoOld (F.map facts.now) (has_name old.now) n) }
+    ensures { IfOk result (λ due. (k : ℕ) (n : NetNodeData) → IsNodeFound index.now k n → has_place due.keys k ≡ false → HasNoOld (F.map facts.now) (has_name old.now) n) }
 {
     let mut due = BTreeSet::new(alloc);
     let mut types = BTreeSet::new(alloc);
@@ -83,7 +83,7 @@ pub(crate) fn put_dropped(
     place: usize,
     rows: Seq<Row>,
 ) -> Result<(), NoMemory>
-    ensures put { OnOk result (dropped.old.none ≡ [] → IsPut index.now place rows dropped.old dropped.new) }
+    ensures put { OnOk result (dropped.old.none ≡ [] → IsAnswerPut index.now place rows dropped.old dropped.new) }
     ensures nothing { OnOk result (rows ≡ [] → dropped.new ≡ dropped.old) }
 {
     if rows.as_slice().is_empty() {

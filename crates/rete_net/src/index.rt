@@ -1,5 +1,5 @@
 ghost use Rattle.std.specs.Prelude.{◌≡◌, ℕ, Some, true, slice_get, IfOk, OnOk};
-ghost use Rattle.rete_net.specs.Indexes.{is_in, is_listed, items_of, IsFound, IsIndexOf};
+ghost use Rattle.rete_net.specs.Indexes.{is_in, is_listed, items_of, IsNodeFound, IsIndexOf};
 ghost use Rattle.rete_net.specs.declared.node.NetNode.{NetNode as NetNodeData};
 
 use crate::alpha_index::AlphaIndex;
@@ -39,8 +39,8 @@ impl Index {
     }
 
     fn put_node(&mut self, alloc: Global, place: usize, node: &NetNode) -> Result<(), NoMemory>
-        ensures found { OnOk result (IsFound self.new place node.now) }
-        ensures kept { OnOk result ((k : ℕ) (n : NetNodeData) → IsFound self.old k n → IsFound self.new k n) }
+        ensures found { OnOk result (IsNodeFound self.new place node.now) }
+        ensures kept { OnOk result ((k : ℕ) (n : NetNodeData) → IsNodeFound self.old k n → IsNodeFound self.new k n) }
     {
         self.by_type.put(alloc, usize::from(node.ty().0), place)?;
         self.alpha.put(alloc, place, node.pattern())?;
@@ -52,7 +52,7 @@ impl Index {
     }
 
     fn put_rule(&mut self, alloc: Global, rule: usize, end: usize) -> Result<(), NoMemory>
-        ensures nodes { OnOk result ((k : ℕ) (n : NetNodeData) → IsFound self.old k n → IsFound self.new k n) }
+        ensures nodes { OnOk result ((k : ℕ) (n : NetNodeData) → IsNodeFound self.old k n → IsNodeFound self.new k n) }
         ensures rule { OnOk result (is_listed self.new.rules end rule ≡ true) }
         ensures kept { OnOk result ((e r : ℕ) → is_listed self.old.rules e r ≡ true → is_listed self.new.rules e r ≡ true) }
     {

@@ -10,17 +10,17 @@ ghost use Rattle.rule_model.specs.declared.program.Rule.{Rule};
 ghost use Rattle.rule_model.specs.Distinct.{HaveDistinctTags};
 ghost use Rattle.rule_model.specs.Snapshots.{Snapshot};
 ghost use Rattle.rete_net.specs.declared.net.Rete.{Rete};
-ghost use Rattle.rete_net.specs.Forgetting.{IsUnmissed, less_fact};
+ghost use Rattle.rete_net.specs.Forgetting.{IsUnmissed, snapshot_without};
 ghost use Rattle.rete_net.specs.Nets.{NetStands, clean_rows};
 
 /// A forgotten fact that no rule misses may go from the snapshot: the network as it is stands for what is left.
 pub fn a_forgotten_fact_may_go()
     ensures { (p : Program) (net : Rete) (s : Snapshot) (forgotten : Named → Bool) (f : Fact) → NetStands p net s forgotten → IsUnmissed p s forgotten f
-        → NetStands p net (less_fact s f) forgotten }
+        → NetStands p net (snapshot_without s f) forgotten }
 {}
 
 /// And of its rows each rule keeps those that name no forgotten fact.
 pub fn no_clean_row_misses_a_forgotten_fact()
     ensures { (p : Program) (s : Snapshot) (forgotten : Named → Bool) (f : Fact) → HaveDistinctTags s.facts → IsUnmissed p s forgotten f
-        → (rule : Rule) → In rule p.rules → (row : Row) → has (clean_rows p (less_fact s f) forgotten rule) row ≡ has (clean_rows p s forgotten rule) row }
+        → (rule : Rule) → In rule p.rules → (row : Row) → has (clean_rows p (snapshot_without s f) forgotten rule) row ≡ has (clean_rows p s forgotten rule) row }
 {}

@@ -7,7 +7,6 @@ mod alpha_index;
 mod answered;
 mod build;
 mod changes;
-mod copying;
 mod due;
 mod extras;
 mod fans;

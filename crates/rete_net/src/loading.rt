@@ -7,7 +7,7 @@ ghost use Rattle.row_delta.specs.Rows.{has, InOrder};
 ghost use Rattle.rule_model.specs.Lent.{lent};
 ghost use Rattle.condition_node.specs.Nodes.{condition_of};
 ghost use Rattle.rete_net.specs.Indexes.{type_of};
-ghost use Rattle.rete_net.specs.Loads.{is_of, NodeLoad};
+ghost use Rattle.rete_net.specs.Loads.{is_fact_of_type, NodeLoad};
 
 use crate::load::LoadFault;
 use crate::node::NetNode;
@@ -43,7 +43,7 @@ impl NetNode {
     ) -> Result<Delta, LoadFault>
         ensures parent { OnOk result (self.new.parent ≡ self.old.parent) }
         ensures condition { OnOk result (condition_of self.new.node ≡ condition_of self.old.node) }
-        ensures loads { IfOk result (λ delta. (kept : List FactData) → lent theirs.now ≡ filter (is_of (type_of self.old)) kept → NodeLoad program.now (F.map facts.now) kept extras.now moment.now self.old self.new rows.now delta) }
+        ensures loads { IfOk result (λ delta. (kept : List FactData) → lent theirs.now ≡ filter (is_fact_of_type (type_of self.old)) kept → NodeLoad program.now (F.map facts.now) kept extras.now moment.now self.old self.new rows.now delta) }
         ensures there { OnOk result (InOrder rows.now → (e : ExtraData) → In e extras.now → has rows.now e.row ≡ true) }
         ensures no_row { IsErrOf result LoadFault.NoRow → InOrder rows.now → (e : ExtraData) × In e extras.now × (has rows.now e.row ≡ false) }
     {

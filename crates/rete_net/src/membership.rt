@@ -9,11 +9,11 @@ ghost use Rattle.rule_model.specs.declared.program.Program.{Program as ProgramDa
 ghost use Rattle.rule_model.specs.Lent.{lent};
 ghost use Rattle.condition_node.specs.Nodes.{condition_of};
 ghost use Rattle.rete_net.specs.declared.fans.Seat.{Seat as SeatData};
-ghost use Rattle.rete_net.specs.Fans.{half_at, half_of, member_at, member_of, seat_at, showing, IsHalf, IsLaidAs, IsLeft, IsOf, Member};
+ghost use Rattle.rete_net.specs.Fans.{half_at, half_of, member_at, member_of, seat_at, showing, IsHalf, IsLaidAs, IsLeft, IsOfSeat, Member};
 ghost use Rattle.pair_memory.specs.Joined.{has_name};
 ghost use Rattle.rete_net.specs.Dropped.{NodeForgets};
 ghost use Rattle.rete_net.specs.Indexes.{type_of};
-ghost use Rattle.rete_net.specs.Loads.{is_of, NodeLoad};
+ghost use Rattle.rete_net.specs.Loads.{is_fact_of_type, NodeLoad};
 ghost use Rattle.rete_net.specs.Steps.{NodeStep};
 
 use crate::fans::{Fans, Seat};
@@ -54,7 +54,7 @@ impl NetNode {
         ensures condition { OnOk result (condition_of self.new.node ≡ condition_of self.old.node) }
         ensures laid { OnOk result (IsLaidAs fans.old fans.new) }
         ensures others { OnOk result ((seat : SeatData) → (seat_at fans.old.seats.items place ≡ Some seat → ⊥) → IsLeft fans.old fans.new seat) }
-        ensures step { IfOk result (λ delta. (was : Option Member) → IsOf self.old fans.old.list.items (seat_at fans.old.seats.items place)
+        ensures step { IfOk result (λ delta. (was : Option Member) → IsOfSeat self.old fans.old.list.items (seat_at fans.old.seats.items place)
             → IsHalf (F.map facts.now) left.now.gone left.now.come was (member_at fans.old place) (half_of fans.old (seat_at fans.old.seats.items place))
             → NodeStep happening.now.program.now (F.map facts.now) (lent happening.now.gone.now) (option_map (λ f. f.now) happening.now.come) happening.now.moment.now
             (showing was self.old) (showing (member_at fans.new place) self.new) left.now delta) }
@@ -94,7 +94,7 @@ impl NetNode {
         ensures condition { OnOk result (condition_of self.new.node ≡ condition_of self.old.node) }
         ensures laid { OnOk result (IsLaidAs fans.old fans.new) }
         ensures others { OnOk result ((other : SeatData) → (other ≡ seat → ⊥) → IsLeft fans.old fans.new other) }
-        ensures step { IfOk result (λ delta. (was : Option Member) (left : DeltaData) → IsOf self.old fans.old.list.items (Some seat)
+        ensures step { IfOk result (λ delta. (was : Option Member) (left : DeltaData) → IsOfSeat self.old fans.old.list.items (Some seat)
             → IsHalf (F.map facts.now) left.gone left.come was (member_of fans.old.list.items (Some seat)) half
             → NodeStep happening.now.program.now (F.map facts.now) (lent happening.now.gone.now) (option_map (λ f. f.now) happening.now.come) happening.now.moment.now
             (showing was self.old) (showing (member_of fans.new.list.items (Some seat)) self.new) left delta) }
@@ -137,7 +137,7 @@ impl NetNode {
         ensures condition { OnOk result (condition_of self.new.node ≡ condition_of self.old.node) }
         ensures laid { OnOk result (IsLaidAs fans.old fans.new) }
         ensures others { OnOk result ((seat : SeatData) → (seat_at fans.old.seats.items place ≡ Some seat → ⊥) → IsLeft fans.old fans.new seat) }
-        ensures forgets { IfOk result (λ gone. (was : Option Member) → IsOf self.old fans.old.list.items (seat_at fans.old.seats.items place)
+        ensures forgets { IfOk result (λ gone. (was : Option Member) → IsOfSeat self.old fans.old.list.items (seat_at fans.old.seats.items place)
             → IsHalf (F.map facts.now) rows.now [] was (member_at fans.old place) (half_of fans.old (seat_at fans.old.seats.items place))
             → NodeForgets program.now (F.map facts.now) (has_name old.now) (showing was self.old) (showing (member_at fans.new place) self.new) rows.now gone) }
     {
@@ -168,7 +168,7 @@ impl NetNode {
         ensures condition { OnOk result (condition_of self.new.node ≡ condition_of self.old.node) }
         ensures laid { OnOk result (IsLaidAs fans.old fans.new) }
         ensures others { OnOk result ((seat : SeatData) → (seat_at fans.old.seats.items place ≡ Some seat → ⊥) → IsLeft fans.old fans.new seat) }
-        ensures loads { IfOk result (λ delta. (was : Option Member) (kept : List FactData) → lent given.now.theirs.now ≡ filter (is_of (type_of self.old)) kept → IsOf self.old fans.old.list.items (seat_at fans.old.seats.items place)
+        ensures loads { IfOk result (λ delta. (was : Option Member) (kept : List FactData) → lent given.now.theirs.now ≡ filter (is_fact_of_type (type_of self.old)) kept → IsOfSeat self.old fans.old.list.items (seat_at fans.old.seats.items place)
             → IsHalf (F.map facts.now) [] given.now.rows.now was (member_at fans.old place) (half_of fans.old (seat_at fans.old.seats.items place))
             → NodeLoad program.now (F.map facts.now) kept given.now.extras.now given.now.moment.now (showing was self.old) (showing (member_at fans.new place) self.new) given.now.rows.now delta) }
         ensures there { OnOk result (InOrder given.now.rows.now → (e : ExtraData) → In e given.now.extras.now → has given.now.rows.now e.row ≡ true) }
@@ -209,7 +209,7 @@ impl NetNode {
         ensures condition { OnOk result (condition_of self.new.node ≡ condition_of self.old.node) }
         ensures laid { OnOk result (IsLaidAs fans.old fans.new) }
         ensures others { OnOk result ((other : SeatData) → (other ≡ seat → ⊥) → IsLeft fans.old fans.new other) }
-        ensures loads { IfOk result (λ delta. (p : ProgramData) (was : Option Member) (kept : List FactData) → lent given.now.theirs.now ≡ filter (is_of (type_of self.old)) kept → IsOf self.old fans.old.list.items (Some seat)
+        ensures loads { IfOk result (λ delta. (p : ProgramData) (was : Option Member) (kept : List FactData) → lent given.now.theirs.now ≡ filter (is_fact_of_type (type_of self.old)) kept → IsOfSeat self.old fans.old.list.items (Some seat)
             → IsHalf (F.map facts.now) [] given.now.rows.now was (member_of fans.old.list.items (Some seat)) half
             → NodeLoad p (F.map facts.now) kept given.now.extras.now given.now.moment.now (showing was self.old) (showing (member_of fans.new.list.items (Some seat)) self.new) given.now.rows.now delta) }
         ensures there { OnOk result (InOrder given.now.rows.now → (e : ExtraData) → In e given.now.extras.now → has given.now.rows.now e.row ≡ true) }

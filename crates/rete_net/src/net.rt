@@ -14,7 +14,7 @@ ghost use Rattle.pair_memory.specs.Joined.{has_name};
 ghost use Rattle.pair_memory.specs.Standing.{cleaned, either};
 ghost use Rattle.condition_rows.specs.Looks.{empty_snapshot, HasAllOf};
 ghost use Rattle.condition_rows.specs.Sets.{rows_of};
-ghost use Rattle.pattern_gate.specs.Moves.{IsOrderly, Moves, at_clock};
+ghost use Rattle.pattern_gate.specs.Moves.{IsOrderly, MovesSnapshot, at_clock};
 ghost use Rattle.condition_node.specs.Quiet.{IsBefore};
 ghost use Rattle.rete_net.specs.declared.changes.RuleChange.{RuleChange as RuleChangeData};
 ghost use Rattle.rete_net.specs.Dropped.{AreDropped, AreListed, HaveForgotten};
@@ -22,7 +22,7 @@ ghost use Rattle.rete_net.specs.Fans.{AreFans, IsLaidAs, shown_nodes};
 ghost use Rattle.rete_net.specs.Forgetting.{AreNotNeeded};
 ghost use Rattle.rete_net.specs.Indexes.{IsIndexOf};
 ghost use Rattle.rete_net.specs.Nets.{NetStands, clean_rows, AreBetween};
-ghost use Rattle.rete_net.specs.Building.{AreBuilt, AreDistinct, AreFronts, HaveEnds};
+ghost use Rattle.rete_net.specs.Building.{AreBuilt, AreDistinctFronts, AreFronts, HaveEnds};
 ghost use Rattle.rete_net.specs.Owners.{AreOwnedSoFar};
 ghost use Rattle.rete_net.specs.Quiet.{AreQuiet};
 ghost use Rattle.rete_net.specs.Schedules.{AreScheduled};
@@ -100,12 +100,12 @@ impl Rete {
         facts: &F,
     ) -> Result<Vec<RuleChange>, NoMemory>
         ensures stands { OnOk result ((s next : Snapshot) (forgotten : NamedData → Bool) → IsRunnable program.now → NetStands program.now self.old s forgotten
-            → Moves program.now s next (lent gone.now) (option_map (λ f. f.now) come.entry) → IsAt next moment.now
+            → MovesSnapshot program.now s next (lent gone.now) (option_map (λ f. f.now) come.entry) → IsAt next moment.now
             → AreNotNeeded program.now forgotten s next (lent gone.now) (option_map (λ f. f.now) come.entry)
             → HasAllOf (F.map facts.now) s forgotten → HasAllOf (F.map facts.now) next forgotten
             → NetStands program.now self.new next forgotten) }
         ensures differences { IfOk result (λ changes. (s next : Snapshot) (forgotten : NamedData → Bool) → IsRunnable program.now → NetStands program.now self.old s forgotten
-            → Moves program.now s next (lent gone.now) (option_map (λ f. f.now) come.entry) → IsAt next moment.now
+            → MovesSnapshot program.now s next (lent gone.now) (option_map (λ f. f.now) come.entry) → IsAt next moment.now
             → AreNotNeeded program.now forgotten s next (lent gone.now) (option_map (λ f. f.now) come.entry)
             → HasAllOf (F.map facts.now) s forgotten → HasAllOf (F.map facts.now) next forgotten
             → AreBetween program.now (clean_rows program.now s forgotten) (clean_rows program.now next forgotten) changes.items) }
@@ -168,7 +168,7 @@ impl Rete {
         ensures scheduled { IfOk result (λ net. AreScheduled program.now net.nodes.items net.schedule) }
         ensures count { IfOk result (λ net. length net.ends.items ≡ length program.now.rules) }
         ensures built { IfOk result (λ net. IsRunnable program.now → (all : List (List Condition)) × AreBuilt program.now (shown_nodes net) all × HaveEnds all net.ends.items program.now.rules (length program.now.rules)
-            × AreFronts program.now all × AreDistinct all × (length net.ends.items ≡ length program.now.rules)
+            × AreFronts program.now all × AreDistinctFronts all × (length net.ends.items ≡ length program.now.rules)
             × AreOwnedSoFar program.now all net.owners.items (length program.now.rules) [] 0) }
     {
         let mut builder = Builder::new(alloc);

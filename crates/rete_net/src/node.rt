@@ -18,10 +18,10 @@ ghost use Rattle.condition_node.specs.Nodes.{condition_of, is_negated, NodeStand
 ghost use Rattle.condition_node.specs.Quiet.{IsBefore};
 ghost use Rattle.rete_net.specs.Dropped.{NodeForgets};
 ghost use Rattle.rete_net.specs.Fans.{showing, with_member, Member};
-ghost use Rattle.rete_net.specs.Indexes.{is_timed, type_of};
+ghost use Rattle.rete_net.specs.Indexes.{is_changed_by_clock, type_of};
 ghost use Rattle.rete_net.specs.Standing.{IsFresh};
 ghost use Rattle.rete_net.specs.Quiet.{IsNodeQuiet};
-ghost use Rattle.rete_net.specs.Schedules.{entry_of, IsGateStill, IsStillAt};
+ghost use Rattle.rete_net.specs.Schedules.{entry_point_of, IsGateStill, IsStillAt};
 ghost use Rattle.rete_net.specs.Timers.{IsFrom};
 ghost use Rattle.rete_net.specs.Steps.{no_change, NodeStep};
 
@@ -137,14 +137,14 @@ impl NetNode {
 
     /// The entry point of its candidates. Takes no memory.
     pub(crate) fn entry(&self) -> EntryId
-        ensures { result.0 ≡ entry_of self.now }
+        ensures { result.0 ≡ entry_point_of self.now }
     {
         self.node.pattern().entry
     }
 
     /// Whether time alone may change something here: a `not` waits, and candidates leave a window. Takes no memory.
     pub(crate) fn is_timed(&self) -> bool
-        ensures { result ≡ is_timed self.now }
+        ensures { result ≡ is_changed_by_clock self.now }
     {
         is_not(&self.node) || !self.node.pattern().window.is_whole()
     }

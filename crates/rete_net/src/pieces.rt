@@ -5,9 +5,9 @@ ghost use Rattle.fx_base.specs.Lists.{In};
 ghost use Rattle.row_delta.specs.declared.extra.Extra.{Extra as ExtraData};
 ghost use Rattle.row_delta.specs.Rows.{has, InOrder};
 ghost use Rattle.rule_model.specs.Lent.{lent};
-ghost use Rattle.image_laws.specs.Extras.{extra_cmp};
+ghost use Rattle.laden_rows.specs.Extras.{extra_cmp};
 ghost use Rattle.rete_net.specs.declared.build.Owner.{Owner as OwnerData};
-ghost use Rattle.rete_net.specs.Loads.{is_of, is_under, comes_before, facts_at};
+ghost use Rattle.rete_net.specs.Loads.{is_fact_of_type, is_extra_under, comes_before, grouped_facts_at};
 
 use crate::build::Owner;
 use fx_base::{Fact, NoMemory, TypeId};
@@ -17,7 +17,7 @@ use std::alloc::Global;
 // Puts empty lists at the end until there is one of this number.
 fn reach<'f>(groups: &mut Vec<Vec<&'f Fact>>, alloc: Global, number: usize) -> Result<(), NoMemory>
     ensures reached { OnOk result (number < length groups.new.items) }
-    ensures kept { OnOk result ((ty : ℕ) → facts_at groups.new.items ty ≡ facts_at groups.old.items ty) }
+    ensures kept { OnOk result ((ty : ℕ) → grouped_facts_at groups.new.items ty ≡ grouped_facts_at groups.old.items ty) }
 {
     'reach: while groups.len() <= number {
         groups.push(Vec::new(alloc))?;
@@ -31,7 +31,7 @@ fn put_fact<'f>(
     alloc: Global,
     fact: &'f Fact,
 ) -> Result<(), NoMemory>
-    ensures { OnOk result ((ty : ℕ) → facts_at groups.new.items ty ≡ facts_at groups.old.items ty ++ cond (is_of ty fact.now) (fact.now ∷ []) []) }
+    ensures { OnOk result ((ty : ℕ) → grouped_facts_at groups.new.items ty ≡ grouped_facts_at groups.old.items ty ++ cond (is_fact_of_type ty fact.now) (fact.now ∷ []) []) }
 {
     let number = usize::from(fact.ty.0);
     reach(groups, alloc, number)?;
@@ -41,7 +41,7 @@ fn put_fact<'f>(
 
 /// The facts by the numbers of their types, those of a type in their order. It costs the facts and the types.
 pub(crate) fn by_type<'f>(alloc: Global, kept: &[&'f Fact]) -> Result<Vec<Vec<&'f Fact>>, NoMemory>
-    ensures { IfOk result (λ groups. (ty : ℕ) → facts_at groups.items ty ≡ filter (is_of ty) (lent kept.now)) }
+    ensures { IfOk result (λ groups. (ty : ℕ) → grouped_facts_at groups.items ty ≡ filter (is_fact_of_type ty) (lent kept.now)) }
 {
     let mut groups = Vec::new(alloc);
     for fact in kept {
@@ -56,7 +56,7 @@ pub(crate) fn of_type<'g, 'f>(
     none: &'g [&'f Fact],
     ty: TypeId,
 ) -> &'g [&'f Fact]
-    ensures { none.now ≡ [] → lent result.now ≡ facts_at groups.now ty.0 }
+    ensures { none.now ≡ [] → lent result.now ≡ grouped_facts_at groups.now ty.0 }
 {
     match groups.get(usize::from(ty.0)) {
         Some(facts) => facts.as_slice(),
@@ -95,7 +95,7 @@ fn count_before(extras: &[Extra], owner: Owner, under: bool) -> usize
 
 // The extras under an owner, of extras in their order. It costs the logarithm of their number.
 fn extras_under(extras: &[Extra], owner: Owner) -> &[Extra]
-    ensures { IsStrictlySortedBy extra_cmp extras.now → result.now ≡ filter (is_under owner) extras.now }
+    ensures { IsStrictlySortedBy extra_cmp extras.now → result.now ≡ filter (is_extra_under owner) extras.now }
 {
     let from = &extras[count_before(extras, owner, false)..];
     &from[..count_before(from, owner, true)]
@@ -103,7 +103,7 @@ fn extras_under(extras: &[Extra], owner: Owner) -> &[Extra]
 
 /// The extras under the owner in a place, of extras in their order. It costs the logarithm of their number.
 pub(crate) fn extras_of<'e>(extras: &'e [Extra], owners: &[Owner], place: usize) -> &'e [Extra]
-    ensures { IsStrictlySortedBy extra_cmp extras.now → (o : OwnerData) → slice_get owners.now place ≡ Some o → result.now ≡ filter (is_under o) extras.now }
+    ensures { IsStrictlySortedBy extra_cmp extras.now → (o : OwnerData) → slice_get owners.now place ≡ Some o → result.now ≡ filter (is_extra_under o) extras.now }
 {
     match owners.get(place) {
         Some(owner) => extras_under(extras, *owner),

@@ -2,8 +2,8 @@ ghost use Rattle.std.specs.Prelude.{◌≡◌, ◌+ℤ◌, pos, ℕ, ℤ, Option
 ghost use Rattle.rule_model.specs.declared.program.Program.{Program as ProgramData};
 ghost use Rattle.rule_model.specs.Moments.{snapshot_at};
 ghost use Rattle.rule_model.specs.Snapshots.{floor};
-ghost use Rattle.rete_net.specs.Indexes.{is_timed};
-ghost use Rattle.rete_net.specs.Places.{has_place};
+ghost use Rattle.rete_net.specs.Indexes.{is_changed_by_clock};
+ghost use Rattle.fan_join.specs.Reaching.{has_place};
 ghost use Rattle.rete_net.specs.Quiet.{IsNodeQuiet};
 ghost use Rattle.rete_net.specs.Schedules.{AreScheduled, IsScheduled, IsUndue};
 ghost use Rattle.rete_net.specs.Timers.{IsFrom, IsSet};
@@ -90,7 +90,7 @@ impl Schedule {
         place: usize,
         node: &NetNode,
     ) -> Result<(), NoMemory>
-        ensures put { OnOk result (is_timed node.now ≡ true → IsScheduled program.now self.new place node.now) }
+        ensures put { OnOk result (is_changed_by_clock node.now ≡ true → IsScheduled program.now self.new place node.now) }
         ensures others { OnOk result ((p : ProgramData) (k : ℕ) (n : NetNodeData) → (k ≡ place → ⊥) → IsScheduled p self.old k n → IsScheduled p self.new k n) }
     {
         if !node.is_timed() {

@@ -8,12 +8,11 @@ ghost use Rattle.rete_net.specs.Fans.{seat_at, AreEmpty, AreFans, AreLoneFound};
 ghost use Rattle.rete_net.specs.Indexes.{is_listed};
 ghost use Rattle.rete_net.specs.Seating.{AreGrowing, GrowsTo, IsFanPut, IsFanWith, IsNewFan};
 
-use crate::copying::Copied;
 use crate::fans::{Fan, Fans, Seat, Span, seat_in};
 use crate::lists::Lists;
 use crate::node::NetNode;
 use fan_join::FanJoin;
-use fx_base::NoMemory;
+use fx_base::{Copies, NoMemory};
 use join_tests::RowKey;
 use rule_model::Pattern;
 use std::alloc::Global;
@@ -129,6 +128,7 @@ impl Fans {
     {
         let mut seats = Vec::with_capacity(alloc, nodes)?;
         for place in 0..nodes {
+            // (read, so that its range is known)
             let _ = place;
             seats.push(None)?;
         }
@@ -295,7 +295,7 @@ impl Fan {
         requires { row_key pattern.now ≡ self.now.join.left.key }
         ensures { OnOk result (IsFanPut self.old self.new place pattern.now) }
     {
-        let copy = pattern.copied(alloc)?;
+        let copy = pattern.copy(alloc)?;
         self.join.put(alloc, copy)?;
         self.places.push(place)?;
         Ok(())

@@ -4,7 +4,7 @@ ghost use Rattle.fx_base.specs.declared.value.Value.{Value as ValueData};
 ghost use Rattle.rule_model.specs.Tests.{compare_holds, compares_hold, related, tests_hold};
 ghost use Rattle.rule_model.specs.Tuples.{unbound};
 ghost use Rattle.join_tests.specs.Keys.{writes};
-ghost use Rattle.rete_net.specs.Selectors.{choices_hold, number_of, Tells};
+ghost use Rattle.rete_net.specs.Selectors.{choices_hold, value_hash, TellsValue};
 
 use fx_base::{Seq, TypeId, Value};
 use rule_model::{Compare, RelTag, Side, Test};
@@ -19,7 +19,7 @@ pub(crate) struct Selector<'p> {
 
 /// The first equality of a field with a literal that each fact has which passes these tests. Takes no memory.
 pub(crate) fn selector_of(tests: &[Test]) -> Option<Selector>
-    ensures { IfSome result (λ s. Tells (λ f. tests_hold unbound f tests.now) s.field s.value.now) }
+    ensures { IfSome result (λ s. TellsValue (λ f. tests_hold unbound f tests.now) s.field s.value.now) }
 {
     for test in tests {
         if let Some(selector) = of_choices(test.choices.as_slice()) {
@@ -31,7 +31,7 @@ pub(crate) fn selector_of(tests: &[Test]) -> Option<Selector>
 
 // That of the comparisons of a single choice.
 fn of_choices(choices: &[Seq<Compare>]) -> Option<Selector>
-    ensures { IfSome result (λ s. Tells (λ f. choices_hold f choices.now) s.field s.value.now) }
+    ensures { IfSome result (λ s. TellsValue (λ f. choices_hold f choices.now) s.field s.value.now) }
 {
     match choices {
         [choice] => of_compares(choice.as_slice()),
@@ -41,7 +41,7 @@ fn of_choices(choices: &[Seq<Compare>]) -> Option<Selector>
 
 // That of comparisons that all hold.
 fn of_compares(compares: &[Compare]) -> Option<Selector>
-    ensures { IfSome result (λ s. Tells (λ f. compares_hold unbound f compares.now) s.field s.value.now) }
+    ensures { IfSome result (λ s. TellsValue (λ f. compares_hold unbound f compares.now) s.field s.value.now) }
 {
     for compare in compares {
         if let Some(selector) = of_compare(compare) {
@@ -53,7 +53,7 @@ fn of_compares(compares: &[Compare]) -> Option<Selector>
 
 // That of one comparison: an equality with a literal.
 fn of_compare(compare: &Compare) -> Option<Selector>
-    ensures { IfSome result (λ s. Tells (λ f. compare_holds unbound f compare.now) s.field s.value.now) }
+    ensures { IfSome result (λ s. TellsValue (λ f. compare_holds unbound f compare.now) s.field s.value.now) }
 {
     if !is_equality(compare.rel) {
         return None;
@@ -83,7 +83,7 @@ fn is_equality(rel: RelTag) -> bool
 
 /// The hash of a value in a field of a type. Takes no memory.
 pub(crate) fn number_of(ty: TypeId, field: usize, value: &Value) -> u64
-    ensures { result ≡ number_of ty.0 field value.now }
+    ensures { result ≡ value_hash ty.0 field value.now }
 {
     let mut state = FoldHasher::default();
     ty.0.hash(&mut state);

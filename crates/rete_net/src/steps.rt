@@ -1,6 +1,6 @@
 ghost use Rattle.std.specs.Prelude.{◌≡◌, true, OnOk};
 ghost use Rattle.row_change.specs.Changes.{changes_nothing};
-ghost use Rattle.rete_net.specs.Answers.{IsPut};
+ghost use Rattle.rete_net.specs.Answers.{IsAnswerPut};
 ghost use Rattle.rete_net.specs.Steps.{no_change};
 
 use crate::answered::Answered;
@@ -16,7 +16,7 @@ pub(crate) fn put_delta(
     place: usize,
     delta: Delta,
 ) -> Result<(), NoMemory>
-    ensures put { OnOk result (answered.old.none ≡ no_change → IsPut index.now place delta answered.old answered.new) }
+    ensures put { OnOk result (answered.old.none ≡ no_change → IsAnswerPut index.now place delta answered.old answered.new) }
     ensures nothing { OnOk result (changes_nothing delta ≡ true → answered.new ≡ answered.old) }
 {
     if changes_nothing(&delta) {

@@ -1,7 +1,10 @@
 -- What a retention covers as events are held and released.
-use Rattle.retention.proofs.Common.{◌≡◌, ℕ, ℤ, ◌≤ℤ◌, ◌==◌, ◌&&◌, Bool, true, false, cond, not, refl, sym, ◌∙◌, ap, arith, Option, Some, None, nat_cmp, eq_by_cmp, nat_tests, Decides-eqb, nat_cmp_total, ints, has_come, has_tag, lingers, with_end, without, NewLaw, LaterLaw, HoldLaw, ReleaseLaw, SameCovered, SameWatched}
+use Rattle.retention.proofs.Common.{◌≡◌, ℕ, ℤ, ◌≤ℤ◌, ◌==◌, ◌&&◌, Bool, true, false, cond, not, refl, sym, ◌∙◌, ap, arith, Option, Some, None, nat_cmp}
+use Rattle.retention.proofs.Common.{Decides-eqb, nat_cmp_total, ints, has_come, has_listed_tag, lingers, with_end, without, NewLaw, LaterLaw, HoldLaw}
+use Rattle.retention.proofs.Common.{ReleaseLaw, SameCovered, SameWatched}
 use Rattle.std.specs.Prelude.{int_le}
 use Rattle.std.specs.BTreeSet.{BTreeSet}
+use Rattle.fx_base.proofs.Orders.{eq_by_nat_cmp}
 use Rattle.std.specs.FinMap as map
 
 pub new_law : NewLaw
@@ -24,9 +27,6 @@ later_law ends was now named r le watches = record {
   past = λ tag is. come_later was now (ends tag) le (sym (watches.lingering tag) ∙ is);
 }
 
-tie : (a b : ℕ) → eq_by_cmp nat_cmp a b ≡ (a == b)
-tie a b = grind (arith, nat_tests)
-
 -- an event that is not there lingers nowhere
 not_lingering : (clock : ℤ) (l : Bool) (o : Option ℤ) → (l ≡ true → has_come clock o ≡ true) → o ≡ None → l ≡ false
 not_lingering clock true o past is = let e : false ≡ true = sym (ap (has_come clock) is) ∙ past refl in cc
@@ -42,14 +42,14 @@ held_past clock false l at o e past is = past is
 
 pub hold_law : HoldLaw
 hold_law ends now at tag before after covers new due same =
-    let lingering : (other : ℕ) → lingers after other ≡ lingers before other = λ other. ap (λ (s : BTreeSet ℕ). has_tag s.keys other) same in
+    let lingering : (other : ℕ) → lingers after other ≡ lingers before other = λ other. ap (λ (s : BTreeSet ℕ). has_listed_tag s.keys other) same in
     let free : lingers before tag ≡ false = not_lingering now (lingers before tag) (ends tag) (covers.past tag) new in
     let here : (other : ℕ) → (other == tag) ≡ true → lingers before other ≡ false = λ other e. ap (lingers before) ((Decides-eqb other tag).0 e) ∙ free in (
       covers.due tag ∙ ap (λ t. cond t None (ends tag)) free ∙ new,
       record {
         due = λ other.
             ap (λ m. map.get m other) due ∙ map.get-insert nat_cmp_total before.due tag at other
-            ∙ ap (λ t. cond t (Some at) (map.get before.due other)) (tie other tag)
+            ∙ ap (λ t. cond t (Some at) (map.get before.due other)) (eq_by_nat_cmp other tag)
             ∙ ap (λ o. cond (other == tag) (Some at) o) (covers.due other)
             ∙ held_due (other == tag) (lingers before other) at (ends other) (here other)
             ∙ ap (λ t. cond t None (with_end ends tag at other)) (sym (lingering other));
@@ -73,7 +73,7 @@ pub release_law : ReleaseLaw
 release_law ends now tag before after covers due lingering = record {
   due = λ other.
       ap (λ m. map.get m other) due ∙ map.get-remove nat_cmp_total before.due tag other
-      ∙ ap (λ t. cond t None (map.get before.due other)) (tie other tag)
+      ∙ ap (λ t. cond t None (map.get before.due other)) (eq_by_nat_cmp other tag)
       ∙ ap (λ o. cond (other == tag) None o) (covers.due other)
       ∙ released_due (other == tag) (lingers before other) (ends other)
       ∙ ap (λ t. cond t None (without ends (λ x. x == tag) other)) (sym (lingering other));

@@ -1,5 +1,6 @@
 -- A tag that a match named which has stopped pending.
-use Rattle.retention.proofs.Common.{◌≡◌, ◌||◌, Bool, true, false, List, [], ◌∷◌, refl, sym, ◌∙◌, ap, list_any, eq_by_cmp, or_parts, or_right, eq_by_cmp_equiv, LeftLaw}
+use Rattle.retention.proofs.Common.{◌≡◌, ◌||◌, Bool, true, false, List, [], ◌∷◌, refl, sym, ◌∙◌, ap, list_any, eq_by_cmp, or_parts, or_right, eq_by_cmp_equiv}
+use Rattle.retention.proofs.Common.{TagsLeftLaw}
 use Rattle.rule_model.specs.declared.matched.Match.{Match}
 use Rattle.rule_model.specs.Matches.{match_cmp, has_match}
 use Rattle.rule_model.specs.MatchOrders.{match_total}
@@ -28,7 +29,7 @@ witness p (x ∷ xs) is = by (p x) refl is (witness p xs)
     by true e is rest = (x, e, ap (λ t. t || has_match xs x) (itself x))
     by false e is rest = let w = rest is in (w.0, w.1, or_right (eq_by_cmp match_cmp w.0 x) (has_match xs w.0) w.2)
 
-pub left_law : LeftLaw
+pub left_law : TagsLeftLaw
 left_law before after left leaves tag named free =
     let w = witness (names_tag tag) before.pending named in
     leaves w.0 tag w.2 (not_there (names_tag tag) w.0 after.pending w.1 free) w.1

@@ -1,5 +1,6 @@
 -- What `Retention::past` answers, and what it watches then.
-use Rattle.retention.proofs.Common.{◌≡◌, ℕ, ℤ, ◌&&◌, ◌||◌, Bool, true, false, cond, not, refl, sym, ◌∙◌, ap, Option, None, and-true, and-false, or-true, or-false, and_parts, has_come, is_due, lingers, is_old, PastLaw}
+use Rattle.retention.proofs.Common.{◌≡◌, ℕ, ℤ, ◌&&◌, ◌||◌, Bool, true, false, cond, not, refl, sym, ◌∙◌, ap, Option, None, and-true, and-false, or-true}
+use Rattle.retention.proofs.Common.{or-false, and_parts, has_come, is_due, lingers, is_old, PastLaw}
 use Rattle.std.specs.FinMap as map
 
 same_cond : (t : Bool) → cond t true true ≡ true

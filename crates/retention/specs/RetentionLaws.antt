@@ -5,7 +5,7 @@ use Rattle.rule_model.specs.declared.matched.Match.{Match}
 use Rattle.rule_model.specs.Matches.{has_match}
 use Rattle.agenda.specs.Agendas.{Marks, names_tag}
 use Rattle.retention.specs.declared.retention.Retention.{Retention}
-use Rattle.retention.specs.Retentions.{lingers, is_named, Passes}
+use Rattle.retention.specs.Retentions.{lingers, is_named, PassesLives}
 use Rattle.retention.specs.Watching.{Ends, with_end, without, is_old, Covers, Watches}
 
 -- a new retention watches no events
@@ -32,12 +32,12 @@ ReleaseLaw = (ends : Ends) (now : ℤ) (tag : ℕ) (before after : Retention) �
 abbrev pub PastLaw : Type 0
 PastLaw = (ends : Ends) (clock : ℤ) (left named : ℕ → Bool) (before after : Retention) (old : ℕ → Bool) → Covers ends clock before
     → ((tag : ℕ) → lingers before tag ≡ true → named tag ≡ false → left tag ≡ true)
-    → Passes clock left named before after old
+    → PassesLives clock left named before after old
     → ((tag : ℕ) → old tag ≡ is_old ends clock named tag) × Watches (without ends old) clock named after
 
 -- a tag that was named and is so no longer has left, where all tags of the matches that are no longer pending have
-abbrev pub LeftLaw : Type 0
-LeftLaw = (before after : Marks) (left : ℕ → Bool)
+abbrev pub TagsLeftLaw : Type 0
+TagsLeftLaw = (before after : Marks) (left : ℕ → Bool)
     → ((m : Match) (tag : ℕ) → has_match before.pending m ≡ true → has_match after.pending m ≡ false → names_tag tag m ≡ true → left tag ≡ true)
     → (tag : ℕ) → is_named before tag ≡ true → is_named after tag ≡ false → left tag ≡ true
 

@@ -1,5 +1,5 @@
 //! Laws of retentions: each function's contract is the law, and its body is empty.
-ghost use Rattle.retention.specs.RetentionLaws.{NewLaw, LaterLaw, HoldLaw, ReleaseLaw, PastLaw, LeftLaw, SameCovered, SameWatched};
+ghost use Rattle.retention.specs.RetentionLaws.{NewLaw, LaterLaw, HoldLaw, ReleaseLaw, PastLaw, TagsLeftLaw, SameCovered, SameWatched};
 
 /// What a retention watches when a call returns it covers in the next call, which holds and releases events.
 pub fn events_are_held_and_released()
@@ -16,7 +16,7 @@ pub fn past_answers_the_old_events()
 
 /// It is enough to look at the tags of the matches that have stopped pending.
 pub fn what_is_no_longer_named_has_left()
-    ensures { LeftLaw }
+    ensures { TagsLeftLaw }
 {}
 
 /// What is covered and watched is asked event by event.

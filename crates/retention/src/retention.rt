@@ -4,7 +4,7 @@ ghost use Rattle.std.specs.List.{list_any};
 ghost use Rattle.std.specs.List.Sorted.{IsStrictlySortedBy};
 ghost use Rattle.std.specs.Ordering.{nat_cmp};
 ghost use Rattle.fx_base.specs.declared.ids.Tag.{Tag as TagData};
-ghost use Rattle.retention.specs.Retentions.{has_tag, is_among, is_named, lingers, Passes};
+ghost use Rattle.retention.specs.Retentions.{has_listed_tag, is_tag_among, is_named, lingers, PassesLives};
 
 use agenda::Agenda;
 use due_queue::DueQueue;
@@ -63,7 +63,7 @@ impl Retention {
         left: &[Tag],
         agenda: &Agenda,
     ) -> Result<(Retention, BTreeSet<u64, Global>), NoMemory>
-        ensures passes { IfOk result (λ r. Passes now (is_among left.now) (is_named agenda.now) self r.0 (has_tag r.1.keys)) }
+        ensures passes { IfOk result (λ r. PassesLives now (is_tag_among left.now) (is_named agenda.now) self r.0 (has_listed_tag r.1.keys)) }
         ensures in_order { IfOk result (λ r. IsStrictlySortedBy nat_cmp r.1.keys) }
     {
         let Retention {
@@ -82,7 +82,7 @@ impl Retention {
 
 // The tags of a list that a set has.
 fn those_in(alloc: Global, set: &BTreeSet<u64, Global>, tags: &[Tag]) -> Result<Vec<u64>, NoMemory>
-    ensures { IfOk result (λ found. found.items ≡ filter (has_tag set.now.keys) (list_map (λ (tag : TagData). tag.0) tags.now)) }
+    ensures { IfOk result (λ found. found.items ≡ filter (has_listed_tag set.now.keys) (list_map (λ (tag : TagData). tag.0) tags.now)) }
 {
     Ok(
         tags.iter()
@@ -99,8 +99,8 @@ fn settle(
     tag: u64,
     agenda: &Agenda,
 ) -> Result<(), NoMemory>
-    ensures lingering { OnOk result ((other : ℕ) → has_tag lingering.new.keys other ≡ cond (other == tag) (is_named agenda.now other) (has_tag lingering.old.keys other)) }
-    ensures old { OnOk result ((other : ℕ) → has_tag old.new.keys other ≡ (has_tag old.old.keys other || (other == tag && not (is_named agenda.now other)))) }
+    ensures lingering { OnOk result ((other : ℕ) → has_listed_tag lingering.new.keys other ≡ cond (other == tag) (is_named agenda.now other) (has_listed_tag lingering.old.keys other)) }
+    ensures old { OnOk result ((other : ℕ) → has_listed_tag old.new.keys other ≡ (has_listed_tag old.old.keys other || (other == tag && not (is_named agenda.now other)))) }
 {
     if agenda.names_tag(Tag(tag)) {
         lingering.insert(tag)?;
@@ -118,8 +118,8 @@ fn settle_all(
     tags: &[u64],
     agenda: &Agenda,
 ) -> Result<(), NoMemory>
-    ensures lingering { OnOk result ((other : ℕ) → has_tag lingering.new.keys other ≡ cond (list_any (nat_eq other) tags.now) (is_named agenda.now other) (has_tag lingering.old.keys other)) }
-    ensures old { OnOk result ((other : ℕ) → has_tag old.new.keys other ≡ (has_tag old.old.keys other || (list_any (nat_eq other) tags.now && not (is_named agenda.now other)))) }
+    ensures lingering { OnOk result ((other : ℕ) → has_listed_tag lingering.new.keys other ≡ cond (list_any (nat_eq other) tags.now) (is_named agenda.now other) (has_listed_tag lingering.old.keys other)) }
+    ensures old { OnOk result ((other : ℕ) → has_listed_tag old.new.keys other ≡ (has_listed_tag old.old.keys other || (list_any (nat_eq other) tags.now && not (is_named agenda.now other)))) }
 {
     for tag in tags {
         settle(lingering, old, *tag, agenda)?;

@@ -1,10 +1,10 @@
 -- Sets that answer alike change alike.
 use Rattle.row_change.proofs.Common.{◌≡◌, ◌∙◌, ap, List, Bool, ◌&&◌, not, Row}
 use Rattle.row_delta.specs.declared.delta.Delta.{Delta}
-use Rattle.row_change.specs.Changes.{Leads, IsDifference}
+use Rattle.row_change.specs.Changes.{LeadsRows, IsDifference}
 
 -- the new set may be another that answers alike
-pub leads_alike : (old now too : Row → Bool) (gone come : List Row) → Leads old now gone come → ((row : Row) → now row ≡ too row) → Leads old too gone come
+pub leads_alike : (old now too : Row → Bool) (gone come : List Row) → LeadsRows old now gone come → ((row : Row) → now row ≡ too row) → LeadsRows old too gone come
 leads_alike old now too gone come leads h = record {
   goes = λ row. leads.goes row ∙ ap (λ b. old row && not b) (h row);
   comes = λ row. leads.comes row ∙ ap (λ b. b && not (old row)) (h row);

@@ -1,5 +1,6 @@
 -- Names from modules that two proofs and more cite, passed on from one place. Declares nothing.
-pub use Rattle.std.proofs.Common.{sym, ◌∙◌, ◌≡◌, not, ◌&&◌, ◌||◌, Bool, List, ap, false, subst, true, [], length, refl, take, ◌++◌, ◌∷◌, Err, IfErr, IfOk, Ok, Result, arith, cond, drop, drop-cons, get_or, inl, inr, is_ok, rules, suc, zero, ℕ, ◌+◌, ◌-◌, ◌<◌, ◌≤◌}
+pub use Rattle.std.proofs.Common.{sym, ◌∙◌, ◌≡◌, not, ◌&&◌, ◌||◌, Bool, List, ap, false, subst, true, [], length, refl, take, ◌++◌, ◌∷◌, Err, IfErr, IfOk, Ok}
+pub use Rattle.std.proofs.Common.{Result, arith, cond, drop, drop-cons, get_or, inl, inr, is_ok, rules, suc, zero, ℕ, ◌+◌, ◌-◌, ◌<◌, ◌≤◌}
 pub use Rattle.std.proofs.lemmas.List.Folds.{list_any-append, list_any_at}
 pub use Rattle.std.proofs.lemmas.List.Sorted.{answers_always, searchable_from_sorted}
 pub use Rattle.std.proofs.lemmas.Map.Steps.{list_any_congr}

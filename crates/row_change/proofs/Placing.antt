@@ -1,5 +1,9 @@
 -- Rows put into a list in order, and taken out of it.
-use Rattle.row_change.proofs.Common.{◌≡◌, ◌∙◌, sym, ap, refl, subst, ℕ, zero, suc, ◌+◌, ◌-◌, ◌<◌, ◌≤◌, List, [], ◌∷◌, ◌++◌, length, take, drop, get_or, Bool, true, false, ◌&&◌, ◌||◌, not, Result, Ok, Err, is_ok, IfOk, IfErr, inl, inr, arith, drop-cons, eq_by_cmp, is_lt, list_any_congr, row_cmp, has, same_equiv, Row, is_eq, ordering_index, ordering_reverse, list_any_at, searchable_from_sorted, InOrder, row_total, row_exact}
+use Rattle.row_change.proofs.Common.{◌≡◌, ◌∙◌, sym, ap, refl, subst, ℕ, zero, suc, ◌+◌, ◌-◌, ◌<◌, ◌≤◌, List, [], ◌∷◌, ◌++◌, length, take, drop, get_or, Bool}
+use Rattle.row_change.proofs.Common.{true, false, ◌&&◌, ◌||◌, not, Result, Ok, Err, is_ok, IfOk, IfErr, inl, inr, arith, drop-cons, eq_by_cmp, is_lt}
+use Rattle.row_change.proofs.Common.{list_any_congr, row_cmp, has, same_equiv, Row, is_eq, ordering_index, ordering_reverse, list_any_at}
+use Rattle.row_change.proofs.Common.{searchable_from_sorted, InOrder, row_total, row_exact}
+use Rattle.std.proofs.Math.Bool.{or_comm}
 use Rattle.std.specs.declared.cmp.Ordering.{Ordering}
 use Rattle.std.specs.declared.cmp.Ordering.TheVariants.{Less, Equal, Greater}
 use Rattle.std.specs.List.{AllByRecursion, IsAllAdjacentAnswer, insert, remove}
@@ -8,6 +12,7 @@ use Rattle.std.proofs.lemmas.Bool.{cases_lt}
 use Rattle.std.proofs.lemmas.List.{take-append-drop}
 use Rattle.std.proofs.lemmas.Map.Keys.{Less-from_sorted, sorted_from_all_adjacent}
 use Rattle.row_change.specs.Gaps.{IsGap, StandsAt}
+use Rattle.fx_base.proofs.Tests.{or_implied}
 
 -- the row is less than each of these
 abbrev Below : Row → List Row → Type 0
@@ -16,13 +21,6 @@ Below row rows = AllByRecursion (λ other. row_cmp row other ≡ Less) rows
 -- each of these is less than the row
 abbrev Above : List Row → Row → Type 0
 Above rows row = AllByRecursion (λ other. row_cmp other row ≡ Less) rows
-
--- ---- truth values
-or_turned : (p q : Bool) → (p || q) ≡ (q || p)
-or_turned true true = refl
-or_turned true false = refl
-or_turned false true = refl
-or_turned false false = refl
 
 or_grouped : (p q s : Bool) → (p || (q || s)) ≡ ((p || q) || s)
 or_grouped true q s = refl
@@ -33,11 +31,6 @@ cut_of true true h = let x : true ≡ false = h refl in cc
 cut_of true false h = refl
 cut_of false true h = refl
 cut_of false false h = refl
-
-or_kept : (t e : Bool) → (e ≡ true → t ≡ true) → t ≡ (t || e)
-or_kept true e h = refl
-or_kept false true h = h refl
-or_kept false false h = refl
 
 and_kept : (t e : Bool) → (e ≡ true → t ≡ false) → t ≡ (t && not e)
 and_kept true true h = h refl
@@ -99,7 +92,7 @@ absent row (x ∷ a) b above below =
     ap (λ (t : Bool). t || has (a ++ b) row) (same_equiv.symm row x ∙ ap is_eq above.0) ∙ absent row a b above.1 below
 
 has_put : (row r : Row) (a b : List Row) → has (a ++ row ∷ b) r ≡ (has (a ++ b) r || eq_by_cmp row_cmp row r)
-has_put row r [] b = ap (λ (t : Bool). t || has b r) (same_equiv.symm r row) ∙ or_turned (eq_by_cmp row_cmp row r) (has b r)
+has_put row r [] b = ap (λ (t : Bool). t || has b r) (same_equiv.symm r row) ∙ or_comm (eq_by_cmp row_cmp row r) (has b r)
 has_put row r (x ∷ a) b =
     ap (λ (t : Bool). eq_by_cmp row_cmp r x || t) (has_put row r a b) ∙ or_grouped (eq_by_cmp row_cmp r x) (has (a ++ b) r) (eq_by_cmp row_cmp row r)
 
@@ -111,7 +104,7 @@ has_cut row r a b order =
 
 -- a row that is there already, put in; and one that is not there, taken out
 pub present : (rows : List Row) (row : Row) → has rows row ≡ true → (r : Row) → has rows r ≡ (has rows r || eq_by_cmp row_cmp row r)
-present rows row e r = or_kept (has rows r) (eq_by_cmp row_cmp row r) (λ same. list_any_congr same_equiv r row rows (same_equiv.symm r row ∙ same) ∙ e)
+present rows row e r = or_implied (has rows r) (eq_by_cmp row_cmp row r) (λ same. list_any_congr same_equiv r row rows (same_equiv.symm r row ∙ same) ∙ e)
 
 pub missing : (rows : List Row) (row : Row) → has rows row ≡ false → (r : Row) → has rows r ≡ (has rows r && not (eq_by_cmp row_cmp row r))
 missing rows row e r = and_kept (has rows r) (eq_by_cmp row_cmp row r) (λ same. list_any_congr same_equiv r row rows (same_equiv.symm r row ∙ same) ∙ e)

@@ -5,7 +5,7 @@ use Rattle.row_delta.specs.declared.row.Row.{Row}
 use Rattle.row_delta.specs.declared.delta.Delta.{Delta}
 
 -- the rows that went from the old ones are these, and those that came to them are those
-pub record Leads (old now : Row → Bool) (gone come : List Row) : Type 0 where
+pub record LeadsRows (old now : Row → Bool) (gone come : List Row) : Type 0 where
   pub goes : (row : Row) → has gone row ≡ (old row && not (now row))
   pub comes : (row : Row) → has come row ≡ (now row && not (old row))
 
@@ -13,7 +13,7 @@ pub record Leads (old now : Row → Bool) (gone come : List Row) : Type 0 where
 pub record IsDifference (old new : Row → Bool) (delta : Delta) : Type 0 where
   pub gone_in_order : InOrder delta.gone
   pub come_in_order : InOrder delta.come
-  pub leads : Leads old new delta.gone delta.come
+  pub leads : LeadsRows old new delta.gone delta.come
 
 -- the rows of a set that are none of these
 abbrev pub without : (Row → Bool) → List Row → Row → Bool

@@ -10,11 +10,11 @@ pub record Kept : Type 0 where
   pub keys : List Row
 
 -- the rows of either form
-abbrev pub rows_of : Form → List Row
-rows_of (Listed rows) = rows.items
-rows_of (Tree rows) = rows.keys
+abbrev pub form_rows : Form → List Row
+form_rows (Listed rows) = rows.items
+form_rows (Tree rows) = rows.keys
 
 -- a list is kept in order; a tree keeps itself so
-abbrev pub IsKept : Form → Type 0
-IsKept (Listed rows) = InOrder rows.items
-IsKept (Tree rows) = Unit {0}
+abbrev pub IsFormKept : Form → Type 0
+IsFormKept (Listed rows) = InOrder rows.items
+IsFormKept (Tree rows) = Unit {0}

@@ -1,7 +1,7 @@
 ghost use Rattle.std.specs.Prelude.{◌≡◌, ◌&&◌, ◌||◌, not, true, false, Bool, IfOk, OnOk};
 ghost use Rattle.row_delta.specs.Rows.{has};
 ghost use Rattle.row_delta.specs.declared.row.Row.{Row};
-ghost use Rattle.row_change.specs.Changes.{Leads, IsDifference, without, along, changes_nothing};
+ghost use Rattle.row_change.specs.Changes.{LeadsRows, IsDifference, without, along, changes_nothing};
 
 use crate::row_set::RowSet;
 use fx_base::NoMemory;
@@ -19,7 +19,7 @@ pub struct Change {
 impl Change {
     /// Nothing has changed. Takes no memory.
     pub fn none(alloc: Global) -> Change
-        ensures { (rows : Row → Bool) → Leads rows rows result.gone.keys result.come.keys }
+        ensures { (rows : Row → Bool) → LeadsRows rows rows result.gone.keys result.come.keys }
     {
         Change {
             gone: RowSet::new(alloc),
@@ -29,25 +29,25 @@ impl Change {
 
     /// Rows go that are there. It costs the logarithm of what has changed for each.
     pub fn leave(&mut self, alloc: Global, rows: Vec<Row>) -> Result<(), NoMemory>
-        ensures { OnOk result ((old now : Row → Bool) → Leads old now self.old.gone.keys self.old.come.keys
+        ensures { OnOk result ((old now : Row → Bool) → LeadsRows old now self.old.gone.keys self.old.come.keys
             → ((row : Row) → has rows.items row ≡ true → now row ≡ true)
-            → Leads old (without now rows.items) self.new.gone.keys self.new.come.keys) }
+            → LeadsRows old (without now rows.items) self.new.gone.keys self.new.come.keys) }
     {
         cross(alloc, &mut self.come, &mut self.gone, rows)
     }
 
     /// Rows come that are not there. It costs the logarithm of what has changed for each.
     pub fn arrive(&mut self, alloc: Global, rows: Vec<Row>) -> Result<(), NoMemory>
-        ensures { OnOk result ((old now : Row → Bool) → Leads old now self.old.gone.keys self.old.come.keys
+        ensures { OnOk result ((old now : Row → Bool) → LeadsRows old now self.old.gone.keys self.old.come.keys
             → ((row : Row) → has rows.items row ≡ true → now row ≡ false)
-            → Leads old (along now rows.items) self.new.gone.keys self.new.come.keys) }
+            → LeadsRows old (along now rows.items) self.new.gone.keys self.new.come.keys) }
     {
         cross(alloc, &mut self.gone, &mut self.come, rows)
     }
 
     /// What has changed, in order.
     pub fn delta(self, alloc: Global) -> Result<Delta, NoMemory>
-        ensures { IfOk result (λ delta. (old now : Row → Bool) → Leads old now self.gone.keys self.come.keys → IsDifference old now delta) }
+        ensures { IfOk result (λ delta. (old now : Row → Bool) → LeadsRows old now self.gone.keys self.come.keys → IsDifference old now delta) }
     {
         Ok(Delta {
             gone: self.gone.into_seq(alloc)?,

@@ -33,11 +33,11 @@ impl Model for RowSet {
 
     ghost Value = { Kept };
 
-    ghost use Rattle.row_change.specs.RowSets.{rows_of, IsKept};
+    ghost use Rattle.row_change.specs.RowSets.{form_rows, IsFormKept};
 
-    ghost view = { λ s. record { keys = rows_of s.form } };
+    ghost view = { λ s. record { keys = form_rows s.form } };
 
-    ghost invariant = { λ s. IsKept s.form };
+    ghost invariant = { λ s. IsFormKept s.form };
 }
 
 impl RowSet {

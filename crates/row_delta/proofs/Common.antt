@@ -1,5 +1,6 @@
 -- Names from modules that two proofs and more cite, passed on from one place. Declares nothing.
-pub use Rattle.std.proofs.Common.{◌≡◌, ◌∙◌, ap, sym, List, Bor, not, refl, ◌&&◌, ◌++◌, rules, subst, ◌||◌, [], arith, cond, false, take, ◌∷◌, Bool, Err, Ok, Result, Vec, append-nil, append_assoc, get_or, length, true, ℕ, ◌+◌, ◌<◌}
+pub use Rattle.std.proofs.Common.{◌≡◌, ◌∙◌, ap, sym, List, Bor, not, refl, ◌&&◌, ◌++◌, rules, subst, ◌||◌, [], arith, cond, false, take, ◌∷◌, Bool, Err, Ok}
+pub use Rattle.std.proofs.Common.{Result, Vec, append-nil, append_assoc, get_or, length, true, ℕ, ◌+◌, ◌<◌}
 pub use Rattle.std.proofs.lemmas.Grind.{common_steps}
 pub use Rattle.std.proofs.lemmas.Iterator.{YieldsList-from_slice, YieldsList-from_map, items_from_drains}
 pub use Rattle.std.proofs.lemmas.Iterator.Adapters.{YieldsList-from_vec, fact_from_extend}

@@ -1,5 +1,6 @@
 -- Names from modules that two proofs and more cite, passed on from one place. Declares nothing.
-pub use Rattle.std.proofs.Common.{◌≡◌, drop, ◌++◌, ap, ◌∙◌, sym, arith, map, [], length, ◌∷◌, List, subst, false, of_z, suc, to_z, true, ◌+◌, Bool, None, Some, cond, get_or, refl, ℕ, ℤ, ◌<◌, Option, add-one, drop-cons, nat_lt, not, option_map, zero, ◌-ℤ◌, ◌||◌, ◌≤◌}
+pub use Rattle.std.proofs.Common.{◌≡◌, drop, ◌++◌, ap, ◌∙◌, sym, arith, map, [], length, ◌∷◌, List, subst, false, of_z, suc, to_z, true, ◌+◌, Bool, None, Some}
+pub use Rattle.std.proofs.Common.{cond, get_or, refl, ℕ, ℤ, ◌<◌, Option, nat_lt, not, option_map, zero, ◌-ℤ◌, ◌||◌}
 pub use Rattle.std.proofs.lemmas.Int.{ints}
 pub use Rattle.std.proofs.lemmas.List.{append-nil}
 pub use Rattle.std.specs.Int.{w128, w64}
@@ -12,7 +13,7 @@ pub use Rattle.rule_eval.specs.Over.{over}
 pub use Rattle.rule_model.proofs.Mature.{Bounds, bounds_join, none_told, some_told}
 pub use Rattle.rule_model.specs.Candidates.{passes, candidates, is_behind, is_candidate, passing}
 pub use Rattle.rule_model.specs.Lent.{lent, tuple_of}
-pub use Rattle.rule_model.specs.Maturity.{bounds_of, AreOperators, is_past, window_at, window_by}
+pub use Rattle.rule_model.specs.Maturity.{bounds_of, AreOperators, is_past, start_window_at, window_by_lists}
 pub use Rattle.rule_model.specs.Rows.{HaveOperators, pattern_of, extended, argument, rows, tuples}
 pub use Rattle.rule_model.specs.Snapshots.{Snapshot, floor}
 pub use Rattle.rule_model.specs.Tuples.{bound_by, Bindings, Tuple, empty_tuple, name_of, row_of, with_fact}

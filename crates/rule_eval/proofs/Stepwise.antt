@@ -1,6 +1,7 @@
 -- Conditions taken one after the other, over lists of tuples.
-use Rattle.rule_eval.proofs.Common.{◌≡◌, ℕ, suc, ◌+◌, ◌<◌, ◌≤◌, List, [], ◌∷◌, ◌++◌, length, drop, get_or, refl, sym, ◌∙◌, ap, subst, arith, add-one, drop-cons, filter, flat_map, Fact, Program, candidates, passes, extended, pattern_of, HaveOperators, made_by, over, passing, tuples, Snapshot, Tuple, empty_tuple}
-use Rattle.std.proofs.lemmas.Grind.{common_steps, flat_map-append}
+use Rattle.rule_eval.proofs.Common.{◌≡◌, ℕ, ◌+◌, List, [], ◌∷◌, ◌++◌, drop, refl, sym, ◌∙◌, ap, subst, filter, flat_map, Fact, Program, candidates, passes}
+use Rattle.rule_eval.proofs.Common.{extended, pattern_of, HaveOperators, made_by, over, passing, tuples, Snapshot, Tuple, empty_tuple}
+use Rattle.std.proofs.lemmas.Grind.{flat_map-append}
 use Rattle.rule_model.specs.declared.condition.Condition.{Condition}
 use Rattle.rule_model.specs.declared.condition.Condition.TheVariants.{Plain, Negated, Existing, Folded}
 use Rattle.rule_model.specs.Snapshots.{floor}
@@ -57,9 +58,3 @@ module _ (p : Program) (s : Snapshot) where
   -- behind the last one
   pub end : (all rest : List Condition) (ts : List Tuple) → rest ≡ [] → Leads p s all rest ts → ts ≡ tuples p s all empty_tuple
   end all rest ts none h = sym (alone ts) ∙ ap (λ cs. flat_map (tuples p s cs) ts) (sym none) ∙ h.made
-
-pub rest_at : {A : Type 0} (xs : List A) (k : ℕ) (x : A) → k < length xs → x ≡ get_or xs k x → drop k xs ≡ x ∷ drop (k + 1) xs
-rest_at xs k x lt is = rw (add-one, drop-cons xs k x) (ap (λ z. z ∷ drop (suc k) xs) (sym is))
-
-pub no_more : {A : Type 0} (xs : List A) (k : ℕ) → length xs ≤ k → drop k xs ≡ []
-no_more xs k h = grind (arith, common_steps)

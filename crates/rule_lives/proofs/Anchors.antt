@@ -1,6 +1,9 @@
 -- An event past its life, in a tuple or beside one: every condition is settled there.
-use Rattle.rule_lives.proofs.Common.{◌≡◌, ◌==◌, ℕ, suc, ◌+◌, ℤ, ◌+ℤ◌, ◌-ℤ◌, ◌≤ℤ◌, ◌<ℤ◌, Bool, true, false, cond, List, [], ◌∷◌, Some, refl, sym, ap, subst, ◌∙◌, arith, inl, inr, slice_get, take, ints, Fact, Times, Condition, Plain, Negated, Existing, Folded, Pattern, Program, IsPossible, pattern_of, Tuple, bound_by, is_event, is_reference, is_observed, bindings, binds, Placed, SolvesWith, occurrence_of}
-use Rattle.rule_lives.proofs.Basics.{number_same, number_differs}
+use Rattle.rule_lives.proofs.Common.{◌≡◌, ◌==◌, ℕ, suc, ◌+◌, ℤ, ◌+ℤ◌, ◌-ℤ◌, ◌≤ℤ◌, ◌<ℤ◌, Bool, true, false, cond, List, [], ◌∷◌, Some, refl, sym, ap, subst, ◌∙◌}
+use Rattle.rule_lives.proofs.Common.{arith, inl, inr, slice_get, take, ints, Fact, Times, Condition, Plain, Negated, Existing, Folded, Pattern, Program}
+use Rattle.rule_lives.proofs.Common.{IsPossible, pattern_of, Tuple, bound_by, is_event, is_reference, is_observed, bindings, binds, Placed, SolvesWith}
+use Rattle.rule_lives.proofs.Common.{occurrence_of}
+use Rattle.std.proofs.lemmas.Bool.{eq-eqb, ne_eqb}
 use Rattle.rule_lives.proofs.Flagged.{Steady}
 use Rattle.rule_lives.proofs.Still.{Settled, Still, old, steady}
 use Rattle.rule_lives.proofs.Shifts.{Aged, Calm, aged, fixed}
@@ -70,11 +73,11 @@ module _ (p : Program) (c n : ℤ) (cs : List Condition) (i : Placed) (t : Tuple
         observed = anchor.observed j d at_j side_j event;
         old = λ y h.
             let sides = λ (k : ℕ). cond (k == i.place) z y in
-            let at_z : sides i.place ≡ z = choose (i.place == i.place) z y (number_same i.place i.place refl) in
-            let at_y : sides j ≡ y = choose_not (j == i.place) z y (number_differs j i.place apart) in
+            let at_z : sides i.place ≡ z = choose (i.place == i.place) z y (eq-eqb i.place i.place refl) in
+            let at_y : sides j ≡ y = choose_not (j == i.place) z y (ne_eqb j i.place apart) in
             settled sides (record { place = j; condition = d }) y at_j changes at_z (stands y sides at_y)
             (solves_of p cs i.place j t sides anchor.on_bound (λ k e at_k side_k. λ where_k. elim where_k [
-              | inl is_i ↦ subst (λ (v : Times). IsPossible p (pattern_of e) (bound_by t) v) (sym (choose (k == i.place) z y (number_same k i.place is_i))) (anchor.own k e at_k side_k is_i)
+              | inl is_i ↦ subst (λ (v : Times). IsPossible p (pattern_of e) (bound_by t) v) (sym (choose (k == i.place) z y (eq-eqb k i.place is_i))) (anchor.own k e at_k side_k is_i)
               | inr is_j ↦ subst (λ (v : Times). IsPossible p (pattern_of e) (bound_by t) v) (sym (ap sides is_j ∙ at_y))
                   (subst (λ (q : Condition). IsPossible p (pattern_of q) (bound_by t) y) (sym (one_there cs k j e d at_k at_j is_j)) h)
             ]));

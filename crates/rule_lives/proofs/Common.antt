@@ -1,25 +1,27 @@
 -- Names from modules that two proofs and more cite, passed on from one place. Declares nothing.
-pub use Rattle.std.proofs.Common.{ap, ◌≡◌, List, arith, refl, true, Some, [], sym, ℕ, ◌∷◌, false, subst, ℤ, ◌∙◌, Bool, ◌≤ℤ◌, Option, inl, inr, None, ◌+ℤ◌, suc, ◌⊎◌, zero, ◌&&◌, ◌++◌, ◌==◌, cond, length, not, ◌+◌, ◌-ℤ◌, ◌<ℤ◌, if◌then◌else◌, ◌||◌, map, ◌<◌, pos}
+pub use Rattle.std.proofs.Common.{ap, ◌≡◌, List, arith, refl, true, Some, [], sym, ℕ, ◌∷◌, false, subst, ℤ, ◌∙◌, Bool, ◌≤ℤ◌, Option, inl, inr, None, ◌+ℤ◌, suc}
+pub use Rattle.std.proofs.Common.{◌⊎◌, zero, ◌&&◌, ◌++◌, ◌==◌, cond, length, not, ◌+◌, ◌-ℤ◌, ◌<ℤ◌, if◌then◌else◌, ◌||◌, map, ◌<◌, pos}
 pub use Rattle.std.proofs.lemmas.Int.{ints, by_lt_z, clamps}
 pub use Rattle.std.proofs.lemmas.List.{append_assoc, length-append}
 pub use Rattle.std.specs.List.{filter, list_all, list_any}
-pub use Rattle.std.specs.Prelude.{slice_get, take, int_lt}
+pub use Rattle.std.specs.Prelude.{slice_get, take}
 pub use Rattle.fx_base.specs.Lists.{In}
 pub use Rattle.fx_base.specs.declared.fact.Fact.{Fact}
 pub use Rattle.fx_base.specs.declared.times.Times.{Times}
 pub use Rattle.fx_base.specs.declared.value.Value.{Value}
-pub use Rattle.rule_lives.specs.Keeping.{AreSafe, IsKept, endless, living, plain, unexpired, EndlessAreSafe, IsLifeOf, IsSafeLife, KeptBefore, LivesAreSafe, MatchNamesKept, TupleMeetsKept, TupleNamesKept, named}
+pub use Rattle.rule_lives.specs.Keeping.{AreSafe, IsKept, endless, living, plain, unexpired, EndlessAreSafe, IsLifeOf, IsSafeLife, KeptBefore, LivesAreSafe}
+pub use Rattle.rule_lives.specs.Keeping.{MatchNamesKept, TupleMeetsKept, TupleNamesKept, named}
 pub use Rattle.rule_lives.specs.Law.{Made, IsFlagged, KeepsTuple, OfPrefix, OfRule}
 pub use Rattle.rule_lives.specs.Lifetimes.{IsLife, scope, Adds, LivesFor, of_event, of_fact, tail, tail_by}
-pub use Rattle.rule_lives.specs.Networks.{bindings, binds, Meets, Occurrence, Solves, aside, bound, is_met, occurrence}
+pub use Rattle.rule_lives.specs.Networks.{bindings, MeetsTests, Occurrence, SolvesConditions, aside, bound, is_test_met, occurrence}
+pub use Rattle.rule_model.specs.Rows.{binds, pattern_of, Makes, HaveOperators, result_of, rows}
 pub use Rattle.rule_lives.specs.Reach.{finite, Placed, infinite, SolvesWith, Below, Limit, distance, occurrence_of}
-pub use Rattle.rule_model.proofs.Listed.{both, both_of, of_append, in_left, in_map, in_right, listed_row, of_map, row_listed}
+pub use Rattle.rule_model.proofs.Listed.{in_left, in_map, in_right, listed_row, of_map, row_listed}
 pub use Rattle.rule_model.proofs.Order.{passed, in_filter}
 pub use Rattle.rule_model.proofs.RuleOf.{in_place, has_in, rule_of}
 pub use Rattle.rule_model.specs.Candidates.{is_inside, passing, is_candidate, is_present, passes, candidates, fits, is_within}
 pub use Rattle.rule_model.specs.Matches.{has_match, matches, match_of, rows_by_rule}
 pub use Rattle.rule_model.specs.Maturity.{IsPossible, IsMature, of_none, of_past, of_plain, of_unbounded}
-pub use Rattle.rule_model.specs.Rows.{pattern_of, Makes, HaveOperators, result_of, rows}
 pub use Rattle.rule_model.specs.Simple.{is_whole, observes, observes_type}
 pub use Rattle.rule_model.specs.Snapshots.{Snapshot, floor}
 pub use Rattle.rule_model.specs.Tests.{times_hold, time_holds, time_holds_with, tests_hold}
@@ -45,6 +47,7 @@ pub use Rattle.rule_world.proofs.Keeping.{was_present}
 pub use Rattle.rule_world.proofs.Steps.{stays}
 pub use Rattle.rule_world.specs.Lawful.{IsLawful, IsOrdered}
 pub use Rattle.rule_world.specs.Programs.{IsRunnable, UseOperators, has_window, has_windows, is_window}
-pub use Rattle.rule_world.specs.Worlds.{World, snapshot, has_id, insert_fault, is_of_type, modify_fault, moved, new_fact, retract_fault, found, pending, revised, revised_in, settled, still_fired}
+pub use Rattle.rule_world.specs.Worlds.{World, snapshot, has_id, insert_fault, is_of_type, modify_fault, moved, new_fact, retract_fault, found, pending}
+pub use Rattle.rule_world.specs.Worlds.{revised, revised_in, settled, still_fired}
 pub use Rattle.rule_world.specs.declared.code.Code.TheVariants.{Absent, EventObserved, ReferenceFixed, EventFixed}
 pub use Rattle.temporal_ops.specs.Possible.{IsEvent}

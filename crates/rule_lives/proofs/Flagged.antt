@@ -1,7 +1,12 @@
 -- Programs that engines run are flagged; patterns on reference types in them, and steps that leave facts of these types as they are.
-use Rattle.rule_lives.proofs.Common.{◌≡◌, ◌⊎◌, ◌&&◌, ◌||◌, ℕ, Bool, true, false, List, [], ◌∷◌, ◌++◌, Option, Some, None, if◌then◌else◌, refl, sym, ◌∙◌, ap, inl, inr, slice_get, In, Fact, Value, Condition, Pattern, WindowTag, Whole, Time, Length, Program, Rule, Step, Insert, Modify, Retract, Advance, At, Promise, Begin, pattern_of, is_event, is_reference, is_observed, of_append, in_place, EventObserved, ReferenceFixed, Absent, IsLawful, World, insert_fault, modify_fault, retract_fault, is_of_type, new_fact, IsFlagged, is_whole, EventFixed, is_window, has_window, has_windows, IsRunnable, inserted}
+use Rattle.rule_lives.proofs.Common.{◌≡◌, ◌⊎◌, ◌&&◌, ◌||◌, ℕ, Bool, true, false, List, [], ◌∷◌, ◌++◌, Option, Some, None, if◌then◌else◌, refl, sym, ◌∙◌, ap}
+use Rattle.rule_lives.proofs.Common.{inl, inr, slice_get, In, Fact, Value, Condition, Pattern, WindowTag, Whole, Time, Length, Program, Rule, Step, Insert}
+use Rattle.rule_lives.proofs.Common.{Modify, Retract, Advance, At, Promise, Begin, pattern_of, is_event, is_reference, is_observed, in_place, EventObserved}
+use Rattle.rule_lives.proofs.Common.{ReferenceFixed, Absent, IsLawful, World, insert_fault, modify_fault, retract_fault, is_of_type, new_fact, IsFlagged}
+use Rattle.rule_lives.proofs.Common.{is_whole, EventFixed, is_window, has_window, has_windows, IsRunnable, inserted}
 use Rattle.rule_world.specs.Worlds.{moved, step_fault}
 use Rattle.rule_world.proofs.Acting.{all_of}
+use Rattle.fx_base.proofs.Sequences.{In-append}
 
 -- ---- programs
 
@@ -85,7 +90,7 @@ module _ (p : Program) (w : World) (x : Fact) (flagged : IsFlagged p) (law : IsL
       by false e = e
       by true e = elim inside [
         | inl i ↦ absurd (before e i)
-        | inr i ↦ elim (of_append x w.facts (new_fact p w ty entry fields ∷ []) i) [
+        | inr i ↦ elim (In-append x w.facts (new_fact p w ty entry fields ∷ []) i) [
           | inl j ↦ absurd (before e j)
           | inr (inl new) ↦ absurd (no_event (ap (λ (f : Fact). is_event p f.ty.0) new ∙ flagged.references ty e))
           | inr (inr none) ↦ absurd none

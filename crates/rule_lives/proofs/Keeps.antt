@@ -1,12 +1,17 @@
 -- What comes in a step names only what is kept.
-use Rattle.rule_lives.proofs.Common.{◌≡◌, ◌==◌, ◌&&◌, ◌⊎◌, not, ℤ, ◌+ℤ◌, ◌≤ℤ◌, Bool, true, false, List, [], ◌∷◌, Option, Some, None, refl, sym, ap, subst, arith, inl, inr, slice_get, take, ints, In, Fact, Condition, Plain, Negated, Existing, Folded, Life, Explicit, Finite, Infinite, LifeTable, Program, Step, Insert, Modify, Retract, Advance, At, Promise, Begin, is_present, Makes, pattern_of, Snapshot, Tuple, empty_tuple, both, of_append, passed, World, snapshot, has_id, was_present, stays, finite, IsLife, Made, KeepsTuple, AreSafe, IsKept, plain, unexpired, endless, living, TupleNamesKept, TupleMeetsKept}
+use Rattle.rule_lives.proofs.Common.{◌≡◌, ◌==◌, ◌&&◌, ◌⊎◌, not, ℤ, ◌+ℤ◌, ◌≤ℤ◌, Bool, true, false, List, [], ◌∷◌, Option, Some, None, refl, sym, ap, subst}
+use Rattle.rule_lives.proofs.Common.{arith, inl, inr, slice_get, take, ints, In, Fact, Condition, Plain, Negated, Existing, Folded, Life, Explicit, Finite}
+use Rattle.rule_lives.proofs.Common.{Infinite, LifeTable, Program, Step, Insert, Modify, Retract, Advance, At, Promise, Begin, is_present, Makes, pattern_of}
+use Rattle.rule_lives.proofs.Common.{Snapshot, Tuple, empty_tuple, passed, World, snapshot, has_id, was_present, stays, finite, IsLife, Made, KeepsTuple}
+use Rattle.rule_lives.proofs.Common.{AreSafe, IsKept, plain, unexpired, endless, living, TupleNamesKept, TupleMeetsKept}
+use Rattle.std.proofs.lemmas.Bool.{and_from, eq-eqb}
 use Rattle.rule_model.specs.declared.life.Life.TheVariants as lives
 use Rattle.rule_world.specs.Worlds.{moved}
-use Rattle.rule_lives.proofs.Basics.{number_same}
 use Rattle.rule_lives.proofs.Safe.{plain_unlisted}
 use Rattle.rule_lives.proofs.Shifts.{of_counted}
 use Rattle.rule_lives.proofs.Moves.{clock_on}
 use Rattle.rule_lives.proofs.Laws.{of_rule, of_prefix}
+use Rattle.fx_base.proofs.Sequences.{In-append}
 
 -- ---- the facts of a tuple
 
@@ -19,7 +24,7 @@ module _ (p : Program) (s : Snapshot) (tuple : Tuple) where
   added : (cs : List Condition) (t : Tuple) → Makes p s cs t tuple → (x : Fact) → In x tuple.facts → In x t.facts ⊎ Here p s x
   added [] t h x i = inl (subst (λ (u : Tuple). In x u.facts) h i)
   added (Plain q ∷ cs) t h x i = elim (added cs h.0 h.2 x i) [
-    | inl j ↦ elim (of_append x t.facts (h.1.0 ∷ []) (subst (λ (u : Tuple). In x u.facts) h.1.2 j)) [
+    | inl j ↦ elim (In-append x t.facts (h.1.0 ∷ []) (subst (λ (u : Tuple). In x u.facts) h.1.2 j)) [
       | inl before ↦ inl before
       | inr (inl e) ↦ (let k = of_counted p q s t h.1.0 h.1.1 in inr (subst (λ (y : Fact). Here p s y) (sym e) (k.0, k.1.present)))
       | inr (inr none) ↦ absurd none
@@ -54,7 +59,7 @@ keeps_next p w (Modify id sets) cs tuple h = tt
 keeps_next p w (Retract ty id) cs tuple h = λ f own of_type of_id.
     let there = here p (snapshot (moved p w (Retract ty id))) tuple cs h f own in
     kept_not (is_present p w.clock f && (f.ty.0 == ty.0 && has_id id.0 f)) (passed (stays p w.clock ty.0 id.0) f w.facts there.0)
-    (both _ _ there.1 (both _ _ (number_same f.ty.0 ty.0 of_type) (number_same f.id.0 id.0 of_id)))
+    (and_from _ _ there.1 (and_from _ _ (eq-eqb f.ty.0 ty.0 of_type) (eq-eqb f.id.0 id.0 of_id)))
 keeps_next p w (Advance by) cs tuple h = tt
 keeps_next p w (At moment) cs tuple h = tt
 keeps_next p w (Promise entry from) cs tuple h = tt

@@ -1,6 +1,11 @@
 -- The law of changes.
-use Rattle.rule_lives.proofs.Common.{◌≡◌, ◌⊎◌, ◌||◌, ℕ, zero, suc, ◌+◌, ◌<◌, ℤ, ◌+ℤ◌, ◌-ℤ◌, ◌≤ℤ◌, ◌<ℤ◌, Bool, true, false, List, [], ◌∷◌, Option, Some, None, refl, sym, ◌∙◌, ap, subst, arith, inl, inr, slice_get, take, ints, by_lt_z, In, Fact, Times, IsEvent, Condition, Plain, Negated, Existing, Folded, Pattern, WindowTag, Whole, Time, Length, Program, Rule, is_inside, passing, IsPossible, pattern_of, Snapshot, Tuple, empty_tuple, bound_by, is_event, is_point, is_observed, both, in_place, snapshot, moved, bindings, binds, finite, infinite, Placed, scope, IsLife, Made, IsFlagged, list_any, observes, observes_type, occurrence, OfRule, OfPrefix}
-use Rattle.rule_lives.proofs.Basics.{below, number_same}
+use Rattle.rule_lives.proofs.Common.{◌≡◌, ◌⊎◌, ◌||◌, ℕ, zero, suc, ◌+◌, ◌<◌, ℤ, ◌+ℤ◌, ◌-ℤ◌, ◌≤ℤ◌, ◌<ℤ◌, Bool, true, false, List, [], ◌∷◌, Option, Some, None}
+use Rattle.rule_lives.proofs.Common.{refl, sym, ◌∙◌, ap, subst, arith, inl, inr, slice_get, take, ints, by_lt_z, In, Fact, Times, IsEvent, Condition, Plain}
+use Rattle.rule_lives.proofs.Common.{Negated, Existing, Folded, Pattern, WindowTag, Whole, Time, Length, Program, Rule, is_inside, passing, IsPossible}
+use Rattle.rule_lives.proofs.Common.{pattern_of, Snapshot, Tuple, empty_tuple, bound_by, is_event, is_point, is_observed, in_place, snapshot, moved, bindings}
+use Rattle.rule_lives.proofs.Common.{binds, finite, infinite, Placed, scope, IsLife, Made, IsFlagged, list_any, observes, observes_type, occurrence, OfRule}
+use Rattle.rule_lives.proofs.Common.{OfPrefix}
+use Rattle.std.proofs.lemmas.Bool.{and_from, eq-eqb}
 use Rattle.rule_lives.proofs.Shifts.{of_counted, Timed, timed_in}
 use Rattle.rule_lives.proofs.Transfers.{Turns, turned, transfer}
 use Rattle.rule_lives.proofs.Limits.{Limits, limits_of, lives_below, times_or, times_of, HasBound}
@@ -8,6 +13,7 @@ use Rattle.rule_lives.proofs.Anchors.{Anchor, aged_at, all_aged}
 use Rattle.rule_lives.proofs.Places.{Stands, stands_at, standing}
 use Rattle.rule_lives.proofs.Flagged.{steady_of, quiet_of}
 use Rattle.rule_lives.proofs.Moves.{turns_of}
+use Rattle.fx_base.proofs.Orders.{int_lt-true}
 
 -- ---- observed types
 
@@ -34,10 +40,10 @@ side_observes (Folded a) e = refl
 pub observed_of : (p : Program) (rule : Rule) → IsFlagged p → In rule p.rules → (k : ℕ) (d : Condition) → slice_get rule.conditions k ≡ Some d → binds d ≡ false
     → is_event p (pattern_of d).ty.0 ≡ true → is_observed p (pattern_of d).ty.0 ≡ true
 observed_of p rule flagged in_rules k d at_k side_k event =
-    flagged.observed (pattern_of d).ty.0 ∙ both _ _ event
+    flagged.observed (pattern_of d).ty.0 ∙ and_from _ _ event
     (any_here (λ (r : Rule). list_any (observes_type (pattern_of d).ty.0) r.conditions) rule p.rules in_rules
     (any_here (observes_type (pattern_of d).ty.0) d rule.conditions (in_place rule.conditions k d at_k)
-    (both _ _ (side_observes d side_k) (number_same (pattern_of d).ty.0 (pattern_of d).ty.0 refl))))
+    (and_from _ _ (side_observes d side_k) (eq-eqb (pattern_of d).ty.0 (pattern_of d).ty.0 refl))))
 
 -- ---- a pattern with a window
 
@@ -48,7 +54,7 @@ outside : (p : Program) (ty : ℕ) (n c : ℤ) (rule : Rule) (i : Placed) (s : S
 outside p ty n c rule i s f Whole life in_rules at_i of_type is_w h order from old = refl
 outside p ty n c rule i s f (Time span) life in_rules at_i of_type is_w h order from old =
     let k : span ≤ℤ n = lives_below p ty n rule i life in_rules at_i of_type (Time span) (finite span) is_w refl in
-    let l = below (s.clock -ℤ f.times.start) span h in
+    let l = int_lt-true (s.clock -ℤ f.times.start) span h in
     absurd (omega (arith, ints))
 outside p ty n c rule i s f (Length count) life in_rules at_i of_type is_w h order from old =
     absurd (lives_below p ty n rule i life in_rules at_i of_type (Length count) infinite is_w refl)

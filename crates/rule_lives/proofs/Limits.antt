@@ -1,5 +1,10 @@
 -- What a finite life says of every solution, and the solutions that tuples give.
-use Rattle.rule_lives.proofs.Common.{◌≡◌, ◌⊎◌, ℕ, ℤ, pos, ◌+ℤ◌, ◌≤ℤ◌, Bool, true, false, List, [], ◌∷◌, Option, Some, None, refl, sym, ap, subst, arith, inl, inr, slice_get, take, ints, by_lt_z, In, Fact, Times, Condition, Plain, Negated, Existing, Folded, Pattern, WindowTag, Whole, Program, Rule, TimeTest, IsPossible, pattern_of, time_holds_with, time_holds, times_hold, Tuple, bound_by, is_event, is_reference, both, both_of, bindings, binds, finite, infinite, Placed, SolvesWith, scope, IsLife, list_all, Occurrence, bound, aside, is_met, Meets, Solves, Limit, Below, distance, tail, Adds, of_fact, of_event, LivesFor}
+use Rattle.rule_lives.proofs.Common.{◌≡◌, ◌⊎◌, ℕ, ℤ, pos, ◌+ℤ◌, ◌≤ℤ◌, Bool, true, false, List, [], ◌∷◌, Option, Some, None, refl, sym, ap, subst, arith, inl}
+use Rattle.rule_lives.proofs.Common.{inr, slice_get, take, ints, by_lt_z, In, Fact, Times, Condition, Plain, Negated, Existing, Folded, Pattern, WindowTag}
+use Rattle.rule_lives.proofs.Common.{Whole, Program, Rule, TimeTest, IsPossible, pattern_of, time_holds_with, time_holds, times_hold, Tuple, bound_by, is_event}
+use Rattle.rule_lives.proofs.Common.{is_reference, bindings, binds, finite, infinite, Placed, SolvesWith, scope, IsLife, list_all, Occurrence, bound, aside}
+use Rattle.rule_lives.proofs.Common.{is_test_met, MeetsTests, SolvesConditions, Limit, Below, distance, tail, Adds, of_fact, of_event, LivesFor}
+use Rattle.std.proofs.lemmas.Bool.{and_from, and_parts}
 use Rattle.temporal_ops.specs.Edges.{edges_hold}
 
 -- ---- lives
@@ -80,13 +85,13 @@ met_by : (there : Option Fact) (test : TimeTest) (y : Times) → time_holds_with
 met_by None test y h = absurd cc
 met_by (Some f) test y h = h
 
-all_met : (tests : List TimeTest) (y : Times) (t : Tuple) (sides : ℕ → Times) → times_hold (bound_by t) y tests ≡ true → list_all (is_met (times_of t.facts sides) y) tests ≡ true
+all_met : (tests : List TimeTest) (y : Times) (t : Tuple) (sides : ℕ → Times) → times_hold (bound_by t) y tests ≡ true → list_all (is_test_met (times_of t.facts sides) y) tests ≡ true
 all_met [] y t sides h = refl
 all_met (test ∷ tests) y t sides h =
-    let parts = both_of (time_holds (bound_by t) y test) (times_hold (bound_by t) y tests) h in
-    both _ _ (met_by (slice_get t.facts test.fact) test y parts.0) (all_met tests y t sides parts.1)
+    let parts = and_parts (time_holds (bound_by t) y test) (times_hold (bound_by t) y tests) h in
+    and_from _ _ (met_by (slice_get t.facts test.fact) test y parts.0) (all_met tests y t sides parts.1)
 
-meets_of : (p : Program) (q : Pattern) (t : Tuple) (y : Times) (sides : ℕ → Times) → IsPossible p q (bound_by t) y → Meets p q (times_of t.facts sides) y
+meets_of : (p : Program) (q : Pattern) (t : Tuple) (y : Times) (sides : ℕ → Times) → IsPossible p q (bound_by t) y → MeetsTests p q (times_of t.facts sides) y
 meets_of p q t y sides h = record { event = h.event; tests = all_met q.times y t sides h.tests }
 
 -- the tuple has an event that is possible for the pattern of this place
@@ -101,10 +106,10 @@ either k i j (inr (inr none)) = absurd none
 pub solves_of : (p : Program) (cs : List Condition) (i j : ℕ) (t : Tuple) (sides : ℕ → Times)
     → ((k : ℕ) (q : Pattern) → slice_get cs k ≡ Some (Plain q) → is_event p q.ty.0 ≡ true → HasBound p cs t k q)
     → ((k : ℕ) (c : Condition) → slice_get cs k ≡ Some c → binds c ≡ false → (k ≡ i) ⊎ (k ≡ j) → IsPossible p (pattern_of c) (bound_by t) (sides k))
-    → Solves p cs (i ∷ j ∷ []) (times_of t.facts sides)
+    → SolvesConditions p cs (i ∷ j ∷ []) (times_of t.facts sides)
 solves_of p cs i j t sides on_bound on_side k (Plain q) at_k member =
     let h = on_bound k q at_k member in
-    subst (λ (y : Times). Meets p q (times_of t.facts sides) y) (sym (ap times_or h.1)) (meets_of p q t h.0.times sides h.2)
+    subst (λ (y : Times). MeetsTests p q (times_of t.facts sides) y) (sym (ap times_or h.1)) (meets_of p q t h.0.times sides h.2)
 solves_of p cs i j t sides on_bound on_side k (Negated q) at_k member = meets_of p q t (sides k) sides (on_side k (Negated q) at_k refl (either k i j member))
 solves_of p cs i j t sides on_bound on_side k (Existing q) at_k member = meets_of p q t (sides k) sides (on_side k (Existing q) at_k refl (either k i j member))
 solves_of p cs i j t sides on_bound on_side k (Folded a) at_k member = meets_of p a.pattern t (sides k) sides (on_side k (Folded a) at_k refl (either k i j member))

@@ -1,9 +1,15 @@
 -- Each step without a fault changes the list of facts by loose ones alone, and never moves the clock back.
-use Rattle.rule_lives.proofs.Common.{◌≡◌, ◌==◌, ◌&&◌, not, ℕ, ℤ, ◌+ℤ◌, ◌≤ℤ◌, Bool, true, false, cond, if◌then◌else◌, List, [], ◌∷◌, ◌++◌, Option, Some, None, refl, sym, ◌∙◌, ap, subst, arith, inl, inr, slice_get, filter, ints, clamps, In, Fact, Value, Program, Step, Insert, Modify, Retract, Advance, At, Promise, Begin, is_present, Snapshot, Tuple, is_event, is_reference, is_observed, lateness_of, both_of, EventObserved, ReferenceFixed, Absent, IsLawful, World, snapshot, insert_fault, modify_fault, retract_fault, is_of_type, new_fact, has_id, stays, KeepsTuple, found, revised, revised_in, event_by, point_by, IsStarted, started, modified_plain, moved_forward, fact_with, found_there}
+use Rattle.rule_lives.proofs.Common.{◌≡◌, ◌==◌, ◌&&◌, ℕ, ℤ, ◌+ℤ◌, ◌≤ℤ◌, Bool, true, false, cond, if◌then◌else◌, List, [], ◌∷◌, ◌++◌, Option, Some, None, refl}
+use Rattle.rule_lives.proofs.Common.{sym, ◌∙◌, ap, subst, arith, inl, inr, slice_get, filter, ints, clamps, In, Fact, Value, Program, Step, Insert, Modify}
+use Rattle.rule_lives.proofs.Common.{Retract, Advance, At, Promise, Begin, is_present, Snapshot, Tuple, is_event, is_reference, is_observed, lateness_of}
+use Rattle.rule_lives.proofs.Common.{EventObserved, ReferenceFixed, Absent, IsLawful, World, snapshot, insert_fault, modify_fault, retract_fault, is_of_type}
+use Rattle.rule_lives.proofs.Common.{new_fact, has_id, stays, KeepsTuple, found, revised, revised_in, event_by, point_by, IsStarted, started, modified_plain}
+use Rattle.rule_lives.proofs.Common.{moved_forward, fact_with, found_there}
+use Rattle.std.specs.Int.Signed.{≤ℤ_refl}
+use Rattle.std.proofs.lemmas.Bool.{and_parts, eqb-true, not-false}
 use Rattle.rule_model.specs.Snapshots.{floor}
 use Rattle.rule_world.specs.Worlds.{moved, step_fault}
 use Rattle.rule_world.proofs.Faultless.{inserted as no_fault}
-use Rattle.rule_lives.proofs.Basics.{same_number}
 use Rattle.rule_lives.proofs.Flagged.{modified_open, retracted_open, Quiet}
 use Rattle.rule_lives.proofs.Shifts.{Loose, a_fact, gone, fresh, Timed, Shift, at_end, same, less, more}
 use Rattle.rule_lives.proofs.Transfers.{Turns}
@@ -56,9 +62,6 @@ module _ (p : Program) (c : ℤ) (tuple : Tuple) where
 
 -- ---- what a step without a fault has
 
-same_clock : (c : ℤ) → c ≤ℤ c
-same_clock c = omega (arith, ints)
-
 -- a new event starts from the clock less its lateness on
 floor_from : (p : Program) (s : Snapshot) (entry : ℕ) (start : ℤ) → floor p s entry ≤ℤ start → s.clock ≤ℤ (start +ℤ lateness_of p entry)
 unfolding floor
@@ -106,20 +109,16 @@ retracted_is_not_observed p ty there none event = by (is_event p ty) (is_observe
     by true false e k = refl
     by false b e k = absurd cc
 
-not_false : (a : Bool) → not a ≡ false → a ≡ true
-not_false true e = refl
-not_false false e = absurd cc
-
 -- what a retraction takes away is a plain fact of no reference type, or an event of a type that is not observed
 retracted_loose : (p : Program) (c : ℤ) (tuple : Tuple) (ty id : ℕ) (there : Option Fact) → retract_fault p ty there ≡ None
     → ((f : Fact) → In f tuple.facts → f.ty.0 ≡ ty → f.id.0 ≡ id → ⊥) → (f : Fact) → stays p c ty id f ≡ false → Loose p c tuple f
 retracted_loose p c tuple ty id there none keeps f out = by (is_event p f.ty.0) refl
   where
     parts : ((f.ty.0 == ty) ≡ true) × (has_id id f ≡ true)
-    parts = both_of (f.ty.0 == ty) (has_id id f) (both_of (is_present p c f) (f.ty.0 == ty && has_id id f) (not_false _ out)).1
+    parts = and_parts (f.ty.0 == ty) (has_id id f) (and_parts (is_present p c f) (f.ty.0 == ty && has_id id f) (not-false _ out)).1
 
     of_type : f.ty.0 ≡ ty
-    of_type = same_number f.ty.0 ty parts.0
+    of_type = eqb-true f.ty.0 ty parts.0
 
     of_its_type : (b : Bool) → is_event p f.ty.0 ≡ b → is_event p ty ≡ b
     of_its_type b e = ap (is_event p) (sym of_type) ∙ e
@@ -127,18 +126,18 @@ retracted_loose p c tuple ty id there none keeps f out = by (is_event p f.ty.0) 
     by : (b : Bool) → is_event p f.ty.0 ≡ b → Loose p c tuple f
     by false e = a_fact e (ap (is_reference p) of_type ∙ retracted_open p ty there none (of_its_type false e))
     by true e =
-        gone e (ap (is_observed p) of_type ∙ retracted_is_not_observed p ty there none (of_its_type true e)) (λ own. keeps f own of_type (same_number f.id.0 id parts.1))
+        gone e (ap (is_observed p) of_type ∙ retracted_is_not_observed p ty there none (of_its_type true e)) (λ own. keeps f own of_type (eqb-true f.id.0 id parts.1))
 
 -- the clock goes on
 pub clock_on : (p : Program) (w : World) (step : Step) → step_fault p w step ≡ None → w.clock ≤ℤ (moved p w step).clock
 unfolding moved step_fault
-clock_on p w (Insert ty entry fields) none = same_clock w.clock
-clock_on p w (Modify id sets) none = same_clock w.clock
-clock_on p w (Retract ty id) none = same_clock w.clock
+clock_on p w (Insert ty entry fields) none = ≤ℤ_refl w.clock
+clock_on p w (Modify id sets) none = ≤ℤ_refl w.clock
+clock_on p w (Retract ty id) none = ≤ℤ_refl w.clock
 clock_on p w (Advance by) none = (moved_forward w.clock (w.clock +ℤ by) none).0
 clock_on p w (At moment) none = (moved_forward w.clock moment none).0
-clock_on p w (Promise entry from) none = same_clock w.clock
-clock_on p w Begin none = same_clock w.clock
+clock_on p w (Promise entry from) none = ≤ℤ_refl w.clock
+clock_on p w Begin none = ≤ℤ_refl w.clock
 
 shift_of : (p : Program) (w : World) (step : Step) (tuple : Tuple) → IsLawful p w → step_fault p w step ≡ None → KeepsTuple step tuple → Quiet p step
     → Shift p w.clock tuple w.facts (moved p w step).facts
@@ -156,4 +155,4 @@ shift_of p w Begin tuple law none keeps quiet = stay p w.clock tuple w.facts (la
 pub turns_of : (p : Program) (w : World) (step : Step) (tuple : Tuple) → IsLawful p w → step_fault p w step ≡ None → KeepsTuple step tuple → Quiet p step
     → Turns p w.clock tuple (snapshot w) (snapshot (moved p w step))
 turns_of p w step tuple law none keeps quiet =
-    record { shift = shift_of p w step tuple law none keeps quiet; from = same_clock w.clock; to = clock_on p w step none }
+    record { shift = shift_of p w step tuple law none keeps quiet; from = ≤ℤ_refl w.clock; to = clock_on p w step none }

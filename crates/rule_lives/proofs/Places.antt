@@ -1,8 +1,11 @@
 -- The facts of a tuple and the places of their patterns.
-use Rattle.rule_lives.proofs.Common.{◌≡◌, ◌⊎◌, ℕ, zero, suc, ◌+◌, true, List, [], ◌∷◌, ◌++◌, length, Option, Some, refl, sym, ◌∙◌, ap, subst, arith, inl, inr, slice_get, take, In, Fact, Condition, Plain, Negated, Existing, Folded, Pattern, Program, is_inside, Makes, Snapshot, times_hold, Tuple, empty_tuple, bound_by, of_append, bindings, Made, append_assoc}
+use Rattle.rule_lives.proofs.Common.{◌≡◌, ◌⊎◌, ℕ, zero, suc, ◌+◌, true, List, [], ◌∷◌, ◌++◌, length, Option, Some, refl, sym, ◌∙◌, ap, subst, arith, inl, inr}
+use Rattle.rule_lives.proofs.Common.{slice_get, take, In, Fact, Condition, Plain, Negated, Existing, Folded, Pattern, Program, is_inside, Makes, Snapshot}
+use Rattle.rule_lives.proofs.Common.{times_hold, Tuple, empty_tuple, bound_by, bindings, Made, append_assoc}
 use Rattle.rule_lives.proofs.Basics.{Front, times_grow}
 use Rattle.rule_lives.proofs.Shifts.{of_counted}
 use Rattle.rule_lives.proofs.Transfers.{front_of, longer, next_place}
+use Rattle.fx_base.proofs.Sequences.{In-append}
 
 -- what a tuple says of the fact that a pattern bound
 pub record Stands (p : Program) (s : Snapshot) (tuple : Tuple) (q : Pattern) (x : Fact) : Type 0 where
@@ -73,7 +76,7 @@ module _ (p : Program) (s : Snapshot) (tuple : Tuple) where
   place_of (Plain r ∷ cs) t h x i =
       let e = ap (λ (u : Tuple). u.facts) h.1.2 in
       elim (place_of cs h.0 h.2 x i) [
-        | inl j ↦ elim (of_append x t.facts (h.1.0 ∷ []) (subst (λ (fs : List Fact). In x fs) e j)) [
+        | inl j ↦ elim (In-append x t.facts (h.1.0 ∷ []) (subst (λ (fs : List Fact). In x fs) e j)) [
           | inl before ↦ inl before
           | inr (inl is) ↦ inr (
             0,

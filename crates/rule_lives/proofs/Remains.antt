@@ -1,11 +1,14 @@
 -- What matches that come name is kept, and what is kept behind a step was kept before it.
-use Rattle.rule_lives.proofs.Common.{◌≡◌, not, ℤ, ◌+ℤ◌, ◌≤ℤ◌, Bool, true, false, refl, sym, ◌∙◌, ap, arith, ints, Match, Program, Step, Insert, Modify, Retract, Advance, At, Promise, Begin, matches, has_match, both, both_of, World, snapshot, was_present, IsKept, plain, unexpired, endless, living, pending, settled, still_fired, named, MatchNamesKept, KeptBefore}
+use Rattle.rule_lives.proofs.Common.{◌≡◌, not, ◌+ℤ◌, ◌≤ℤ◌, Bool, true, false, refl, sym, ◌∙◌, ap, Match, Program, Step, Insert, Modify, Retract, Advance, At}
+use Rattle.rule_lives.proofs.Common.{Promise, Begin, matches, has_match, World, snapshot, was_present, IsKept, plain, unexpired, endless, living, pending}
+use Rattle.rule_lives.proofs.Common.{settled, still_fired, named, MatchNamesKept, KeptBefore}
+use Rattle.std.proofs.lemmas.Bool.{and_from, and_parts, false_from_ne_true, not-true}
 use Rattle.rule_world.specs.Worlds.{moved, stepped}
 use Rattle.rule_world.proofs.Pending.{has_pending, has_still}
-use Rattle.rule_lives.proofs.Basics.{not_true}
 use Rattle.rule_lives.proofs.Keeps.{tuple_names_kept}
 use Rattle.rule_lives.proofs.Matched.{names_of, is_match, own_fact}
 use Rattle.rule_lives.proofs.Moves.{clock_on}
+use Rattle.fx_base.proofs.Orders.{≤ℤ_trans}
 
 pub match_names_kept : MatchNamesKept
 match_names_kept p table w step flagged ops are law none m is was_not f own inside =
@@ -15,10 +18,6 @@ match_names_kept p table w step flagged ops are law none m is was_not f own insi
     f (own_fact p w step m n f law own inside) inside
 
 -- ---- marks
-
-no_mark : (b : Bool) → not b ≡ true → b ≡ false
-no_mark true e = absurd cc
-no_mark false e = refl
 
 -- a move leaves the marks
 same_marks : (p : Program) (w : World) (step : Step) → (moved p w step).fired ≡ w.fired
@@ -35,29 +34,26 @@ same_marks p w Begin = refl
 pending_match : (p : Program) (w : World) (step : Step) (m : Match) → has_match (pending p (stepped p w step)) m ≡ true → has_match (matches p (snapshot (moved p w step))) m ≡ true
 unfolding stepped
 pending_match p w step m e =
-    (both_of (has_match (matches p (snapshot (moved p w step))) m) (not (has_match (settled p (moved p w step)).fired m)) (sym (has_pending p (stepped p w step) m) ∙ e)).0
+    (and_parts (has_match (matches p (snapshot (moved p w step))) m) (not (has_match (settled p (moved p w step)).fired m)) (sym (has_pending p (stepped p w step) m) ∙ e)).0
 
 -- and was not fired before the step
 was_unfired : (p : Program) (w : World) (step : Step) (m : Match) → has_match (pending p (stepped p w step)) m ≡ true → has_match w.fired m ≡ false
 unfolding stepped
 was_unfired p w step m e =
     let next = snapshot (moved p w step) in
-    let parts = both_of (has_match (matches p next) m) (not (has_match (settled p (moved p w step)).fired m)) (sym (has_pending p (stepped p w step) m) ∙ e) in
-    not_true (has_match w.fired m) (λ fired.
+    let parts = and_parts (has_match (matches p next) m) (not (has_match (settled p (moved p w step)).fired m)) (sym (has_pending p (stepped p w step) m) ∙ e) in
+    false_from_ne_true (has_match w.fired m) (λ fired.
     let still : has_match (still_fired p next (moved p w step).fired) m ≡ true =
-    has_still p next (moved p w step).fired m ∙ both _ _ (ap (λ ms. has_match ms m) (same_marks p w step) ∙ fired) parts.0 in
-    let not_still = no_mark (has_match (still_fired p next (moved p w step).fired) m) parts.1 in
+    has_still p next (moved p w step).fired m ∙ and_from _ _ (ap (λ ms. has_match ms m) (same_marks p w step) ∙ fired) parts.0 in
+    let not_still = not-true (has_match (still_fired p next (moved p w step).fired) m) parts.1 in
     let e : true ≡ false = sym still ∙ not_still in
     absurd cc)
 
 was_pending : (p : Program) (w : World) (step : Step) (m : Match) → has_match (pending p (stepped p w step)) m ≡ true → has_match (matches p (snapshot w)) m ≡ true
     → has_match (pending p w) m ≡ true
-was_pending p w step m e is = has_pending p w m ∙ both _ _ is (ap not (was_unfired p w step m e))
+was_pending p w step m e is = has_pending p w m ∙ and_from _ _ is (ap not (was_unfired p w step m e))
 
 -- ---- what is kept
-
-before_too : (a b c : ℤ) → a ≤ℤ b → b ≤ℤ c → a ≤ℤ c
-before_too a b c h k = omega (arith, ints)
 
 pub kept_before : KeptBefore
 unfolding stepped
@@ -66,7 +62,7 @@ kept_before p table w step flagged ops are law none f (unexpired expiry there ev
     unexpired expiry inside event expires (was_present p f w.clock (moved p w step).clock (clock_on p w step none) present)
 kept_before p table w step flagged ops are law none f (endless there e) inside = endless inside e
 kept_before p table w step flagged ops are law none f (living n there e le) inside =
-    living n inside e (before_too w.clock (moved p w step).clock (f.times.end +ℤ n) (clock_on p w step none) le)
+    living n inside e (≤ℤ_trans w.clock (moved p w step).clock (f.times.end +ℤ n) (clock_on p w step none) le)
 kept_before p table w step flagged ops are law none f (named m there is_pending own) inside = by (has_match (matches p (snapshot w)) m) refl
   where
     by : (b : Bool) → has_match (matches p (snapshot w)) m ≡ b → IsKept p table w f

@@ -1,18 +1,18 @@
 -- Tables that are safe to forget by.
-use Rattle.rule_lives.proofs.Common.{◌≡◌, ℕ, zero, suc, ℤ, ◌≤ℤ◌, Bool, true, false, List, [], ◌∷◌, map, length, Option, Some, None, refl, ap, subst, arith, slice_get, ints, Life, Explicit, Finite, Infinite, LifeTable, Program, AreSafe, is_event_type, expiry_in, IsLifeOf, IsSafeLife, LivesAreSafe, EndlessAreSafe}
+use Rattle.rule_lives.proofs.Common.{◌≡◌, ℕ, zero, suc, ℤ, ◌≤ℤ◌, Bool, true, false, List, [], ◌∷◌, map, length, Option, Some, None, refl, ap, subst, slice_get}
+use Rattle.rule_lives.proofs.Common.{Life, Explicit, Finite, Infinite, LifeTable, Program, AreSafe, is_event_type, expiry_in, IsLifeOf, IsSafeLife}
+use Rattle.rule_lives.proofs.Common.{LivesAreSafe, EndlessAreSafe}
+use Rattle.std.specs.Int.Signed.{≤ℤ_refl}
 use Rattle.rule_model.specs.declared.life.Life.TheVariants.{Plain}
 use Rattle.rule_model.specs.declared.program.TypeInfo.{TypeInfo}
 use Rattle.rule_model.specs.Lives.{IsShortLife, life_by, endless_life}
 use Rattle.rule_model.specs.Types.{is_event, expiry_of}
 
-as_long : (n : ℤ) → n ≤ℤ n
-as_long n = omega (arith, ints)
-
 -- the life of a type is safe
 pub safe_life : (p : Program) (ty : ℕ) (life : Life) → IsLifeOf p ty life → IsSafeLife p ty life
 safe_life p ty Plain is = is
 safe_life p ty (Explicit expiry) is = is
-safe_life p ty (Finite n) is = (n, is, as_long n)
+safe_life p ty (Finite n) is = (n, is, ≤ℤ_refl n)
 safe_life p ty Infinite is = (is.event, is.unexpired)
 
 pub lives_are_safe : LivesAreSafe

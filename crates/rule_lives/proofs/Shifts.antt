@@ -1,9 +1,13 @@
 -- Two lists of facts that differ by loose facts alone: what passes for an old pattern is the same.
-use Rattle.rule_lives.proofs.Common.{◌≡◌, ◌⊎◌, ℕ, ℤ, ◌+ℤ◌, ◌≤ℤ◌, true, false, cond, List, [], ◌∷◌, refl, sym, ◌∙◌, subst, ap, arith, inl, inr, filter, ints, In, Fact, Times, IsEvent, Pattern, Program, is_candidate, passes, passing, IsPossible, Snapshot, Tuple, bound_by, is_event, is_point, is_reference, is_observed, lateness_of, both, passed, candidates, in_filter}
+use Rattle.rule_lives.proofs.Common.{◌≡◌, ◌⊎◌, ℕ, ℤ, ◌+ℤ◌, ◌≤ℤ◌, true, false, cond, List, [], ◌∷◌, refl, sym, ◌∙◌, subst, ap, arith, inl, inr, filter, ints, In}
+use Rattle.rule_lives.proofs.Common.{Fact, Times, IsEvent, Pattern, Program, is_candidate, passes, passing, IsPossible, Snapshot, Tuple, bound_by, is_event}
+use Rattle.rule_lives.proofs.Common.{is_point, is_reference, is_observed, lateness_of, passed, candidates, in_filter}
+use Rattle.std.proofs.lemmas.Bool.{and_from, false_from_ne_true}
 use Rattle.rule_model.proofs.Named.{of_filter}
-use Rattle.rule_lives.proofs.Basics.{same_tests, not_true, two_filters}
+use Rattle.rule_lives.proofs.Basics.{two_filters}
 use Rattle.rule_lives.proofs.Flagged.{Steady}
 use Rattle.rule_lives.proofs.Still.{Settled, Still, old, steady, counts, Counts, counts_parts, counts_join, stays, tail_of}
+use Rattle.fx_base.proofs.Tests.{same_test}
 
 -- ---- members
 
@@ -11,7 +15,7 @@ pub of_counted : (p : Program) (q : Pattern) (s : Snapshot) (t : Tuple) (x : Fac
 of_counted p q s t x h =
     let i = of_filter (passes q t) x (candidates p q s) h in (
       of_filter (is_candidate p q s) x s.facts i,
-      counts_parts p q s t x (both _ _ (passed (is_candidate p q s) x s.facts i) (passed (passes q t) x (candidates p q s) h)),
+      counts_parts p q s t x (and_from _ _ (passed (is_candidate p q s) x s.facts i) (passed (passes q t) x (candidates p q s) h)),
     )
 
 counted_in : (p : Program) (q : Pattern) (s : Snapshot) (t : Tuple) (x : Fact) → In x s.facts → Counts p q s t x → In x (passing p q s t)
@@ -106,7 +110,7 @@ counts_too p c q s o t f a g from h =
     counts_join p q o t f (stays p q s o c t f from (still_of p c q s t f a g k) k)
 
 loose_out : (p : Program) (c : ℤ) (tuple : Tuple) (q : Pattern) (s : Snapshot) (t : Tuple) (f : Fact) → Calm p c q t → Timed p f → Loose p c tuple f → counts p q s t f ≡ false
-loose_out p c tuple q s t f a g l = not_true (counts p q s t f) (λ h.
+loose_out p c tuple q s t f a g l = false_from_ne_true (counts p q s t f) (λ h.
     let k = counts_parts p q s t f h in
     loose_not p c tuple q f k.ty k.entry (still_of p c q s t f a g k) l (λ event unseen own. not_gone p c q t f a k.ty event unseen))
 
@@ -115,7 +119,7 @@ counted_same : (p : Program) (c : ℤ) (tuple : Tuple) (q : Pattern) (s o : Snap
 counted_same p c tuple q s o t a from to at_end = refl
 counted_same p c tuple q s o t a from to (same {f} {xs} {ys} g r) =
     ap (λ b. cond b (f ∷ filter (counts p q s t) xs) (filter (counts p q s t) xs))
-    (same_tests (counts p q s t f) (counts p q o t f) (counts_too p c q s o t f a g from) (counts_too p c q o s t f a g to))
+    (same_test (counts p q s t f) (counts p q o t f) (counts_too p c q s o t f a g from) (counts_too p c q o s t f a g to))
     ∙ ap (λ (fs : List Fact). cond (counts p q o t f) (f ∷ fs) fs) (counted_same p c tuple q s o t a from to r)
 counted_same p c tuple q s o t a from to (less {f} {xs} {ys} g l r) =
     ap (λ b. cond b (f ∷ filter (counts p q s t) xs) (filter (counts p q s t) xs)) (loose_out p c tuple q s t f a g l) ∙ counted_same p c tuple q s o t a from to r

@@ -1,10 +1,15 @@
 -- A fact that is older than a pattern's tail, or of a reference type, passes over one snapshot exactly where it passes over another.
-use Rattle.rule_lives.proofs.Common.{◌≡◌, ◌==◌, ℕ, ℤ, ◌+ℤ◌, ◌-ℤ◌, ◌≤ℤ◌, ◌<ℤ◌, Bool, true, false, not, ◌&&◌, ◌||◌, List, Option, Some, None, if◌then◌else◌, refl, subst, ap, ◌∙◌, arith, ints, clamps, Fact, Times, Pattern, WindowTag, Whole, Time, Length, Program, is_inside, is_candidate, passes, Snapshot, times_hold, Tuple, bound_by, is_event, lateness_of, both, both_of, finite, infinite, is_within, fits, tests_hold, unbound, expiry_of, plain_present, tail_by}
+use Rattle.rule_lives.proofs.Common.{◌≡◌, ◌==◌, ℕ, ℤ, ◌+ℤ◌, ◌-ℤ◌, ◌≤ℤ◌, ◌<ℤ◌, Bool, true, false, not, ◌&&◌, ◌||◌, List, Option, Some, None, if◌then◌else◌, refl}
+use Rattle.rule_lives.proofs.Common.{subst, ap, ◌∙◌, arith, ints, clamps, Fact, Times, Pattern, WindowTag, Whole, Time, Length, Program, is_inside}
+use Rattle.rule_lives.proofs.Common.{is_candidate, passes, Snapshot, times_hold, Tuple, bound_by, is_event, lateness_of, finite, infinite, is_within, fits}
+use Rattle.rule_lives.proofs.Common.{tests_hold, unbound, expiry_of, plain_present, tail_by}
+use Rattle.std.proofs.lemmas.Bool.{and_from, and_parts, eq-eqb, eqb-true}
+use Rattle.std.proofs.Math.Bool.{or-true}
 use Rattle.std.specs.Int.{int_max}
 use Rattle.rule_model.specs.Candidates.{is_present}
 use Rattle.rule_lives.specs.Lifetimes.{tail}
-use Rattle.rule_lives.proofs.Basics.{below, same_number, number_same}
 use Rattle.rule_lives.proofs.Flagged.{Steady}
+use Rattle.fx_base.proofs.Orders.{int_lt-true}
 
 -- ---- tails
 
@@ -65,16 +70,12 @@ pub data Still (p : Program) (c : ℤ) (q : Pattern) (y : Times) : Type 0 where
 
 -- ---- what is left of the tests of an old fact
 
-or_true : (a : Bool) → (a || true) ≡ true
-or_true true = refl
-or_true false = refl
-
 unexpired : (event : Bool) (expiry : Option ℤ) (now start c most : ℤ) → event ≡ true → ((x : ℤ) → expiry ≡ Some x → x ≤ℤ most)
     → (not event || is_within expiry (now -ℤ start)) ≡ true → c ≤ℤ now → (start +ℤ most) <ℤ c → expiry ≡ None
 unexpired true None now start c most e least h from past = refl
 unexpired true (Some x) now start c most e least h from past =
     let l = least x refl in
-    let k = below (now -ℤ start) x h in
+    let k = int_lt-true (now -ℤ start) x h in
     absurd (omega (arith, ints))
 unexpired false expiry now start c most e least h from past = absurd cc
 
@@ -83,7 +84,7 @@ in_whole : (p : Program) (q : Pattern) (window : WindowTag) (now : ℤ) (facts :
 in_whole p q Whole now facts f c most least free h from past = refl
 in_whole p q (Time span) now facts f c most least free h from past =
     let l = least span refl in
-    let k = below (now -ℤ f.times.start) span h in
+    let k = int_lt-true (now -ℤ f.times.start) span h in
     absurd (omega (arith, ints))
 in_whole p q (Length count) now facts f c most least free h from past = absurd (free count refl)
 
@@ -102,19 +103,19 @@ pub record Counts (p : Program) (q : Pattern) (s : Snapshot) (t : Tuple) (f : Fa
 
 pub counts_parts : (p : Program) (q : Pattern) (s : Snapshot) (t : Tuple) (f : Fact) → counts p q s t f ≡ true → Counts p q s t f
 counts_parts p q s t f h =
-    let a = both_of (is_candidate p q s f) (passes q t f) h in
-    let b = both_of (fits p q s.clock f) (is_inside p q q.window s.clock s.facts f) a.0 in
-    let d = both_of (is_present p s.clock f) (f.ty.0 == q.ty.0 && (f.entry.0 == q.entry.0 && tests_hold unbound f q.alone)) b.0 in
-    let e = both_of (f.ty.0 == q.ty.0) (f.entry.0 == q.entry.0 && tests_hold unbound f q.alone) d.1 in
-    let g = both_of (f.entry.0 == q.entry.0) (tests_hold unbound f q.alone) e.1 in
-    let k = both_of (tests_hold (bound_by t) f q.joined) (times_hold (bound_by t) f.times q.times) a.1 in
-    record { present = d.0; ty = same_number f.ty.0 q.ty.0 e.0; entry = same_number f.entry.0 q.entry.0 g.0; alone = g.1; inside = b.1; joined = k.0; times = k.1 }
+    let a = and_parts (is_candidate p q s f) (passes q t f) h in
+    let b = and_parts (fits p q s.clock f) (is_inside p q q.window s.clock s.facts f) a.0 in
+    let d = and_parts (is_present p s.clock f) (f.ty.0 == q.ty.0 && (f.entry.0 == q.entry.0 && tests_hold unbound f q.alone)) b.0 in
+    let e = and_parts (f.ty.0 == q.ty.0) (f.entry.0 == q.entry.0 && tests_hold unbound f q.alone) d.1 in
+    let g = and_parts (f.entry.0 == q.entry.0) (tests_hold unbound f q.alone) e.1 in
+    let k = and_parts (tests_hold (bound_by t) f q.joined) (times_hold (bound_by t) f.times q.times) a.1 in
+    record { present = d.0; ty = eqb-true f.ty.0 q.ty.0 e.0; entry = eqb-true f.entry.0 q.entry.0 g.0; alone = g.1; inside = b.1; joined = k.0; times = k.1 }
 
 pub counts_join : (p : Program) (q : Pattern) (s : Snapshot) (t : Tuple) (f : Fact) → Counts p q s t f → counts p q s t f ≡ true
 counts_join p q s t f h =
-    both _ _
-    (both _ _ (both _ _ h.present (both _ _ (number_same f.ty.0 q.ty.0 h.ty) (both _ _ (number_same f.entry.0 q.entry.0 h.entry) h.alone))) h.inside)
-    (both _ _ h.joined h.times)
+    and_from _ _
+    (and_from _ _ (and_from _ _ h.present (and_from _ _ (eq-eqb f.ty.0 q.ty.0 h.ty) (and_from _ _ (eq-eqb f.entry.0 q.entry.0 h.entry) h.alone))) h.inside)
+    (and_from _ _ h.joined h.times)
 
 present_parts : (p : Program) (now : ℤ) (f : Fact) → is_present p now f ≡ true → (not (is_event p f.ty.0) || is_within (expiry_of p f.ty.0) (now -ℤ f.times.start)) ≡ true
 unfolding is_present
@@ -122,7 +123,7 @@ present_parts p now f h = h
 
 pub always_present : (p : Program) (now : ℤ) (f : Fact) → expiry_of p f.ty.0 ≡ None → is_present p now f ≡ true
 unfolding is_present
-always_present p now f e = ap (λ (x : Option ℤ). not (is_event p f.ty.0) || is_within x (now -ℤ f.times.start)) e ∙ or_true (not (is_event p f.ty.0))
+always_present p now f e = ap (λ (x : Option ℤ). not (is_event p f.ty.0) || is_within x (now -ℤ f.times.start)) e ∙ or-true (not (is_event p f.ty.0))
 
 -- what counts at one clock from c on, and is still there, counts at every clock
 pub stays : (p : Program) (q : Pattern) (s o : Snapshot) (c : ℤ) (t : Tuple) (f : Fact) → c ≤ℤ s.clock → Still p c q f.times → Counts p q s t f → Counts p q o t f

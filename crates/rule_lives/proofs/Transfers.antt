@@ -1,10 +1,13 @@
 -- A tuple of which every condition is settled is made over both snapshots or over none.
-use Rattle.rule_lives.proofs.Common.{◌≡◌, ℕ, suc, ℤ, ◌-ℤ◌, ◌≤ℤ◌, List, [], ◌∷◌, ◌++◌, length, Some, sym, ◌∙◌, ap, subst, arith, slice_get, ints, In, Fact, Condition, Plain, Negated, Existing, Folded, Pattern, Program, Times, passing, IsPossible, Makes, Snapshot, Tuple, bound_by, lateness_of, in_place, length-append, IsMature, of_plain, of_none, of_unbounded, of_past, result_of, floor}
+use Rattle.rule_lives.proofs.Common.{◌≡◌, ℕ, suc, ℤ, ◌-ℤ◌, ◌≤ℤ◌, List, [], ◌∷◌, ◌++◌, length, Some, sym, ◌∙◌, ap, subst, arith, slice_get, ints, In, Fact}
+use Rattle.rule_lives.proofs.Common.{Condition, Plain, Negated, Existing, Folded, Pattern, Program, Times, passing, IsPossible, Makes, Snapshot, Tuple}
+use Rattle.rule_lives.proofs.Common.{bound_by, lateness_of, in_place, length-append, IsMature, of_plain, of_none, of_unbounded, of_past, result_of, floor}
 use Rattle.rule_model.proofs.Grown.{makes_grow, begins}
-use Rattle.rule_lives.proofs.Basics.{Front, at_grows, at_last, times_grow}
+use Rattle.rule_lives.proofs.Basics.{Front, times_grow}
 use Rattle.rule_lives.proofs.Still.{Still, tail_of}
 use Rattle.rule_lives.proofs.Shifts.{Calm, aged, fixed, Shift, back, passing_same, own_stays}
 use Rattle.rule_model.proofs.Floors.{clock_below_floor}
+use Rattle.fx_base.proofs.Sequences.{get-append_left, get-last}
 
 pub front_of : (p : Program) (s : Snapshot) (cs : List Condition) (t made : Tuple) → Makes p s cs t made → Front t made
 front_of p s cs t made h = begins p s cs t made (makes_grow p s cs t made h)
@@ -64,7 +67,7 @@ longer t next f e =
 pub next_place : (t next made : Tuple) (f : Fact) → next.facts ≡ t.facts ++ f ∷ [] → Front next made → slice_get made.facts (length t.facts) ≡ Some f
 next_place t next made f e front =
     ap (λ (fs : List Fact). slice_get fs (length t.facts)) (front.1 ∙ ap (λ (fs : List Fact). fs ++ front.0) e)
-    ∙ at_grows (t.facts ++ f ∷ []) front.0 (length t.facts) f (at_last t.facts f)
+    ∙ get-append_left (t.facts ++ f ∷ []) front.0 (length t.facts) f (get-last t.facts f)
 
 module _ (p : Program) (c : ℤ) (tuple : Tuple) (s o : Snapshot) (r : Turns p c tuple s o) where
   same_passing : (q : Pattern) (t : Tuple) → Front t tuple → Calm p c q tuple → passing p q s t ≡ passing p q o t

@@ -14,13 +14,12 @@ use Rattle.rule_model.specs.declared.step.Step.{Step}
 use Rattle.rule_model.specs.Candidates.{is_present, passing}
 use Rattle.rule_model.specs.Lives.{AreShort, endless_lives}
 use Rattle.rule_model.specs.Matches.{matches, has_match}
-use Rattle.rule_model.specs.Rows.{pattern_of}
+use Rattle.rule_model.specs.Rows.{pattern_of, binds}
 use Rattle.rule_model.specs.Tuples.{Tuple, name_of}
 use Rattle.rule_model.specs.Types.{is_event, expiry_of}
 use Rattle.rule_world.specs.Lawful.{IsLawful}
 use Rattle.rule_world.specs.Programs.{UseOperators}
 use Rattle.rule_world.specs.Worlds.{World, snapshot, pending, moved, stepped, step_fault}
-use Rattle.rule_lives.specs.Networks.{binds}
 use Rattle.rule_lives.specs.Reach.{finite, infinite}
 use Rattle.rule_lives.specs.Lifetimes.{IsLife}
 use Rattle.rule_lives.specs.Law.{Made, IsFlagged}

@@ -10,14 +10,13 @@ use Rattle.rule_model.specs.declared.program.Rule.{Rule}
 use Rattle.rule_model.specs.declared.step.Step.{Step}
 use Rattle.rule_model.specs.declared.step.Step.TheVariants.{Insert, Modify, Retract, Advance, At, Promise, Begin}
 use Rattle.rule_model.specs.Candidates.{passing}
-use Rattle.rule_model.specs.Rows.{Makes, pattern_of}
+use Rattle.rule_model.specs.Rows.{Makes, pattern_of, binds}
 use Rattle.rule_model.specs.Simple.{is_observed_in}
 use Rattle.rule_model.specs.Snapshots.{Snapshot}
 use Rattle.rule_model.specs.Tuples.{Tuple, empty_tuple}
 use Rattle.rule_model.specs.Types.{is_event, is_reference, is_observed}
 use Rattle.rule_world.specs.Worlds.{World, snapshot, moved, step_fault}
 use Rattle.rule_world.specs.Lawful.{IsLawful}
-use Rattle.rule_lives.specs.Networks.{binds}
 use Rattle.rule_lives.specs.Reach.{finite}
 use Rattle.rule_lives.specs.Lifetimes.{IsLife}
 

@@ -1,6 +1,6 @@
 -- The network of the temporal tests of conditions: each event condition has an occurrence, which is a start and an end, and each temporal
 -- test bounds the differences of these points (Dechter, Meiri, Pearl 1991, simple temporal networks).
-use Rattle.std.specs.Prelude.{◌≡◌, ℕ, Bool, true, false, List, [], take, Some, slice_get}
+use Rattle.std.specs.Prelude.{◌≡◌, ℕ, Bool, true, List, [], take, Some, slice_get}
 use Rattle.std.specs.List.{list_all}
 use Rattle.fx_base.specs.Lists.{In}
 use Rattle.fx_base.specs.declared.times.Times.{Times}
@@ -21,13 +21,6 @@ pub data Occurrence : Type 0 where
   bound : ℕ → Occurrence
   aside : ℕ → Occurrence
 
--- whether the condition binds a fact
-abbrev pub binds : Condition → Bool
-binds (Plain pattern) = true
-binds (Negated pattern) = false
-binds (Existing pattern) = false
-binds (Folded a) = false
-
 -- the occurrence of the condition of this place
 abbrev pub occurrence : List Condition → ℕ → Condition → Occurrence
 occurrence conditions place (Plain pattern) = bound (bindings (take place conditions))
@@ -43,20 +36,20 @@ IsMember p places place (Existing pattern) = In place places
 IsMember p places place (Folded a) = In place places
 
 -- the operator of a temporal test holds of the tested event and the one that it names
-abbrev pub is_met : (Occurrence → Times) → Times → TimeTest → Bool
-is_met times y test = edges_hold test.op y (times (bound test.fact))
+abbrev pub is_test_met : (Occurrence → Times) → Times → TimeTest → Bool
+is_test_met times y test = edges_hold test.op y (times (bound test.fact))
 
 -- an event of the pattern's type that meets its temporal tests
-pub record Meets (p : Program) (pattern : Pattern) (times : Occurrence → Times) (y : Times) : Type 0 where
+pub record MeetsTests (p : Program) (pattern : Pattern) (times : Occurrence → Times) (y : Times) : Type 0 where
   pub event : IsEvent (is_point p pattern.ty.0) y
-  pub tests : list_all (is_met times y) pattern.times ≡ true
+  pub tests : list_all (is_test_met times y) pattern.times ≡ true
 
 -- Times for the occurrences that solve the network of the conditions and these places; what no member stands for may have any.
-abbrev pub Solves : Program → List Condition → List ℕ → (Occurrence → Times) → Type 0
-Solves p conditions places times =
+abbrev pub SolvesConditions : Program → List Condition → List ℕ → (Occurrence → Times) → Type 0
+SolvesConditions p conditions places times =
     (place : ℕ) (c : Condition) → slice_get conditions place ≡ Some c → IsMember p places place c
-    → Meets p (pattern_of c) times (times (occurrence conditions place c))
+    → MeetsTests p (pattern_of c) times (times (occurrence conditions place c))
 
 -- some events can be a match of the patterns that bind events, as far as their temporal tests say
-abbrev pub IsSolvable : Program → List Condition → Type 0
-IsSolvable p conditions = (times : Occurrence → Times) × Solves p conditions [] times
+abbrev pub AreSolvable : Program → List Condition → Type 0
+AreSolvable p conditions = (times : Occurrence → Times) × SolvesConditions p conditions [] times

@@ -3,7 +3,7 @@ use Rattle.std.specs.Prelude.{◌≡◌, ℕ, ℤ, ◌+ℤ◌, ◌-ℤ◌, ◌�
 use Rattle.fx_base.specs.declared.times.Times.{Times}
 use Rattle.rule_model.specs.declared.condition.Condition.{Condition}
 use Rattle.rule_model.specs.declared.program.Program.{Program}
-use Rattle.rule_lives.specs.Networks.{Occurrence, occurrence, Solves}
+use Rattle.rule_lives.specs.Networks.{Occurrence, occurrence, SolvesConditions}
 
 -- milliseconds, or for ever
 pub data Limit : Type 0 where
@@ -34,10 +34,10 @@ distance conditions i j times = (times (occurrence_of conditions j)).start -ℤ 
 
 -- the network of the conditions and of i and j
 abbrev pub SolvesWith : Program → List Condition → Placed → Placed → (Occurrence → Times) → Type 0
-SolvesWith p conditions i j times = Solves p conditions (i.place ∷ j.place ∷ []) times
+SolvesWith p conditions i j times = SolvesConditions p conditions (i.place ∷ j.place ∷ []) times
 
 -- the greatest distance over all solutions, which some solution has
-pub record IsGreatest (p : Program) (conditions : List Condition) (i : Placed) (j : Placed) (most : ℤ) : Type 0 where
+pub record IsGreatestReach (p : Program) (conditions : List Condition) (i : Placed) (j : Placed) (most : ℤ) : Type 0 where
   pub bounds : (times : Occurrence → Times) → SolvesWith p conditions i j times → distance conditions i j times ≤ℤ most
   pub times : Occurrence → Times
   pub solves : SolvesWith p conditions i j times
@@ -45,6 +45,6 @@ pub record IsGreatest (p : Program) (conditions : List Condition) (i : Placed) (
 
 -- How far j reaches behind the end of i. Where there is no solution, no limit is the reach.
 abbrev pub IsReach : Program → List Condition → Placed → Placed → Limit → Type 0
-IsReach p conditions i j (finite most) = IsGreatest p conditions i j most
+IsReach p conditions i j (finite most) = IsGreatestReach p conditions i j most
 IsReach p conditions i j infinite =
-    ((times : Occurrence → Times) × SolvesWith p conditions i j times) × ((most : ℤ) → IsGreatest p conditions i j most → ⊥)
+    ((times : Occurrence → Times) × SolvesWith p conditions i j times) × ((most : ℤ) → IsGreatestReach p conditions i j most → ⊥)

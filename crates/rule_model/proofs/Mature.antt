@@ -1,5 +1,10 @@
 -- The function says of what was bound that it is mature exactly where it is.
-use Rattle.rule_model.proofs.Common.{◌≡◌, ◌↔◌, ◌&&◌, ◌||◌, not, ℤ, ◌+ℤ◌, ◌≤ℤ◌, ◌<ℤ◌, int_lt, pos, Bool, true, false, List, [], ◌∷◌, Option, Some, None, option_map, refl, sym, ◌∙◌, ap, subst, arith, ints, Fact, Pattern, Program, AreOperators, times_hold, Bindings, All, IsPossible, IsMature, of_plain, of_none, of_unbounded, of_past, bounds_of, window_by, window_at, is_past, time_holds_with, is_event, is_point}
+use Rattle.rule_model.proofs.Common.{◌≡◌, ◌↔◌, ◌&&◌, ◌||◌, not, ℤ, ◌+ℤ◌, ◌≤ℤ◌, pos, Bool, true, false, List, [], ◌∷◌, Option, Some, None, option_map, refl, sym}
+use Rattle.rule_model.proofs.Common.{◌∙◌, ap, subst, arith, ints, Fact, Pattern, Program, AreOperators, IsPossible, IsMature, of_plain, of_none, of_unbounded}
+use Rattle.rule_model.proofs.Common.{of_past, bounds_of, window_by_lists, start_window_at, is_past, times_hold, time_holds_with, Bindings, All, is_event}
+use Rattle.rule_model.proofs.Common.{is_point, int_lt-true, lt-int_lt}
+use Rattle.rule_model.specs.Maturity.{is_mature}
+use Rattle.std.proofs.Math.Bool.{and-false}
 use Rattle.std.specs.Option.{option_and_then}
 use Rattle.std.proofs.lemmas.List.Elements.{All-nil, All-cons, All-head, All-tail}
 use Rattle.fx_base.specs.declared.times.Times.{Times}
@@ -7,12 +12,11 @@ use Rattle.temporal_ops.specs.declared.edge.OpEdge.{OpEdge}
 use Rattle.temporal_ops.specs.declared.window.Window.{Window}
 use Rattle.temporal_ops.specs.declared.window.Window.TheVariants.{Never, UpTo, Unbounded}
 use Rattle.temporal_ops.specs.Edges.{edges_hold, IsOpEdge, Joins}
-use Rattle.temporal_ops.specs.Possible.{IsEvent, IsNone, IsLatest, IsUnbounded, AreStarts, all_hold}
-use Rattle.temporal_ops.specs.Possible as possible
-use Rattle.temporal_ops.specs.Starts.{window_of}
+use Rattle.temporal_ops.specs.Possible.{IsNone, AreStarts, all_hold}
+use Rattle.temporal_ops.specs.Starts.{starts_window}
 use Rattle.temporal_ops.proofs.WindowOfEdges.{window_is_of_edges}
 use Rattle.rule_model.specs.declared.test.TimeTest.{TimeTest}
-use Rattle.rule_model.specs.Maturity.{is_mature}
+use Rattle.temporal_ops.specs.Possible as possible
 
 abbrev pub Bounds : Type 0
 Bounds = List (List OpEdge × Times)
@@ -22,14 +26,10 @@ abbrev TimesAs : Option Bounds → Times → Bool → Type 0
 TimesAs None y b = b ≡ false
 TimesAs (Some bounds) y b = b ≡ all_hold bounds y
 
-never_both : (a : Bool) → (a && false) ≡ false
-never_both true = refl
-never_both false = refl
-
 one_more : (test : TimeTest) (y : Times) (o : Option Fact) (rest : Option Bounds) (more : Bool) → TimesAs rest y more
     → TimesAs (option_and_then (λ b. option_map (λ bs. b ∷ bs) rest) (option_map (λ (f : Fact). (test.op, f.times)) o)) y (time_holds_with test.op y o && more)
 one_more test y None rest more h = refl
-one_more test y (Some f) None more h = ap (λ b. edges_hold test.op y f.times && b) h ∙ never_both (edges_hold test.op y f.times)
+one_more test y (Some f) None more h = ap (λ b. edges_hold test.op y f.times && b) h ∙ and-false (edges_hold test.op y f.times)
 one_more test y (Some f) (Some bounds) more h = ap (λ b. edges_hold test.op y f.times && b) h
 
 times_as : (bound : Bindings) (tests : List TimeTest) (y : Times) → TimesAs (bounds_of bound tests) y (times_hold bound y tests)
@@ -39,7 +39,7 @@ times_as bound (test ∷ tests) y = one_more test y (bound.fact test.fact) (boun
 -- ---- possible events
 
 same_possible : (p : Program) (q : Pattern) (bound : Bindings) (bounds : Bounds) → bounds_of bound q.times ≡ Some bounds
-    → (y : Times) → possible.IsPossible bounds (is_point p q.ty.0) y ↔ IsPossible p q bound y
+    → (y : Times) → possible.ArePossibleTimes bounds (is_point p q.ty.0) y ↔ IsPossible p q bound y
 same_possible p q bound bounds e y =
     let t : times_hold bound y q.times ≡ all_hold bounds y = subst (λ o. TimesAs o y (times_hold bound y q.times)) e (times_as bound q.times y) in (
       λ h. record { event = h.event; tests = t ∙ h.holds },
@@ -92,26 +92,20 @@ none_told {V} {W} f {o} {r} h e = sym h ∙ ap (option_map f) e
 pub some_told : {V W : Type 0} (f : V → W) {o : Option V} {r : Option W} {v : V} → option_map f o ≡ r → o ≡ Some v → r ≡ Some (f v)
 some_told {V} {W} f {o} {r} {v} h e = sym h ∙ ap (option_map f) e
 
-window_is : (p : Program) (q : Pattern) (bound : Bindings) → AreOperators q.times → AreStarts (IsPossible p q bound) (window_at p q bound)
+window_is : (p : Program) (q : Pattern) (bound : Bindings) → AreOperators q.times → AreStarts (IsPossible p q bound) (start_window_at p q bound)
 window_is p q bound ops = by_bounds (bounds_of bound q.times) refl
   where
-    by_bounds : (o : Option Bounds) → bounds_of bound q.times ≡ o → AreStarts (IsPossible p q bound) (window_by (is_point p q.ty.0) o)
+    by_bounds : (o : Option Bounds) → bounds_of bound q.times ≡ o → AreStarts (IsPossible p q bound) (window_by_lists (is_point p q.ty.0) o)
     by_bounds None e = none_possible p q bound e
     by_bounds (Some bounds) e =
-        starts_same (possible.IsPossible bounds (is_point p q.ty.0)) (IsPossible p q bound) (same_possible p q bound bounds e) (window_of bounds (is_point p q.ty.0))
+        starts_same (possible.ArePossibleTimes bounds (is_point p q.ty.0)) (IsPossible p q bound) (same_possible p q bound bounds e) (starts_window bounds (is_point p q.ty.0))
         (window_is_of_edges bounds (is_point p q.ty.0) (bounds_join bound q.times bounds ops e))
 
 -- ---- mature
 
-lt_true : (x y : ℤ) → x <ℤ y → int_lt x y ≡ true
-lt_true x y h = grind (arith, ints)
-
-true_lt : (x y : ℤ) → int_lt x y ≡ true → x <ℤ y
-true_lt x y h = grind (arith, ints)
-
 past_mature : (p : Program) (q : Pattern) (bound : Bindings) (moment : ℤ) (w : Window) → AreStarts (IsPossible p q bound) w → is_past w moment ≡ true → IsMature p q bound moment
 past_mature p q bound moment Never starts e = of_none starts
-past_mature p q bound moment (UpTo u) starts e = of_past u starts (true_lt u moment e)
+past_mature p q bound moment (UpTo u) starts e = of_past u starts (int_lt-true u moment e)
 past_mature p q bound moment Unbounded starts e = of_unbounded starts
 
 mature_past : (p : Program) (q : Pattern) (bound : Bindings) (moment : ℤ) (w : Window) → is_event p q.ty.0 ≡ true → AreStarts (IsPossible p q bound) w
@@ -127,15 +121,15 @@ mature_past p q bound moment (UpTo u) event starts (of_unbounded many) =
 mature_past p q bound moment (UpTo u) event starts (of_past v latest before) =
     let l : starts.event.start ≤ℤ v = latest.latest starts.event starts.possible in
     let e : starts.event.start ≡ u = starts.starts in
-    lt_true u moment (omega (arith, ints, l, e, before))
+    lt-int_lt u moment (omega (arith, ints, l, e, before))
 
 pub mature_is : (p : Program) (q : Pattern) (bound : Bindings) (moment : ℤ) → AreOperators q.times → is_mature p q bound moment ≡ true ↔ IsMature p q bound moment
 unfolding is_mature
 mature_is p q bound moment ops = by_event (is_event p q.ty.0) refl
   where
-    by_event : (b : Bool) → is_event p q.ty.0 ≡ b → (not b || is_past (window_at p q bound) moment) ≡ true ↔ IsMature p q bound moment
+    by_event : (b : Bool) → is_event p q.ty.0 ≡ b → (not b || is_past (start_window_at p q bound) moment) ≡ true ↔ IsMature p q bound moment
     by_event false e = (λ _. of_plain e, λ _. refl)
     by_event true e = (
-      past_mature p q bound moment (window_at p q bound) (window_is p q bound ops),
-      mature_past p q bound moment (window_at p q bound) e (window_is p q bound ops),
+      past_mature p q bound moment (start_window_at p q bound) (window_is p q bound ops),
+      mature_past p q bound moment (start_window_at p q bound) e (window_is p q bound ops),
     )

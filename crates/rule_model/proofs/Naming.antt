@@ -1,5 +1,6 @@
 -- What stands at the tags that a row names.
-use Rattle.rule_model.proofs.Common.{◌≡◌, ◌&&◌, ℕ, ℤ, zero, suc, inl, inr, List, [], ◌∷◌, map, Option, Some, refl, sym, ◌∙◌, ap, subst, In, Tag, Fact, Row, Pattern, passes, bound_in, tests_hold, times_hold, Tuple, Bindings, name_of, row_of, bound_by, slice_get, Holds, named_at}
+use Rattle.rule_model.proofs.Common.{◌≡◌, ◌&&◌, ℕ, ℤ, zero, suc, inl, inr, List, [], ◌∷◌, map, Option, Some, refl, sym, ◌∙◌, ap, subst, slice_get, In, Tag}
+use Rattle.rule_model.proofs.Common.{Fact, Row, Pattern, passes, bound_in, Holds, named_at, tests_hold, times_hold, Tuple, Bindings, name_of, row_of, bound_by}
 use mathlib.Core.Path.{fun_ext}
 use Rattle.rule_model.proofs.Named.{AllOf}
 

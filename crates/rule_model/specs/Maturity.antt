@@ -7,8 +7,8 @@ use Rattle.temporal_ops.specs.declared.edge.OpEdge.{OpEdge}
 use Rattle.temporal_ops.specs.declared.window.Window.{Window}
 use Rattle.temporal_ops.specs.declared.window.Window.TheVariants.{Never, UpTo, Unbounded}
 use Rattle.temporal_ops.specs.Edges.{IsOp}
-use Rattle.temporal_ops.specs.Possible.{IsEvent, IsNone, IsLatest, IsUnbounded}
-use Rattle.temporal_ops.specs.Starts.{window_of}
+use Rattle.temporal_ops.specs.Possible.{IsEvent, IsNone, IsLatest, AreStartsUnbounded}
+use Rattle.temporal_ops.specs.Starts.{starts_window}
 use Rattle.rule_model.specs.declared.condition.Pattern.{Pattern}
 use Rattle.rule_model.specs.declared.program.Program.{Program}
 use Rattle.rule_model.specs.declared.test.TimeTest.{TimeTest}
@@ -26,7 +26,7 @@ pub record IsPossible (p : Program) (pattern : Pattern) (bound : Bindings) (y : 
 pub data IsMature (p : Program) (pattern : Pattern) (bound : Bindings) (moment : ℤ) : Type 0 where
   of_plain : is_event p pattern.ty.0 ≡ false → IsMature p pattern bound moment
   of_none : IsNone (IsPossible p pattern bound) → IsMature p pattern bound moment
-  of_unbounded : IsUnbounded (IsPossible p pattern bound) → IsMature p pattern bound moment
+  of_unbounded : AreStartsUnbounded (IsPossible p pattern bound) → IsMature p pattern bound moment
   of_past : (u : ℤ) → IsLatest (IsPossible p pattern bound) u → u <ℤ moment → IsMature p pattern bound moment
 
 -- ---- the same as a function
@@ -40,13 +40,13 @@ abbrev pub bounds_of : Bindings → List TimeTest → Option (List (List OpEdge 
 bounds_of bound [] = Some []
 bounds_of bound (test ∷ tests) = option_and_then (λ b. option_map (λ bs. b ∷ bs) (bounds_of bound tests)) (bound_of bound test)
 
-abbrev pub window_by : Bool → Option (List (List OpEdge × Times)) → Window
-window_by point None = Never
-window_by point (Some bounds) = window_of bounds point
+abbrev pub window_by_lists : Bool → Option (List (List OpEdge × Times)) → Window
+window_by_lists point None = Never
+window_by_lists point (Some bounds) = starts_window bounds point
 
 -- the starts of the possible events
-abbrev pub window_at : Program → Pattern → Bindings → Window
-window_at p pattern bound = window_by (is_point p pattern.ty.0) (bounds_of bound pattern.times)
+abbrev pub start_window_at : Program → Pattern → Bindings → Window
+start_window_at p pattern bound = window_by_lists (is_point p pattern.ty.0) (bounds_of bound pattern.times)
 
 abbrev pub is_past : Window → ℤ → Bool
 is_past Never moment = true
@@ -55,7 +55,7 @@ is_past (UpTo u) moment = int_lt u moment
 
 -- whether what was bound is mature
 unfoldable pub is_mature : Program → Pattern → Bindings → ℤ → Bool
-is_mature p pattern bound moment = not (is_event p pattern.ty.0) || is_past (window_at p pattern bound) moment
+is_mature p pattern bound moment = not (is_event p pattern.ty.0) || is_past (start_window_at p pattern bound) moment
 
 -- ---- operators
 

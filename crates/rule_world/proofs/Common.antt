@@ -1,5 +1,6 @@
 -- Names from modules that two proofs and more cite, passed on from one place. Declares nothing.
-pub use Rattle.std.proofs.Common.{true, ◌≡◌, List, refl, [], ◌∙◌, ◌∷◌, Bool, sym, ℕ, Some, arith, None, ap, false, ℤ, Option, inl, inr, subst, ◌&&◌, not, ◌==◌, ◌++◌, ◌||◌, cond, map, ◌+◌, ◌≤ℤ◌, pos, suc, zero, ◌<◌, ◌+ℤ◌, ◌-ℤ◌, ◌≤◌, ◌⊎◌}
+pub use Rattle.std.proofs.Common.{true, ◌≡◌, List, refl, [], ◌∙◌, ◌∷◌, Bool, sym, ℕ, Some, arith, None, ap, false, ℤ, Option, inl, inr, subst, ◌&&◌, not, ◌==◌}
+pub use Rattle.std.proofs.Common.{◌++◌, ◌||◌, cond, map, ◌+◌, ◌≤ℤ◌, pos, suc, zero, ◌<◌, ◌+ℤ◌, ◌-ℤ◌, ◌≤◌, ◌⊎◌}
 pub use Rattle.std.proofs.lemmas.Bool.Decides.{nat_tests}
 pub use Rattle.std.proofs.lemmas.Int.{ints, clamps}
 pub use Rattle.std.proofs.lemmas.List.{append-nil, append_assoc, map-append}
@@ -20,7 +21,7 @@ pub use Rattle.rule_model.proofs.Exact.{fire_exact, match_exact, fire_match}
 pub use Rattle.rule_model.proofs.Firsts.{first_in, first_least, or_split}
 pub use Rattle.rule_model.proofs.Floors.{last_below_floor, same_floor}
 pub use Rattle.rule_model.proofs.Grown.{GrowsAll, IsGrown, listed_grown}
-pub use Rattle.rule_model.proofs.Listed.{of_map, of_append}
+pub use Rattle.rule_model.proofs.Listed.{of_map}
 pub use Rattle.rule_model.proofs.Named.{of_filter, AllOf, made_of}
 pub use Rattle.rule_model.proofs.Once.{marked_once_filter, marked_once_more, once_facts, once_filter, once_map, one_fact, one_marked}
 pub use Rattle.rule_model.proofs.Order.{in_filter, passed}
@@ -47,9 +48,13 @@ pub use Rattle.rule_model.specs.declared.program.Rule.{Rule}
 pub use Rattle.rule_model.specs.declared.program.TypeInfo.{TypeInfo}
 pub use Rattle.rule_model.specs.declared.step.Step.{Step}
 pub use Rattle.rule_model.specs.declared.step.Step.TheVariants.{Advance, At, Begin, Insert, Modify, Promise, Retract}
-pub use Rattle.rule_world.specs.Events.{clock_fault, new_fault, promise_fault, duration_by, duration_of, event_fault, event_times, most_millis, no_times, start_of, times_of}
+pub use Rattle.rule_world.specs.Events.{clock_fault, new_fault, promise_fault, duration_by, duration_of, event_fault, event_times, most_millis, no_times}
+pub use Rattle.rule_world.specs.Events.{start_of, times_of}
 pub use Rattle.rule_world.specs.Kinds.{sets_fit, values_fit, has_kind, set_fits, have_kinds}
-pub use Rattle.rule_world.specs.Lawful.{IsOrdered, IsLawful, IsSound, ids_below, tags_below, EventsInOrder, FollowedBy, IsTimed}
-pub use Rattle.rule_world.specs.Typed.{bound_fields, bound_types, expression_kind, fields_in, kind_in, set_of_kind, action_fits, args_fit, is_kind, is_plain_bound, is_plain_type, rule_fits}
-pub use Rattle.rule_world.specs.Worlds.{World, has_id, snapshot, revised, new_fact, pending, settled, fact_of, found, modify_fault, still_fired, at_clock, first_pending, present, revised_in, last_start_with, marked, only_present, retracted_in, with_new, empty_world, insert_fault, is_of_type, retract_fault, stepped, with_begin, with_promise, with_retracted, with_revised, with_values}
+pub use Rattle.rule_world.specs.Lawful.{IsOrdered, IsLawful, IsSoundFact, ids_below, tags_below, EventsInOrder, FollowedBy, IsTimed}
+pub use Rattle.rule_world.specs.Typed.{bound_fields, bound_types, expression_kind, fields_in, kind_in, set_of_kind, action_fits, args_fit, is_kind}
+pub use Rattle.rule_world.specs.Typed.{is_plain_bound, is_plain_type, rule_fits}
+pub use Rattle.rule_world.specs.Worlds.{World, has_id, snapshot, revised, new_fact, pending, settled, fact_of, found, modify_fault, still_fired, world_at_clock}
+pub use Rattle.rule_world.specs.Worlds.{first_pending, present, revised_in, last_start_with, marked, only_present, retracted_in, with_new, empty_world}
+pub use Rattle.rule_world.specs.Worlds.{insert_fault, is_of_type, stepped, with_begin, with_promise, with_retracted, with_revised, with_values}
 pub use mathlib.Core.Path.{fun_ext}

@@ -1,5 +1,6 @@
 -- The first pending match.
-use Rattle.rule_world.proofs.Common.{◌≡◌, List, [], ◌∷◌, true, Some, None, refl, ◌∙◌, Match, Program, first, fire_cmp, saliences, has_match, fire_total, fire_exact, World, pending, first_pending, first_least}
+use Rattle.rule_world.proofs.Common.{◌≡◌, List, [], ◌∷◌, true, Some, None, refl, ◌∙◌, Match, Program, first, fire_cmp, saliences, has_match, fire_total}
+use Rattle.rule_world.proofs.Common.{fire_exact, World, pending, first_pending, first_least}
 use Rattle.std.specs.declared.cmp.Ordering.{Ordering}
 use Rattle.std.specs.declared.cmp.Ordering.TheVariants.{Less}
 use Rattle.rule_model.proofs.Firsts.{AllFrom}

@@ -1,14 +1,16 @@
 -- What steps do to a world they do to the world with its present facts only.
-use Rattle.rule_world.proofs.Common.{◌≡◌, ◌≤ℤ◌, ◌+◌, ◌-ℤ◌, ◌&&◌, ◌==◌, ◌||◌, not, ℕ, ℤ, Bool, true, false, cond, List, [], ◌∷◌, ◌++◌, Option, Some, None, refl, sym, ◌∙◌, ap, arith, filter, ints, append-nil, Fact, Value, Program, Step, Insert, Modify, Retract, Advance, At, Promise, Begin, is_within, has_match, is_event, expiry_of, of_filter, IsOrdered, IsLawful, IsSound, World, present, only_present, modify_fault, with_new, at_clock, last_start_with, revised, has_id, IsTimed, retract_fault, with_revised, with_retracted}
+use Rattle.rule_world.proofs.Common.{◌≡◌, ◌≤ℤ◌, ◌+◌, ◌-ℤ◌, ◌&&◌, ◌==◌, ◌||◌, not, ℕ, ℤ, Bool, true, false, cond, List, [], ◌∷◌, ◌++◌, Option, Some, None, refl}
+use Rattle.rule_world.proofs.Common.{sym, ◌∙◌, ap, arith, filter, ints, append-nil, Fact, Value, Program, is_within, has_match, is_event, expiry_of, of_filter}
+use Rattle.rule_world.proofs.Common.{IsOrdered, IsLawful, IsSoundFact, World, present, only_present, with_new, world_at_clock, last_start_with, revised, has_id}
+use Rattle.rule_world.proofs.Common.{IsTimed, with_revised, with_retracted}
 use Rattle.std.proofs.Common.{if◌then◌else◌}
 use Rattle.rule_model.specs.Candidates.{is_present}
-use Rattle.rule_model.specs.Snapshots.{floor}
-use Rattle.rule_world.specs.Worlds.{step_fault}
 use Rattle.rule_world.proofs.Fresh.{below_of, below_all, distinct_filtered}
 use Rattle.rule_world.proofs.Ids.{ids_filtered, ids_below_filtered}
 use Rattle.rule_world.proofs.Sound.{events_filtered}
 use Rattle.rule_world.proofs.Steps.{stays}
-use Rattle.rule_world.proofs.Kept.{filter_within, filter_alike, filter_swap, filter_map, filter_append, kept_matches, kept_found}
+use Rattle.rule_world.proofs.Kept.{filter_within, filter_alike, filter_swap, filter_map, filter_append, kept_matches}
+use Rattle.fx_base.proofs.Tests.{or_weaker}
 
 abbrev world_with : World → List Fact → World
 world_with w facts = record w { facts = facts }
@@ -68,24 +70,20 @@ younger : (expiry : Option ℤ) (a b : ℤ) → a ≤ℤ b → is_within expiry 
 younger None a b le e = refl
 younger (Some x) a b le e = grind (arith, ints)
 
-or_either : (a b c : Bool) → (b ≡ true → c ≡ true) → (a || b) ≡ true → (a || c) ≡ true
-or_either true b c h e = refl
-or_either false b c h e = h e
-
 -- what is present was present before
 pub was_present : (p : Program) (f : Fact) (c d : ℤ) → c ≤ℤ d → is_present p d f ≡ true → is_present p c f ≡ true
 unfolding is_present
 was_present p f c d le e =
-    or_either (not (is_event p f.ty.0)) (is_within (expiry_of p f.ty.0) (d -ℤ f.times.start)) (is_within (expiry_of p f.ty.0) (c -ℤ f.times.start))
+    or_weaker (not (is_event p f.ty.0)) (is_within (expiry_of p f.ty.0) (d -ℤ f.times.start)) (is_within (expiry_of p f.ty.0) (c -ℤ f.times.start))
     (younger (expiry_of p f.ty.0) (c -ℤ f.times.start) (d -ℤ f.times.start) (omega (arith, ints, le))) e
 
-pub kept_later : (p : Program) (w : World) (clock : ℤ) → w.clock ≤ℤ clock → only_present p (at_clock w clock) ≡ only_present p (at_clock (only_present p w) clock)
+pub kept_later : (p : Program) (w : World) (clock : ℤ) → w.clock ≤ℤ clock → only_present p (world_at_clock w clock) ≡ only_present p (world_at_clock (only_present p w) clock)
 kept_later p w clock le =
     ap (λ facts. record w { facts = facts; clock = clock }) (sym (filter_within (is_present p clock) (is_present p w.clock) w.facts (λ f e. was_present p f w.clock clock le e)))
 
 -- ---- lawful worlds
 
-sound_kept : (p : Program) (w : World) (f : Fact) → IsSound p w f → IsSound p (only_present p w) f
+sound_kept : (p : Program) (w : World) (f : Fact) → IsSoundFact p w f → IsSoundFact p (only_present p w) f
 sound_kept p w f h = record { fits = h.fits; timed = λ e. timed (h.timed e); plain = h.plain }
   where
     timed : IsTimed p w f → IsTimed p (only_present p w) f

@@ -1,11 +1,15 @@
 -- What is not present makes no row: a world has the matches, the faults and the next worlds of the world with its present facts only.
-use Rattle.rule_world.proofs.Common.{◌≡◌, ◌&&◌, ◌==◌, not, ℕ, Bool, true, false, cond, List, [], ◌∷◌, ◌++◌, map, refl, sym, ◌∙◌, ap, filter, fun_ext, Fact, Row, Condition, Plain, Negated, Existing, Folded, Pattern, Program, Rule, is_present, fits, is_inside, is_candidate, candidates, passes, passing, first, matches, has_match, fire_cmp, saliences, Snapshot, floor, tests_hold, Tuple, empty_tuple, bound_by, unbound, World, snapshot, present, only_present, found, fact_of, pending, settled, first_pending, flat_map, is_behind, count_behind, matches_from, result_of, with_result, extended, tuples, with_fact, row_of, same_floor}
+use Rattle.rule_world.proofs.Common.{◌≡◌, ◌&&◌, ◌==◌, not, ℕ, Bool, true, false, cond, List, [], ◌∷◌, ◌++◌, map, refl, sym, ◌∙◌, ap, filter, fun_ext, Fact, Row}
+use Rattle.rule_world.proofs.Common.{Condition, Plain, Negated, Existing, Folded, Pattern, Program, Rule, is_present, fits, is_inside, is_candidate, candidates}
+use Rattle.rule_world.proofs.Common.{passes, passing, first, matches, has_match, fire_cmp, saliences, Snapshot, floor, tests_hold, Tuple, empty_tuple, bound_by}
+use Rattle.rule_world.proofs.Common.{unbound, World, snapshot, present, only_present, found, fact_of, pending, settled, first_pending, flat_map, is_behind}
+use Rattle.rule_world.proofs.Common.{count_behind, matches_from, result_of, with_result, extended, tuples, with_fact, row_of, same_floor}
+use Rattle.std.proofs.lemmas.Bool.{and_parts}
 use Rattle.std.proofs.Common.{nat_lt, length, if◌then◌else◌}
 use Rattle.rule_model.specs.declared.condition.WindowTag.{WindowTag}
 use Rattle.rule_model.specs.declared.condition.WindowTag.TheVariants.{Whole, Time, Length}
 use Rattle.rule_model.specs.Maturity.{is_mature}
 use Rattle.rule_model.specs.Rows.{rows}
-use Rattle.rule_world.proofs.Fresh.{and_parts}
 
 -- ---- filters
 

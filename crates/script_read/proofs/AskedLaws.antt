@@ -1,5 +1,6 @@
 -- What a line asks for, by the function and by the forms.
-use Rattle.script_read.proofs.Common.{◌≡◌, List, ℕ, Option, Some, None, Result, Ok, Err, refl, sym, IfOk, Data, IsForm, IsReading, asks, bad_json, reading, asked_of_reading, Answers, Command, IsErrOf, command_of, bad_command, asked_of_command}
+use Rattle.script_read.proofs.Common.{◌≡◌, List, ℕ, Option, Some, None, Result, Ok, Err, refl, sym, IfOk, IsErrOf, Data, IsForm, command_of, IsLineReading}
+use Rattle.script_read.proofs.Common.{asks, bad_json, reading, asked_of_reading, AnswersLine, bad_command, asked_of_command, Command}
 use Rattle.script_read.specs.Asked.{asked}
 use Rattle.script_read.specs.declared.fault.CommandFault.{CommandFault}
 use Rattle.script_read.specs.declared.fault.CommandFault.TheVariants.{BadJson, BadCommand, NoMemory}
@@ -9,17 +10,17 @@ use Rattle.script_read.proofs.Readings.{reading_again, reading_sound}
 -- ---- from the forms to what is asked
 
 -- a line asks for the command whose form its reading has
-pub form_asked : (line : List ℕ) (d : Data) (c : Command) → IsReading line d → IsForm d c → asked line ≡ asks c
+pub form_asked : (line : List ℕ) (d : Data) (c : Command) → IsLineReading line d → IsForm d c → asked line ≡ asks c
 unfolding asked
 form_asked line d c read form = rw (reading_again read, form_again form) refl
 
 -- at each case of the reading
-unread : (o : Option Data) (line : List ℕ) → reading line ≡ o → ((d : Data) → IsReading line d → ⊥) → asked_of_reading o ≡ bad_json
+unread : (o : Option Data) (line : List ℕ) → reading line ≡ o → ((d : Data) → IsLineReading line d → ⊥) → asked_of_reading o ≡ bad_json
 unread None line e none = refl
 unread (Some d) line e none = absurd (none d (reading_sound line d e))
 
 -- a line with no reading has the fault of no JSON
-pub unread_asked : (line : List ℕ) → ((d : Data) → IsReading line d → ⊥) → asked line ≡ bad_json
+pub unread_asked : (line : List ℕ) → ((d : Data) → IsLineReading line d → ⊥) → asked line ≡ bad_json
 unfolding asked
 unread_asked line none = unread (reading line) line refl none
 
@@ -29,7 +30,7 @@ formless None d e none = refl
 formless (Some c) d e none = absurd (none c (form_sound d c (sym e)))
 
 -- a line whose reading has no form has the fault of no command
-pub formless_asked : (line : List ℕ) (d : Data) → IsReading line d → ((c : Command) → IsForm d c → ⊥) → asked line ≡ bad_command
+pub formless_asked : (line : List ℕ) (d : Data) → IsLineReading line d → ((c : Command) → IsForm d c → ⊥) → asked line ≡ bad_command
 unfolding asked
 formless_asked line d read none = rw (reading_again read) (formless (command_of d) d refl none)
 
@@ -41,17 +42,17 @@ form_in None d c e found = cc
 form_in (Some other) d c e found = form_sound d c (cc)
 
 -- at each case of the reading
-form_by : (o : Option Data) (line : List ℕ) (c : Command) → reading line ≡ o → asked_of_reading o ≡ asks c → (d : Data) × IsReading line d × IsForm d c
+form_by : (o : Option Data) (line : List ℕ) (c : Command) → reading line ≡ o → asked_of_reading o ≡ asks c → (d : Data) × IsLineReading line d × IsForm d c
 form_by None line c e found = cc
 form_by (Some d) line c e found = (d, reading_sound line d e, form_in (command_of d) d c refl found)
 
 -- the command that is asked has its form in the reading
-pub asked_form : (line : List ℕ) (c : Command) → asked line ≡ asks c → (d : Data) × IsReading line d × IsForm d c
+pub asked_form : (line : List ℕ) (c : Command) → asked line ≡ asks c → (d : Data) × IsLineReading line d × IsForm d c
 unfolding asked
 asked_form line c found = form_by (reading line) line c refl found
 
 -- at each case of the reading
-not_read : (o : Option Data) (line : List ℕ) → reading line ≡ o → asked_of_reading o ≡ bad_json → (d : Data) → IsReading line d → ⊥
+not_read : (o : Option Data) (line : List ℕ) → reading line ≡ o → asked_of_reading o ≡ bad_json → (d : Data) → IsLineReading line d → ⊥
 not_read None line e found d read = let some = reading_again read in cc
 not_read (Some other) line e found d read = not_asked (command_of other) found
   where
@@ -60,7 +61,7 @@ not_read (Some other) line e found d read = not_asked (command_of other) found
     not_asked (Some c) found = cc
 
 -- a line with the fault of no JSON has no reading
-pub asked_unread : (line : List ℕ) → asked line ≡ bad_json → (d : Data) → IsReading line d → ⊥
+pub asked_unread : (line : List ℕ) → asked line ≡ bad_json → (d : Data) → IsLineReading line d → ⊥
 unfolding asked
 asked_unread line found = not_read (reading line) line refl found
 
@@ -70,23 +71,23 @@ none_in None d e found = no_form (sym e)
 none_in (Some other) d e found = cc
 
 -- at each case of the reading
-none_by : (o : Option Data) (line : List ℕ) → reading line ≡ o → asked_of_reading o ≡ bad_command → (d : Data) × IsReading line d × ((c : Command) → IsForm d c → ⊥)
+none_by : (o : Option Data) (line : List ℕ) → reading line ≡ o → asked_of_reading o ≡ bad_command → (d : Data) × IsLineReading line d × ((c : Command) → IsForm d c → ⊥)
 none_by None line e found = cc
 none_by (Some d) line e found = (d, reading_sound line d e, none_in (command_of d) d refl found)
 
 -- a line with the fault of no command has a reading of no form
-pub asked_formless : (line : List ℕ) → asked line ≡ bad_command → (d : Data) × IsReading line d × ((c : Command) → IsForm d c → ⊥)
+pub asked_formless : (line : List ℕ) → asked line ≡ bad_command → (d : Data) × IsLineReading line d × ((c : Command) → IsForm d c → ⊥)
 unfolding asked
 asked_formless line found = none_by (reading line) line refl found
 
 -- ---- an answer that says what is asked, by the forms
 
-pub answer_ok : (line : List ℕ) (r : Result Command CommandFault) → Answers (asked line) r → IfOk r (λ c. (d : Data) × IsReading line d × IsForm d c)
+pub answer_ok : (line : List ℕ) (r : Result Command CommandFault) → AnswersLine (asked line) r → IfOk r (λ c. (d : Data) × IsLineReading line d × IsForm d c)
 answer_ok line (Ok c) answers = asked_form line c answers
 answer_ok line (Err fault) answers = tt
 
-pub answer_bad_command : (line : List ℕ) (r : Result Command CommandFault) → Answers (asked line) r → IsErrOf r BadCommand
-    → (d : Data) × IsReading line d × ((c : Command) → IsForm d c → ⊥)
+pub answer_bad_command : (line : List ℕ) (r : Result Command CommandFault) → AnswersLine (asked line) r → IsErrOf r BadCommand
+    → (d : Data) × IsLineReading line d × ((c : Command) → IsForm d c → ⊥)
 answer_bad_command line (Ok c) answers is = cc
 answer_bad_command line (Err BadJson) answers is = cc
 answer_bad_command line (Err BadCommand) answers is = asked_formless line answers

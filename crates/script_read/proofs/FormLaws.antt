@@ -1,13 +1,17 @@
 -- The forms as cases and the command that is found by the word after `do` say the same.
-use Rattle.script_read.proofs.Common.{◌≡◌, List, ℕ, ℤ, Bool, true, false, Option, Some, None, refl, sym, ◌∙◌, ap, subst, Data, Members, IsForm, Command, Change, Fire, if◌then◌else◌, bytes_eq, text_member, object_member, whole_member, id_member, count_member, count, fire, fire_most, held, insert_into, modify, retract, advance, at, promise, promise_for, begin, has_count, fire_parts, insert_parts, insert_into_parts, modify_parts, retract_parts, advance_parts, at_parts, promise_parts, promise_of_parts, command_by_word, Held, Begin}
+use Rattle.script_read.proofs.Common.{◌≡◌, List, ℕ, ℤ, Bool, true, false, Option, Some, None, refl, sym, ◌∙◌, ap, subst, Data, Members, IsForm, fire, fire_most}
+use Rattle.script_read.proofs.Common.{held, insert_into, modify, retract, advance, at, promise, promise_for, begin, has_count, fire_parts, insert_parts}
+use Rattle.script_read.proofs.Common.{insert_into_parts, modify_parts, retract_parts, advance_parts, at_parts, promise_parts, promise_of_parts, command_by_word}
+use Rattle.script_read.proofs.Common.{Command, Change, Fire, Held, if◌then◌else◌, bytes_eq, text_member, object_member, whole_member, id_member, count_member}
+use Rattle.script_read.proofs.Common.{count, Begin}
+use Rattle.script_read.specs.Form.{insert, fire_of, held_form, insert_of, modify_of, retract_of, advance_of, at_of, promise_of, begin_of, command_of}
 use Rattle.std.specs.Prelude.{codes}
 use Rattle.std.proofs.lemmas.Slice.Eq.{bytes_eq-Decides}
 use Rattle.std.proofs.lemmas.Bool.Decides.{Decides-eqb}
-use Rattle.script_read.specs.Form.{insert, fire_of, held_of, insert_of, modify_of, retract_of, advance_of, at_of, promise_of, begin_of, command_of}
 
 -- every command with the form of a value is the one that is found
 pub form_again : {d : Data} {c : Command} → IsForm d c → command_of d ≡ Some c
-unfolding command_of fire_of held_of insert_of modify_of retract_of advance_of at_of promise_of begin_of
+unfolding command_of fire_of held_form insert_of modify_of retract_of advance_of at_of promise_of begin_of
 form_again (fire word members) = rw (word, members) refl
 form_again (fire_most word most members) = rw (word, members, most) refl
 form_again (held word members) = rw (word, members) refl
@@ -61,8 +65,8 @@ held_counted true d c members word found = subst (IsForm d) (some_injective (sym
 held_counted false d c members word found = cc
 
 -- a request for the kept events that is found has its form
-held_sound : (d : Data) (c : Command) → text_member (codes "do") d ≡ Some (codes "held") → Some c ≡ held_of d → IsForm d c
-unfolding held_of
+held_sound : (d : Data) (c : Command) → text_member (codes "do") d ≡ Some (codes "held") → Some c ≡ held_form d → IsForm d c
+unfolding held_form
 held_sound d c word found = held_counted (has_count 1 (count d)) d c refl word found
 
 -- at each case of the two counts and of the three members

@@ -6,3 +6,4 @@ pub mod FormLaws
 pub mod Forms
 pub mod Numbers
 pub mod Readings
+pub mod Rising

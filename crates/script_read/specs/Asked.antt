@@ -9,7 +9,7 @@ use Rattle.script_read.specs.declared.fault.CommandFault.{CommandFault}
 use Rattle.script_read.specs.declared.fault.CommandFault.TheVariants.{BadJson, BadCommand, NoMemory}
 
 -- The line is a text in UTF-8 that `serde_json` reads as this value.
-pub record IsReading (line : List ℕ) (d : Data) : Type 0 where
+pub record IsLineReading (line : List ℕ) (d : Data) : Type 0 where
   pub text : IsUtf8 line
   pub value : read line ≡ Some d
 
@@ -31,14 +31,14 @@ abbrev pub asked_of_reading : Option Data → Asked
 asked_of_reading None = bad_json
 asked_of_reading (Some d) = asked_of_command (command_of d)
 
--- What a line asks for, as a function. The same as a relation: `IsReading` here and `IsForm` in `Form.antt`, law
+-- What a line asks for, as a function. The same as a relation: `IsLineReading` here and `IsForm` in `Form.antt`, law
 -- `script_read::laws::a_line_asks_for_what_its_form_says`.
 unfoldable pub asked : List ℕ → Asked
 asked line = asked_of_reading (reading line)
 
 -- an answer says what is asked, unless memory was refused
-abbrev pub Answers : Asked → Result Command CommandFault → Type 0
-Answers found (Ok c) = found ≡ asks c
-Answers found (Err BadJson) = found ≡ bad_json
-Answers found (Err BadCommand) = found ≡ bad_command
-Answers found (Err NoMemory) = Unit
+abbrev pub AnswersLine : Asked → Result Command CommandFault → Type 0
+AnswersLine found (Ok c) = found ≡ asks c
+AnswersLine found (Err BadJson) = found ≡ bad_json
+AnswersLine found (Err BadCommand) = found ≡ bad_command
+AnswersLine found (Err NoMemory) = Unit

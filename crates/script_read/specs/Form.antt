@@ -81,8 +81,8 @@ unfoldable pub fire_of : Data → Option Command
 fire_of d = if has_count 1 (count d) then Some (Fire None)
     else (if has_count 2 (count d) then fire_parts (count_member (codes "max") d) else None)
 
-unfoldable pub held_of : Data → Option Command
-held_of d = if has_count 1 (count d) then Some Held else None
+unfoldable pub held_form : Data → Option Command
+held_form d = if has_count 1 (count d) then Some Held else None
 
 abbrev pub insert_parts : Option (List ℕ) → Option Members → Option Command
 insert_parts None fields = None
@@ -150,7 +150,7 @@ command_by_word d (Some word) = if bytes_eq word (codes "fire") then fire_of d
     else (if bytes_eq word (codes "retract") then retract_of d
     else (if bytes_eq word (codes "advance") then advance_of d
     else (if bytes_eq word (codes "at") then at_of d
-    else (if bytes_eq word (codes "held") then held_of d
+    else (if bytes_eq word (codes "held") then held_form d
     else (if bytes_eq word (codes "promise") then promise_of d
     else (if bytes_eq word (codes "begin") then begin_of d else None))))))))
 

@@ -4,7 +4,7 @@ ghost use Rattle.json.specs.Lex.{tokens};
 ghost use Rattle.json.specs.Value.{value_view, members_view};
 ghost use Rattle.serde_json.specs.Data.{Data};
 ghost use Rattle.serde_json.specs.Read.{max_depth};
-ghost use Rattle.script_read.specs.Asked.{IsReading, Answers, asked, asks};
+ghost use Rattle.script_read.specs.Asked.{IsLineReading, AnswersLine, asked, asks};
 ghost use Rattle.script_read.specs.Flat.{tree_command, word_command, two, three};
 ghost use Rattle.script_read.specs.Form.{IsForm};
 
@@ -366,13 +366,13 @@ pub fn command_with(
     line: &[u8],
     scratch: &mut Scratch,
 ) -> Result<Command, CommandFault>
-    ensures asked { Answers (asked line.now) result }
+    ensures asked { AnswersLine (asked line.now) result }
 
     // The same by the forms.
-    ensures ok { IfOk result (λ c. (d : Data) × IsReading line.now d × IsForm d c) }
-    ensures bad_json { IsErrOf result CommandFault.BadJson → (d : Data) → ¬ IsReading line.now d }
+    ensures ok { IfOk result (λ c. (d : Data) × IsLineReading line.now d × IsForm d c) }
+    ensures bad_json { IsErrOf result CommandFault.BadJson → (d : Data) → ¬ IsLineReading line.now d }
     ensures bad_command { IsErrOf result CommandFault.BadCommand
-        → (d : Data) × IsReading line.now d × ((c : Command) → ¬ IsForm d c) }
+        → (d : Data) × IsLineReading line.now d × ((c : Command) → ¬ IsForm d c) }
 {
     match flat_command(alloc, line, scratch)? {
         Some(found) => Ok(found),

@@ -2,8 +2,8 @@ ghost use Rattle.std.specs.Prelude.{◌≡◌, IfOk, IsErrOf, option_map, codes}
 ghost use Rattle.serde_json.specs.Data.{Data};
 ghost use Rattle.serde_json.specs.View.{view};
 ghost use Rattle.script_read.specs.Members.{text_member as text_under, object_member as object_under, whole_member as whole_under};
-ghost use Rattle.script_read.specs.Form.{IsForm, fire_of, held_of, insert_parts, insert_into_parts, insert_of, modify_of, retract_of, advance_of, at_of, promise_parts, promise_of_parts, promise_of, begin_of, command_of};
-ghost use Rattle.script_read.specs.Asked.{IsReading, reading, asked, Answers};
+ghost use Rattle.script_read.specs.Form.{IsForm, fire_of, held_form, insert_parts, insert_into_parts, insert_of, modify_of, retract_of, advance_of, at_of, promise_parts, promise_of_parts, promise_of, begin_of, command_of};
+ghost use Rattle.script_read.specs.Asked.{IsLineReading, reading, asked, AnswersLine};
 
 use crate::asked::{Change, Command};
 use crate::fault::CommandFault;
@@ -36,9 +36,9 @@ fn fire(value: &Value) -> Option<Command>
     }
 }
 
-#[tactic(auto, unfolding(crate::specs::Form::held_of))]
+#[tactic(auto, unfolding(crate::specs::Form::held_form))]
 fn held(value: &Value) -> Option<Command>
-    ensures { result ≡ held_of (view value.now) }
+    ensures { result ≡ held_form (view value.now) }
 {
     match count(value)? {
         1 => Some(Command::Held),
@@ -218,13 +218,13 @@ fn form(alloc: Global, value: &Value) -> Result<Option<Command>, NoMemory>
 /// reading in `serde_json`, and `BadCommand` exactly where the reading has the form of no command.
 #[tactic(auto, unfolding(crate::specs::Asked::asked))]
 pub fn command(alloc: Global, line: &[u8]) -> Result<Command, CommandFault>
-    ensures asked { Answers (asked line.now) result }
+    ensures asked { AnswersLine (asked line.now) result }
 
     // The same by the forms.
-    ensures ok { IfOk result (λ c. (d : Data) × IsReading line.now d × IsForm d c) }
-    ensures bad_json { IsErrOf result CommandFault.BadJson → (d : Data) → ¬ IsReading line.now d }
+    ensures ok { IfOk result (λ c. (d : Data) × IsLineReading line.now d × IsForm d c) }
+    ensures bad_json { IsErrOf result CommandFault.BadJson → (d : Data) → ¬ IsLineReading line.now d }
     ensures bad_command { IsErrOf result CommandFault.BadCommand
-        → (d : Data) × IsReading line.now d × ((c : Command) → ¬ IsForm d c) }
+        → (d : Data) × IsLineReading line.now d × ((c : Command) → ¬ IsForm d c) }
 {
     match read_value(alloc, line)? {
         Some(value) => form(alloc, &value)?.ok_or(CommandFault::BadCommand),

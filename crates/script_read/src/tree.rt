@@ -1,11 +1,15 @@
-ghost use Rattle.std.specs.Prelude.{◌≡◌, ◌≤◌, List, ℕ, Some, IfOk, IfSome, length, option_and_then};
-ghost use Rattle.std.specs.List.{insert};
+ghost use Rattle.std.specs.Prelude.{◌≡◌, ◌≤◌, List, ℕ, Some, IfOk, IfSome, IsTrue, length, option_and_then};
+ghost use Rattle.std.specs.Cmp.Lexicographic.{slice_cmp};
+ghost use Rattle.std.specs.List.{AllWithin, insert};
+ghost use Rattle.std.specs.Ordering.{nat_cmp};
+ghost use Rattle.std.specs.declared.cmp.Ordering.TheVariants.{Less};
 ghost use Rattle.json.specs.Json.{object, number, string};
 ghost use Rattle.json.specs.Value.{value_view, members_view};
 ghost use Rattle.serde_json.specs.Find.{as_i64};
 ghost use Rattle.serde_json.specs.Read.{number_of};
 ghost use Rattle.script_read.specs.Members.{from_one};
 ghost use Rattle.script_read.specs.Flat.{tree_given, tree_givens, put_given};
+ghost use Rattle.script_read.specs.Rising.{IsRising};
 ghost use Rattle.script_read.specs.declared.given.Given.{Given};
 
 use crate::given::Given;
@@ -16,7 +20,7 @@ use json::Value as Tree;
 use std::alloc::Global;
 use std::cmp::Ordering;
 
-// With more fields a line is read by the map of `serde_json`, which finds the place of a name in fewer steps.
+// With more fields a line is read by the map of `serde_json`, which takes in a name without moving those behind it.
 const MOST_FIELDS: usize = 64;
 
 // What a tree gives for a field, where it is no array and no object, and its number is whole.
@@ -36,20 +40,33 @@ fn given_in(alloc: Global, tree: &Tree<'_>) -> Result<Option<Given>, NoMemory>
     }
 }
 
+// Whether a name is behind those of all fields.
+fn is_last(fields: &[(Text, Given)], name: &str) -> bool
+    ensures { IsTrue result → IsRising fields.now → AllWithin (λ field. slice_cmp nat_cmp field.0 name.now ≡ Less) fields.now 0 (length fields.now) }
+{
+    match fields.last() {
+        Some(last) => last.0.as_str().cmp(name).is_lt(),
+        None => true,
+    }
+}
+
 // The place that the byte order of names has for a name, where it is new.
 fn place_of(fields: &[(Text, Given)], name: &str) -> Option<usize>
+    requires { IsRising fields.now }
     ensures within { IfSome result (λ place. place ≤ length fields.now) }
     ensures place { IfSome result (λ place. (given : Given) → put_given name.now given fields.now ≡ insert fields.now place (name.now, given)) }
 {
-    let mut place = 0;
-    while place < fields.len() {
-        match name.cmp(fields[place].0.as_str()) {
-            Ordering::Less => return Some(place),
-            Ordering::Equal => return None,
-            Ordering::Greater => place += 1,
-        }
+    if is_last(fields, name) {
+        return Some(fields.len());
     }
-    Some(place)
+    match fields.binary_search_by(
+        |field: &(Text, Given)| -> Ordering
+            ensures { result ≡ slice_cmp nat_cmp field.now.0 name.entry.now }
+        { field.0.as_str().cmp(name) },
+    ) {
+        Ok(_) => None,
+        Err(place) => Some(place),
+    }
 }
 
 /// What the members of an object give for fields, in the byte order of the names, where each name stands once.

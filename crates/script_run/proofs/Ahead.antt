@@ -1,7 +1,13 @@
 -- The outcome of the lines ahead, line by line, against what was written and what is gathered.
-use Rattle.script_run.proofs.Common.{◌≡◌, ◌≢◌, ◌⊎◌, inl, inr, ◌<◌, ◌≤◌, ◌+◌, ◌^◌, ◌++◌, ◌||◌, ℕ, Bool, List, [], ◌∷◌, length, take, drop, Option, Some, None, Result, Ok, Err, option_map, refl, sym, ap, ap₂, subst, ◌∙◌, append_assoc, arith, IfSome, OnErr, flat_map-append, append-nil, length-append, take_at, take-append-drop, prepend, append, AppendsFront, IsExhausted, with_line, total_told, HasNoEnd, TakesLine, Reads, Line, Whole, End, World, Goes, Stops, Progress, Ended, RunSetting, RunState, Outcome, Done, LineEffect, goes_on, stops, then_run, at_limit, at_end, state_in, state_after, progress_after, step_in, Does, Flushes}
+use Rattle.script_run.proofs.Common.{◌≡◌, ◌≢◌, ◌⊎◌, inl, inr, ◌<◌, ◌≤◌, ◌+◌, ◌^◌, ◌++◌, ◌||◌, ℕ, Bool, List, [], ◌∷◌, length, take, drop, Option, Some, None}
+use Rattle.script_run.proofs.Common.{Result, Ok, Err, option_map, refl, sym, ap, ap₂, subst, ◌∙◌, append_assoc, arith, IfSome, OnErr, flat_map-append}
+use Rattle.script_run.proofs.Common.{append-nil, length-append, take_at, take-append-drop, prepend, append, AppendsFront, IsExhausted, with_line, total_told}
+use Rattle.script_run.proofs.Common.{HasNoEnd, TakesLine, ReadsBytes, Line, Whole, End, World, Goes, Stops, Progress, Ended, RunSetting, RunState, Outcome}
+use Rattle.script_run.proofs.Common.{Done, LineEffect, goes_on, stops, then_run, at_limit, at_end, state_in, state_after, progress_after, step_in, Does}
+use Rattle.script_run.proofs.Common.{Flushes}
+use Rattle.std.proofs.lemmas.Option.{same_Some}
 use Rattle.fx_io.specs.Lines.{lines_of}
-use Rattle.fx_io.specs.Answers.{Takes}
+use Rattle.fx_io.specs.Answers.{TakesFromBytes}
 use Rattle.fx_io.specs.declared.line.Line.TheVariants.{Long as LongLine}
 use Rattle.fx_io.proofs.Told.{append-append, prepend-prepend, prepend-nil}
 use Rattle.fx_io.proofs.Ahead.{answers_ahead}
@@ -33,9 +39,6 @@ pub run_stops : (setting : RunSetting) (s : RunState) (line text : List ℕ) →
 unfolding run
 run_stops setting s line text e more = rw e refl
 
-some_is : {A : Type 0} (x y : A) → Some x ≡ Some y → x ≡ y
-some_is x y e = cc
-
 -- what is known of the run so far: the lines that were done, the front that was written, and behind it what is gathered; of the script the
 -- bytes ahead are left, and the lines were taken with their ends, or no line is ahead
 pub record SoFar (all now : Rest) (script ahead : Option (List ℕ)) (first written : Option (List ℕ)) (front gathered : List ℕ) : Type 0 where
@@ -55,7 +58,7 @@ one_more done line (Some more) = ap Some (sym (append_assoc done (line ∷ []) m
 
 not_over : (line : List ℕ) (after : Option (List (List ℕ))) → Some [] ≡ with_line line after → ⊥
 not_over line None e = cc
-not_over line (Some more) e = let k : [] ≡ line ∷ more = some_is _ _ e in cc
+not_over line (Some more) e = let k : [] ≡ line ∷ more = same_Some _ _ e in cc
 
 ended_more : (done : List (List ℕ)) (line : List ℕ) → ended_lines (done ++ line ∷ []) ≡ ended_lines done ++ (line ++ 10 ∷ [])
 ended_more done line = flat_map-append (λ (it : List ℕ). it ++ 10 ∷ []) done (line ∷ []) ∙ ap (λ (z : List ℕ). ended_lines done ++ z) (append-nil (line ++ 10 ∷ []))
@@ -156,7 +159,7 @@ whole {all} {now} {script} {ahead} {first} {written} {front} {gathered} bytes h 
     here : (o : Option (List ℕ)) → Some (lines_of bytes) ≡ option_map (λ more. h.done ++ more) (option_map lines_of o)
         → (more : List ℕ) × (o ≡ Some more) × (lines_of bytes ≡ h.done ++ lines_of more) × (all (lines_of bytes) ≡ then_run (front ++ gathered) (now (lines_of more)))
     here None k = absurd cc
-    here (Some more) k = let is = some_is _ _ k in (more, refl, is, ap all is ∙ h.all-is (lines_of more))
+    here (Some more) k = let is = same_Some _ _ k in (more, refl, is, ap all is ∙ h.all-is (lines_of more))
 
 -- nothing more is printed, and what was gathered is written: that is the outcome
 pub all_done : {all now : Rest} {ahead : Option (List ℕ)} {first written : Option (List ℕ)} {front gathered : List ℕ} (script : Option (List ℕ)) (last : Outcome) → last.bytes ≡ []
@@ -201,7 +204,7 @@ stopped_in {gathered = gathered} script written' h part = stopped script (flushe
 
 told_after : (a b : ℕ) (script : List ℕ) (left : Option (List ℕ)) → Some (0 + length script) ≡ total_told a left → b < a → (rest : List ℕ) × (left ≡ Some rest) × (length rest + b < length script)
 told_after a b script None e lt = absurd cc
-told_after a b script (Some rest) e lt = let is : 0 + length script ≡ a + length rest = some_is _ _ e in (rest, refl, omega arith)
+told_after a b script (Some rest) e lt = let is : 0 + length script ≡ a + length rest = same_Some _ _ e in (rest, refl, omega arith)
 
 -- the outcome of the lines that were done
 done_alone : {all now : Rest} {script ahead : Option (List ℕ)} {first written : Option (List ℕ)} {front gathered : List ℕ} (s : RunState)
@@ -220,7 +223,7 @@ long_run None after s taken h e stop total many = tt
 long_run (Some bytes) after s taken h e stop total many =
     let r = whole bytes h refl in
     let t = told_after taken (2 ^ 30) bytes after total many in
-    let ahead : r.0 ≡ stop.0 ++ t.0 = some_is _ _ (sym r.1 ∙ stop.2 ∙ ap (prepend stop.0) t.1) in
+    let ahead : r.0 ≡ stop.0 ++ t.0 = same_Some _ _ (sym r.1 ∙ stop.2 ∙ ap (prepend stop.0) t.1) in
     record {
       lines = h.done;
       piece = stop.0;
@@ -233,13 +236,13 @@ long_run (Some bytes) after s taken h e stop total many =
 
 left_of : (front more : List ℕ) (after : Option (List ℕ)) → Some more ≡ prepend front after → (rest : List ℕ) × (after ≡ Some rest) × (more ≡ front ++ rest)
 left_of front more None e = absurd cc
-left_of front more (Some rest) e = (rest, refl, some_is _ _ e)
+left_of front more (Some rest) e = (rest, refl, same_Some _ _ e)
 
 ends_of : (done : List (List ℕ)) (bytes more piece rest : List ℕ) → more ≡ piece ++ rest → lines_of bytes ≡ done ++ lines_of more
     → (Some bytes ≡ prepend (ended_lines done) (Some more)) ⊎ (Some (lines_of more) ≡ Some [])
     → (bytes ≡ ended_lines done ++ piece ++ rest) ⊎ (done ≡ lines_of bytes)
-ends_of done bytes more piece rest is parts (inl e) = inl (some_is _ _ e ∙ ap (λ (z : List ℕ). ended_lines done ++ z) is ∙ sym (append_assoc (ended_lines done) piece rest))
-ends_of done bytes more piece rest is parts (inr over) = inr (sym (append-nil done) ∙ ap (λ (z : List (List ℕ)). done ++ z) (sym (some_is _ _ over)) ∙ sym parts)
+ends_of done bytes more piece rest is parts (inl e) = inl (same_Some _ _ e ∙ ap (λ (z : List ℕ). ended_lines done ++ z) is ∙ sym (append_assoc (ended_lines done) piece rest))
+ends_of done bytes more piece rest is parts (inr over) = inr (sym (append-nil done) ∙ ap (λ (z : List (List ℕ)). done ++ z) (sym (same_Some _ _ over)) ∙ sym parts)
 
 -- the run stops at a read, and everything that was gathered is written
 pub stopped_at_read : {all now : Rest} {ahead : Option (List ℕ)} {first written : Option (List ℕ)} {front gathered : List ℕ} (script after : Option (List ℕ)) (s : RunState)
@@ -317,7 +320,7 @@ none_taken next bytes kept (Some rest) none over = inr (nothing_ahead kept rest 
 
 -- the next of the lines ahead was answered: it was taken with its end, or no line is ahead behind it
 pub moves_on : (most total : ℕ) (answer : Line) (next kept read kept' : List ℕ) (taken taken' given given' : ℕ) (left left' : Option (List ℕ))
-    → Reads read taken taken' given given' left left' → Takes most answer (kept ++ read) kept' ((taken' ≤ total) × IsExhausted left')
+    → ReadsBytes read taken taken' given given' left left' → TakesFromBytes most answer (kept ++ read) kept' ((taken' ≤ total) × IsExhausted left')
     → option_map lines_of (prepend kept left) ≡ with_line next (option_map lines_of (prepend kept' left'))
     → MovesOn next (prepend kept left) (prepend kept' left')
 moves_on most total answer next kept read kept' taken taken' given given' left left' reads takes e = subst (λ (z : Option (List ℕ)). MovesOn next z (prepend kept' left')) (sym before) (here answer takes)
@@ -330,7 +333,7 @@ moves_on most total answer next kept read kept' taken taken' given given' left l
         let answers = answers_ahead read kept kept' taken taken' given given' left left' reads (length line) total (Whole line) (omega arith, t) in
         taken_on line next (kept ++ read) kept' ((taken' ≤ total) × IsExhausted left') left' (λ ends. ends.1) t (sym answers.1 ∙ e)
 
-    here : (it : Line) → Takes most it (kept ++ read) kept' ((taken' ≤ total) × IsExhausted left') → MovesOn next (prepend (kept ++ read) left') (prepend kept' left')
+    here : (it : Line) → TakesFromBytes most it (kept ++ read) kept' ((taken' ≤ total) × IsExhausted left') → MovesOn next (prepend (kept ++ read) left') (prepend kept' left')
     here (Whole line) t = line_taken line t.1
     here LongLine t = line_taken t.0 t.2
     here End t = none_taken next (kept ++ read) kept' left' t.1 t.2.1

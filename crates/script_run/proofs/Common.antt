@@ -1,12 +1,14 @@
 -- Names from modules that two proofs and more cite, passed on from one place. Declares nothing.
-pub use Rattle.std.proofs.Common.{◌≡◌, ◌++◌, ap, sym, ◌∙◌, List, arith, ℕ, refl, [], false, take, ◌+◌, ◌≤◌, Bool, None, Option, length, true, ◌^◌, ◌||◌, Some, drop, suc, ◌-◌, ◌<◌, ◌∷◌, Err, Ok, Result, append_assoc, inl, inr, nat_lt, subst, zero, ◌*◌, ◌==◌, ◌≢◌, ◌⊎◌, ap₂, is_some, not, option_map}
+pub use Rattle.std.proofs.Common.{◌≡◌, ◌++◌, ap, sym, ◌∙◌, List, arith, ℕ, refl, [], false, take, ◌+◌, ◌≤◌, Bool, None, Option, length, true, ◌^◌, ◌||◌, Some}
+pub use Rattle.std.proofs.Common.{drop, suc, ◌-◌, ◌<◌, ◌∷◌, Err, Ok, Result, append_assoc, inl, inr, nat_lt, subst, zero, ◌*◌, ◌==◌, ◌≢◌, ◌⊎◌, ap₂, is_some}
+pub use Rattle.std.proofs.Common.{not, option_map}
 pub use Rattle.std.proofs.lemmas.Grind.{flat_map-append}
 pub use Rattle.std.proofs.lemmas.List.{append-nil, length-append, take-append-drop, take_at}
 pub use Rattle.std.proofs.lemmas.List.Folds.{list_any-append}
 pub use Rattle.std.specs.List.{flat_map}
 pub use Rattle.std.specs.Prelude.{if◌then◌else◌, IfSome, IsErr, IsErrAnd, OnErr}
 pub use Rattle.engine.specs.declared.lines.OutLine.{OutLine}
-pub use Rattle.fx_io.specs.Answers.{Answers, Gives, LeavesNoEnd, Reads, TakesLine}
+pub use Rattle.fx_io.specs.Answers.{Answers, GivesLine, LeavesNoEnd, ReadsBytes, TakesLine}
 pub use Rattle.fx_io.specs.Lines.{HasNoEnd, total_told, has_end, lines_ahead, lines_of, onto_first, to_come, with_line}
 pub use Rattle.fx_io.specs.Outside.{append, prepend, AppendsFront, IsExhausted, count_after}
 pub use Rattle.fx_io.specs.declared.line.Line.{Line}
@@ -14,9 +16,10 @@ pub use Rattle.fx_io.specs.declared.line.Line.TheVariants.{End, Whole, Long}
 pub use Rattle.rule_model.specs.declared.program.Program.{Program}
 pub use Rattle.rule_world.specs.Worlds.{World, empty_world}
 pub use Rattle.script_run.specs.Firings.{Fires, Firings, all_fired, firings, limit_met, none_left, one_less, onto_lines, then_fires, wants_one}
-pub use Rattle.script_run.specs.Run.{setting_of, RunSetting, state_in, LineEffect, Done, Outcome, RunState, at_end, at_limit, fire_step, goes_on, run, state_after, step_in, stops, then_run, asked_step, command_step, fault_step, first_state, progress_after, whole_run}
+pub use Rattle.script_run.specs.Run.{setting_of, RunSetting, state_in, LineEffect, Done, Outcome, RunState, at_end, at_limit, fire_step, goes_on, run}
+pub use Rattle.script_run.specs.Run.{state_after, step_in, stops, then_run, asked_step, command_step, fault_step, first_state, progress_after, whole_run}
 pub use Rattle.script_run.specs.Texts.{has_fault, held_text, line_text, lines_text, cell_text, fault_text, held_line, is_fault, limit_text, quoted_byte}
-pub use Rattle.script_run.specs.Turns.{Does, EndsFirings, Flushes, HasAtMost, Takes}
+pub use Rattle.script_run.specs.Turns.{Does, EndsFirings, Flushes, HasAtMost, TakesScript}
 pub use Rattle.script_run.specs.declared.turn.Ended.{Ended}
 pub use Rattle.script_run.specs.declared.turn.Progress.{Progress}
 pub use Rattle.script_run.specs.declared.turn.Turn.TheVariants.{Goes, Stops}

@@ -1,5 +1,8 @@
 -- The firings of a fire command, one by one.
-use Rattle.script_run.proofs.Common.{◌≡◌, ℕ, zero, suc, ◌||◌, Bool, true, false, List, [], ◌++◌, Option, Some, None, refl, sym, ◌∙◌, ap, append_assoc, is_some, flat_map-append, list_any-append, append-nil, Program, World, OutLine, Goes, Stops, Fires, Firings, all_fired, limit_met, onto_lines, none_left, then_fires, wants_one, one_less, RunSetting, fire_step, Does, EndsFirings, line_text, lines_text, limit_text, has_fault, is_fault}
+use Rattle.script_run.proofs.Common.{◌≡◌, ℕ, zero, suc, ◌||◌, Bool, true, false, List, [], ◌++◌, Option, Some, None, refl, sym, ◌∙◌, ap, append_assoc, is_some}
+use Rattle.script_run.proofs.Common.{flat_map-append, list_any-append, append-nil, Program, World, OutLine, Goes, Stops, Fires, Firings, all_fired, limit_met}
+use Rattle.script_run.proofs.Common.{onto_lines, none_left, then_fires, wants_one, one_less, RunSetting, fire_step, Does, EndsFirings, line_text, lines_text}
+use Rattle.script_run.proofs.Common.{limit_text, has_fault, is_fault}
 use Rattle.engine.specs.declared.lines.Fired.TheVariants.{No, Yes}
 use Rattle.engine.specs.Answers.{FiringAnswers}
 use Rattle.script_run.specs.declared.turn.Turn.{Turn}
@@ -112,11 +115,6 @@ yes_answer (Some f) lines v S h = (f, (refl, yes_is lines f.0 h.0, h.1))
 pub no_answer : (o : Option (List OutLine × World)) (v : World) (S : World → Type 0) → FiringAnswers o No v S → (o ≡ None) × S v
 no_answer None v S h = (refl, h.1)
 no_answer (Some f) v S h = absurd (let e : No ≡ Yes f.0 = h.0 in cc)
-
--- whether a match is pending
-pub is_pending : (limit : ℕ) (o : Option (List OutLine × World)) (faulty : Bool) (before after : List ℕ) → true ≡ is_some o → after ≡ before ++ limit_text limit → EndsFirings limit o faulty before after Stops
-is_pending limit None faulty before after e t = absurd (let k : true ≡ false = e in cc)
-is_pending limit (Some f) faulty before after e t = (t, refl)
 
 pub none_pending : (limit : ℕ) (o : Option (List OutLine × World)) (faulty : Bool) (text : List ℕ) → false ≡ is_some o → EndsFirings limit o faulty text text (Goes faulty 0)
 none_pending limit None faulty text e = (refl, refl)

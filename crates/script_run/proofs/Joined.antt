@@ -1,18 +1,19 @@
 -- The run of a script in two parts.
-use Rattle.script_run.proofs.Common.{◌≡◌, ◌⊎◌, inl, inr, ◌≤◌, ◌+◌, ◌-◌, ◌++◌, ◌==◌, ℕ, zero, suc, Bool, true, false, List, [], ◌∷◌, length, nat_lt, Option, Some, None, refl, sym, ap, ◌∙◌, arith, if◌then◌else◌, onto_first, Program, World, empty_world, OutLine, Progress, Fires, Firings, all_fired, limit_met, none_left, onto_lines, then_fires, wants_one, one_less, RunSetting, RunState, Outcome, Done, LineEffect, goes_on, stops, then_run, whole_run, first_state, state_in, state_after, step_in, fire_step, command_step, asked_step}
+use Rattle.script_run.proofs.Common.{◌≡◌, inl, inr, ◌≤◌, ◌+◌, ◌-◌, ◌++◌, ◌==◌, ℕ, zero, suc, Bool, true, false, List, [], ◌∷◌, length, nat_lt, Option, Some}
+use Rattle.script_run.proofs.Common.{None, refl, sym, ap, ◌∙◌, arith, if◌then◌else◌, onto_first, Program, World, empty_world, OutLine, Fires, Firings}
+use Rattle.script_run.proofs.Common.{all_fired, limit_met, none_left, onto_lines, then_fires, wants_one, one_less, RunSetting, RunState, Outcome, LineEffect}
+use Rattle.script_run.proofs.Common.{goes_on, stops, then_run, whole_run, first_state, state_in, state_after, step_in, fire_step, command_step, asked_step}
+use Rattle.std.proofs.lemmas.Option.{same_Some}
 use Rattle.fx_io.specs.Lines.{lines_of}
 use Rattle.checkpoint.specs.declared.image.RunPart.{RunPart}
 use Rattle.script_read.specs.Asked.{Asked, asks, bad_json, bad_command, asked}
-use Rattle.script_read.specs.Blank.{is_blank}
+use Rattle.script_read.specs.Blank.{is_line_blank}
 use Rattle.script_read.specs.declared.asked.Command.{Command}
 use Rattle.script_read.specs.declared.asked.Command.TheVariants.{Change, Fire, Held}
 use Rattle.script_run.specs.Firings.{firings}
-use Rattle.script_run.specs.Parts.{EndsLine, first_part, part_at, progress_behind, run_on}
+use Rattle.script_run.specs.Parts.{EndsLine, first_part, run_part_at, progress_behind, run_on}
 use Rattle.script_run.specs.Run.{run, line_step}
 use Rattle.script_run.proofs.Ahead.{run_goes, run_stops, then_run-then_run}
-
-some_is : {A : Type 0} (x y : A) → Some x ≡ Some y → x ≡ y
-some_is x y e = cc
 
 abbrev comes_of : Outcome → Option RunState
 comes_of o = o.comes_to
@@ -30,7 +31,7 @@ no_more s t e = cc
 
 joined : (setting : RunSetting) (s t : RunState) (xs ys : List (List ℕ)) → (run setting s xs).comes_to ≡ Some t → Joins setting s t xs ys
 unfolding run
-joined setting s t [] ys e = ap (λ (u : RunState). run setting u ys) (some_is s t e)
+joined setting s t [] ys e = ap (λ (u : RunState). run setting u ys) (same_Some s t e)
 joined setting s t (x ∷ xs) ys e = here (step_in setting s x) refl (λ u h. joined setting u t xs ys h)
   where
     here : (step : LineEffect) → step_in setting s x ≡ step → ((u : RunState) → (run setting u xs).comes_to ≡ Some t → Joins setting u t xs ys) → Joins setting s t (x ∷ xs) ys
@@ -95,11 +96,11 @@ asked_within setting number n w bad_command = omega arith
 step_within : (setting : RunSetting) (number n : ℕ) (w : World) (line : List ℕ) → StepWithin n (line_step setting number n w line)
 unfolding line_step
 step_within setting number n w line =
-    if_step n (nat_lt 65536 (length line)) _ _ (omega arith) (if_step n (is_blank line) _ _ (omega arith) (asked_within setting number n w (asked line)))
+    if_step n (nat_lt 65536 (length line)) _ _ (omega arith) (if_step n (is_line_blank line) _ _ (omega arith) (asked_within setting number n w (asked line)))
 
 run_within : (setting : RunSetting) (s t : RunState) (xs : List (List ℕ)) → (run setting s xs).comes_to ≡ Some t → t.progress.left ≤ s.progress.left
 unfolding run
-run_within setting s t [] e = let is : s ≡ t = some_is s t e in rw is (omega arith)
+run_within setting s t [] e = let is : s ≡ t = same_Some s t e in rw is (omega arith)
 run_within setting s t (x ∷ xs) e =
     here (step_in setting s x) refl (step_within setting (s.progress.lines + 1) s.progress.left s.world x) (λ u h. run_within setting u t xs h)
   where
@@ -113,7 +114,7 @@ run_within setting s t (x ∷ xs) e =
 left_is : (limit before left : ℕ) → left ≤ limit - before → limit - (before + ((limit - before) - left)) ≡ left
 left_is limit before left h = grind (arith, h)
 
-goes_on_there : (limit : ℕ) (first : RunPart) (s : RunState) → s.progress.left ≤ limit - first.firings → state_in s.world (progress_behind limit (part_at limit first s.progress)) ≡ s
+goes_on_there : (limit : ℕ) (first : RunPart) (s : RunState) → s.progress.left ≤ limit - first.firings → state_in s.world (progress_behind limit (run_part_at limit first s.progress)) ≡ s
 goes_on_there limit first s h = ap with_left (left_is limit first.firings s.progress.left h)
   where
     with_left : ℕ → RunState
@@ -151,7 +152,7 @@ lines_joined a b (inl none) = rw none refl
 lines_joined a b (inr last) = let r = front_lines last.0 b in rw last.1 (r.3 ∙ ap (λ (z : List (List ℕ)). z ++ lines_of b) (sym r.2))
 
 pub script_joined : (setting : RunSetting) (w : World) (first : RunPart) (a b : List ℕ) (s : RunState) → EndsLine a → (run_on setting w first (lines_of a)).comes_to ≡ Some s
-    → run_on setting w first (lines_of (a ++ b)) ≡ then_run (run_on setting w first (lines_of a)).bytes (run_on setting s.world (part_at setting.limit first s.progress) (lines_of b))
+    → run_on setting w first (lines_of (a ++ b)) ≡ then_run (run_on setting w first (lines_of a)).bytes (run_on setting s.world (run_part_at setting.limit first s.progress) (lines_of b))
 script_joined setting w first a b s ends comes =
     let begin : RunState = state_in w (progress_behind setting.limit first) in
     ap (run setting begin) (lines_joined a b ends) ∙ joined setting begin s (lines_of a) (lines_of b) comes

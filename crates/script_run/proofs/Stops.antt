@@ -1,5 +1,7 @@
 -- Why a run stops, and how many bytes it took.
-use Rattle.script_run.proofs.Common.{◌≡◌, ◌≢◌, ◌==◌, ◌++◌, false, ◌<◌, ◌≤◌, ◌-◌, ◌^◌, ℕ, List, Option, Result, Ok, Err, sym, ap, ◌∙◌, arith, IsErr, IsErrAnd, list_any-append, prepend, count_after, IsExhausted, has_end, HasNoEnd, Answers, LeavesNoEnd, Gives, Line, Whole, Long, End, Ended, Takes, HasAtMost}
+use Rattle.script_run.proofs.Common.{◌≡◌, ◌≢◌, ◌==◌, ◌++◌, false, ◌<◌, ◌≤◌, ◌-◌, ◌^◌, ℕ, List, Option, Result, Ok, Err, sym, ap, ◌∙◌, arith, IsErr, IsErrAnd}
+use Rattle.script_run.proofs.Common.{list_any-append, prepend, count_after, IsExhausted, has_end, HasNoEnd, Answers, LeavesNoEnd, GivesLine, Line, Whole, Long}
+use Rattle.script_run.proofs.Common.{End, TakesScript, HasAtMost}
 use Rattle.std.proofs.lemmas.Bool.{or_parts}
 use Rattle.fx_io.specs.Answers.{Stops}
 use Rattle.fx_io.specs.declared.line.LineFault.{LineFault}
@@ -35,14 +37,14 @@ pub none_given : (a : ℕ) → a ≡ count_after a 0
 none_given a = grind arith
 
 -- the reader stops where the run does
-pub takes_stop : (fault : LineFault) (bytes : List ℕ) (taken : ℕ) → Stops fault bytes taken (2 ^ 30) → Takes (Err (run_fault fault)) taken
+pub takes_stop : (fault : LineFault) (bytes : List ℕ) (taken : ℕ) → Stops fault bytes taken (2 ^ 30) → TakesScript (Err (run_fault fault)) taken
 takes_stop ReadFault bytes taken h = h.1
 takes_stop ScriptLong bytes taken h = h.1
 takes_stop NoMemory bytes taken h = tt
 
 -- at the end of the script nothing is left
-pub exhausted : (most total : ℕ) (line : Line) (bytes kept : List ℕ) (taken : ℕ) (left : Option (List ℕ)) → line ≡ End → Gives most total (Ok line) bytes kept taken left → (taken ≤ total) × IsExhausted left
-exhausted most total line bytes kept taken left e h = let k : Gives most total (Ok End) bytes kept taken left = rw e at h in k.2
+pub exhausted : (most total : ℕ) (line : Line) (bytes kept : List ℕ) (taken : ℕ) (left : Option (List ℕ)) → line ≡ End → GivesLine most total (Ok line) bytes kept taken left → (taken ≤ total) × IsExhausted left
+exhausted most total line bytes kept taken left e h = let k : GivesLine most total (Ok End) bytes kept taken left = rw e at h in k.2
 
 -- the run says that the script is too long where the reader does
 pub long_taken : {T : Type 0} (fault : LineFault) (found : RunFault) (bytes : List ℕ) (taken most : ℕ) → found ≡ run_fault fault → the_err {T = T} found ≡ the_err TooLong → Stops fault bytes taken most → most < taken

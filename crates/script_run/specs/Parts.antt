@@ -14,8 +14,8 @@ abbrev pub progress_behind : ℕ → RunPart → Progress
 progress_behind limit part = record { lines = part.lines; left = limit - part.firings; faulted = part.faulty }
 
 -- of a run that began behind a part and has come so far
-abbrev pub part_at : ℕ → RunPart → Progress → RunPart
-part_at limit first progress = record {
+abbrev pub run_part_at : ℕ → RunPart → Progress → RunPart
+run_part_at limit first progress = record {
   rules = first.rules;
   lines = progress.lines;
   firings = first.firings + ((limit - first.firings) - progress.left);

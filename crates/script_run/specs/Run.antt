@@ -6,7 +6,7 @@ use Rattle.rule_world.specs.Worlds.{World, empty_world}
 use Rattle.script_read.specs.declared.asked.Command.{Command}
 use Rattle.script_read.specs.declared.asked.Command.TheVariants.{Change, Fire, Held}
 use Rattle.script_read.specs.Asked.{Asked, asks, bad_json, bad_command, asked}
-use Rattle.script_read.specs.Blank.{is_blank}
+use Rattle.script_read.specs.Blank.{is_line_blank}
 use Rattle.engine.specs.declared.lines.OutLine.{OutLine}
 use Rattle.script_run.specs.declared.fault.LineCode.{LineCode}
 use Rattle.script_run.specs.declared.fault.LineCode.TheVariants.{LineLong, BadJson, BadCommand}
@@ -78,7 +78,7 @@ blank_step left w = goes_on (record { text = []; world = w; left = left; faulty 
 unfoldable pub line_step : RunSetting → ℕ → ℕ → World → List ℕ → LineEffect
 line_step setting number left w line =
     if nat_lt 65536 (length line) then fault_step number left w LineLong
-    else (if is_blank line then blank_step left w else asked_step setting number left w (asked line))
+    else (if is_line_blank line then blank_step left w else asked_step setting number left w (asked line))
 
 -- ---- the run
 

@@ -72,11 +72,11 @@ as_ended (Ok found) = Ok (ended_as found)
 as_ended (Err fault) = Err fault
 
 -- the engine that a run left stands for the world that the run comes to
-abbrev pub Reaches : {E : Type 0} → (E → World → Type 0) → Option RunState → Option (E × Progress) → Type 0
-Reaches stands None None = Unit {0}
-Reaches stands (Some s) (Some found) = (found.1 ≡ s.progress) × stands found.0 s.world
-Reaches stands None (Some found) = ⊥
-Reaches stands (Some s) None = ⊥
+abbrev pub ReachesWorld : {E : Type 0} → (E → World → Type 0) → Option RunState → Option (E × Progress) → Type 0
+ReachesWorld stands None None = Unit {0}
+ReachesWorld stands (Some s) (Some found) = (found.1 ≡ s.progress) × stands found.0 s.world
+ReachesWorld stands None (Some found) = ⊥
+ReachesWorld stands (Some s) None = ⊥
 
 -- the run came to the end of the script
 abbrev pub AtEnd : Ended → Type 0 → Type 0
@@ -84,9 +84,9 @@ AtEnd (Script faulted) holds = holds
 AtEnd Limit holds = Unit {0}
 
 -- how many bytes of the script a run took: more than 1 GiB where it says so, and never where it came to the end
-abbrev pub Takes : Result Ended RunFault → ℕ → Type 0
-Takes (Ok ended) n = AtEnd ended (n ≤ 2 ^ 30)
-Takes (Err ReadFault) n = n ≤ 2 ^ 30
-Takes (Err WriteFault) n = Unit {0}
-Takes (Err NoMemory) n = Unit {0}
-Takes (Err ScriptLong) n = 2 ^ 30 < n
+abbrev pub TakesScript : Result Ended RunFault → ℕ → Type 0
+TakesScript (Ok ended) n = AtEnd ended (n ≤ 2 ^ 30)
+TakesScript (Err ReadFault) n = n ≤ 2 ^ 30
+TakesScript (Err WriteFault) n = Unit {0}
+TakesScript (Err NoMemory) n = Unit {0}
+TakesScript (Err ScriptLong) n = 2 ^ 30 < n

@@ -11,13 +11,13 @@ use rule_model::TypeInfo;
 use std::alloc::Global;
 
 // Appends the line of a type of this name.
-fn push_line(text: &mut Vec<u8>, alloc: Global, name: &str, number: u64) -> Result<(), NoMemory>
+fn push_line(text: &mut Vec<u8>, name: &str, number: u64) -> Result<(), NoMemory>
     ensures { OnOk result (text.new.items ≡ text.old.items ++ held_line name.now number) }
 {
     text.extend_from_slice(b"held ")?;
     text.extend_from_slice(name.as_bytes())?;
     text.extend_from_slice(b" ")?;
-    push_number(text, alloc, number)?;
+    push_number(text, number)?;
     text.push(b'\n')?;
     Ok(())
 }
@@ -25,7 +25,6 @@ fn push_line(text: &mut Vec<u8>, alloc: Global, name: &str, number: u64) -> Resu
 // Appends the line of a type, where its facts are events and a number is left, and answers the numbers of the types behind it.
 fn push_next<'a>(
     text: &mut Vec<u8>,
-    alloc: Global,
     ty: &TypeInfo,
     numbers: &'a [u64],
 ) -> Result<&'a [u64], NoMemory>
@@ -37,7 +36,7 @@ fn push_next<'a>(
     }
     match numbers.split_first() {
         Some((number, rest)) => {
-            push_line(text, alloc, ty.name.as_str(), *number)?;
+            push_line(text, ty.name.as_str(), *number)?;
             Ok(rest)
         }
         None => Ok(numbers),
@@ -45,17 +44,12 @@ fn push_next<'a>(
 }
 
 // Appends the lines of the event types among these.
-fn push_numbers(
-    text: &mut Vec<u8>,
-    alloc: Global,
-    types: &[TypeInfo],
-    numbers: &[u64],
-) -> Result<(), NoMemory>
+fn push_numbers(text: &mut Vec<u8>, types: &[TypeInfo], numbers: &[u64]) -> Result<(), NoMemory>
     ensures { OnOk result (text.new.items ≡ text.old.items ++ held_text types.now numbers.now) }
 {
     let mut rest = numbers;
     for ty in types {
-        rest = push_next(text, alloc, ty, rest)?;
+        rest = push_next(text, ty, rest)?;
     }
     Ok(())
 }
@@ -70,5 +64,5 @@ pub(crate) fn push_kept<E: Engine>(
         ≡ text.old.items ++ held_text (E.made_with engine.now).types (E.counts (E.made_with engine.now) (E.table engine.now) w)) }
 {
     let numbers = engine.held(alloc)?;
-    push_numbers(text, alloc, engine.program().types.as_slice(), &numbers)
+    push_numbers(text, engine.program().types.as_slice(), &numbers)
 }

@@ -23,7 +23,7 @@ fn end_firings<E: Engine>(
     ensures within { (tags most : ℕ) → tags ≤ most → IfOk result (Within most tags) }
 {
     if engine.due() {
-        push_limit(text, alloc, limit)?;
+        push_limit(text, limit)?;
         return Ok(Turn::Stops);
     }
     Ok(Turn::Goes(faulty, 0))
@@ -78,7 +78,7 @@ pub(crate) fn fire_all<E: Engine>(
         match fired {
             Fired::No => return Ok((next, Turn::Goes(faulty, left))),
             Fired::Yes(lines) => {
-                let bad = push_lines(text, alloc, next.program(), number, lines.as_slice())?;
+                let bad = push_lines(text, next.program(), number, lines.as_slice())?;
                 faulty = faulty || bad;
                 engine = next;
                 most = with_one_less(most);

@@ -1,5 +1,5 @@
 ghost use Rattle.std.specs.Prelude.{◌≡◌, ◌+◌, ◌*◌, ◌<◌, ◌≤◌, ◌^◌, ℕ, List, Option, None, length, IfOk};
-ghost use Rattle.fx_io.specs.Answers.{Answers, GoesOn};
+ghost use Rattle.fx_io.specs.Answers.{Answers, UsesBytesUp};
 ghost use Rattle.rule_world.specs.Worlds.{World};
 ghost use Rattle.script_run.specs.Run.{setting_of, printed, command_step, line_step};
 ghost use Rattle.script_run.specs.Turns.{Does, Turns, Within, AllWithin, HasAtMost, EndsAt, Smaller};
@@ -33,7 +33,7 @@ fn change<E: Engine>(
     ensures tags { IfOk result (λ r. Within (E.tags engine + 16 * left + 16) (E.tags r.0) r.1) }
 {
     let (next, lines) = engine.apply(alloc, wanted)?;
-    let faulty = push_lines(text, alloc, next.program(), number, lines.as_slice())?;
+    let faulty = push_lines(text, next.program(), number, lines.as_slice())?;
     Ok((next, Turn::Goes(faulty, left)))
 }
 
@@ -94,11 +94,11 @@ fn obey_line<E: Engine>(
         Ok(wanted) => obey(alloc, engine, number, limit, at.left, &wanted, text),
         Err(CommandFault::NoMemory) => Err(NoMemory),
         Err(CommandFault::BadJson) => {
-            push_fault(text, alloc, number, LineCode::BadJson)?;
+            push_fault(text, number, LineCode::BadJson)?;
             Ok((engine, Turn::Goes(true, at.left)))
         }
         Err(CommandFault::BadCommand) => {
-            push_fault(text, alloc, number, LineCode::BadCommand)?;
+            push_fault(text, number, LineCode::BadCommand)?;
             Ok((engine, Turn::Goes(true, at.left)))
         }
     }
@@ -125,12 +125,12 @@ pub(crate) fn take_turn<E: Engine>(
     ensures tags { IfOk result (λ r. AllWithin (E.tags engine + 16 * at.left + 16) (E.tags r.0) r.1) }
     ensures ends { IfOk result (λ r. EndsAt line r.1) }
     ensures stays { IfOk result (λ r. r.1 ≡ None → r.0 ≡ engine) }
-    ensures smaller { IfOk result (λ r. (before after : ℕ) → GoesOn line before after → Smaller r.1 before after) }
+    ensures smaller { IfOk result (λ r. (before after : ℕ) → UsesBytesUp line before after → Smaller r.1 before after) }
 {
     match line {
         Line::End => Ok((engine, None)),
         Line::Long => {
-            push_fault(text, alloc, at.lines + 1, LineCode::LineLong)?;
+            push_fault(text, at.lines + 1, LineCode::LineLong)?;
             Ok((engine, Some(Turn::Goes(true, at.left))))
         }
         Line::Whole(bytes) => {

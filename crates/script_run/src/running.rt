@@ -5,7 +5,7 @@ ghost use Rattle.rule_lives.specs.Keeping.{IsSafeTable};
 ghost use Rattle.rule_world.specs.Programs.{IsRunnable};
 ghost use Rattle.rule_world.specs.Worlds.{World};
 ghost use Rattle.script_run.specs.Run.{setting_of, state_in, run as run_lines, whole_run};
-ghost use Rattle.script_run.specs.Turns.{Takes, AtEnd, Reaches, ended_as, as_ended};
+ghost use Rattle.script_run.specs.Turns.{TakesScript, AtEnd, ReachesWorld, ended_as, as_ended};
 ghost use Rattle.script_run.specs.Unfinished.{Long, StoppedAtRead};
 
 use crate::fault::{RunFault, of_line_fault};
@@ -42,13 +42,13 @@ pub fn run_from<E: Engine, S: Source, K: Sink>(
     ensures done { IfOk result (λ found. (text : List ℕ) × (K.written out.new ≡ append (K.written out.old) text)
         × ((w : World) → E.stands engine w → IfSome (S.left script.old) (λ bytes.
         let outcome = run_lines (setting_of E.gives E.fires E.counts limit (E.made_with engine) (E.table engine)) (state_in w at) (lines_of bytes) in
-        (text ≡ outcome.bytes) × (ended_as found ≡ outcome.ended) × Reaches E.stands outcome.comes_to found))) }
+        (text ≡ outcome.bytes) × (ended_as found ≡ outcome.ended) × ReachesWorld E.stands outcome.comes_to found))) }
     ensures program { IfOk result (λ found. IfSome found (λ it. E.made_with it.0 ≡ E.made_with engine)) }
     ensures table { IfOk result (λ found. IfSome found (λ it. E.table it.0 ≡ E.table engine)) }
     ensures front { (w : World) → E.stands engine w → IfSome (S.left script.old) (λ bytes. OnErr result
         (AppendsFront (K.written out.old) (K.written out.new)
         (run_lines (setting_of E.gives E.fires E.counts limit (E.made_with engine) (E.table engine)) (state_in w at) (lines_of bytes)).bytes)) }
-    ensures taken { (n : ℕ) × (S.given script.new ≡ count_after (S.given script.old) n) × Takes (as_ended result) n × (n ≤ 2 ^ 30 + 1) }
+    ensures taken { (n : ℕ) × (S.given script.new ≡ count_after (S.given script.old) n) × TakesScript (as_ended result) n × (n ≤ 2 ^ 30 + 1) }
     ensures read { IsErrOf result RunFault.ReadFault → Rose (S.faults script.old) (S.faults script.new) }
     ensures write { IsErrOf result RunFault.WriteFault → Rose (K.faults out.old) (K.faults out.new) }
     ensures long { (w : World) → E.stands engine w → IsErrOf result RunFault.ScriptLong → IfSome (S.left script.old)
@@ -121,7 +121,7 @@ pub fn run<E: Engine, S: Source, K: Sink>(
         × (K.written out.new ≡ append (K.written out.old) (whole_run (setting_of E.gives E.fires E.counts limit program lives) (lines_of bytes)).bytes))) }
     ensures front { IfSome (S.left script.old) (λ bytes. OnErr result
         (AppendsFront (K.written out.old) (K.written out.new) (whole_run (setting_of E.gives E.fires E.counts limit program lives) (lines_of bytes)).bytes)) }
-    ensures taken { (n : ℕ) × (S.given script.new ≡ count_after (S.given script.old) n) × Takes result n × (n ≤ 2 ^ 30 + 1) }
+    ensures taken { (n : ℕ) × (S.given script.new ≡ count_after (S.given script.old) n) × TakesScript result n × (n ≤ 2 ^ 30 + 1) }
     ensures read { IsErrOf result RunFault.ReadFault → Rose (S.faults script.old) (S.faults script.new) }
     ensures write { IsErrOf result RunFault.WriteFault → Rose (K.faults out.old) (K.faults out.new) }
     ensures long { IsErrOf result RunFault.ScriptLong → IfSome (S.left script.old) (Long (whole_run (setting_of E.gives E.fires E.counts limit program lives))) }

@@ -6,8 +6,8 @@ ghost use Rattle.script_run.specs.Texts.{type_name, rule_name, quoted_byte, cell
 use crate::fault::LineCode;
 use engine::{Cell, OutLine};
 use fx_base::NoMemory;
+use itoa::Buffer;
 use rule_model::{Program, Rule, TypeInfo};
-use std::alloc::Global;
 
 fn name_of_type(types: &[TypeInfo], place: usize) -> &str
     ensures { result.now ≡ type_name (slice_get types.now place) }
@@ -46,58 +46,53 @@ pub fn push_quoted(text: &mut Vec<u8>, name: &[u8]) -> Result<(), NoMemory>
 }
 
 /// Appends a number in decimal digits.
-pub fn push_number(text: &mut Vec<u8>, alloc: Global, number: u64) -> Result<(), NoMemory>
+pub fn push_number(text: &mut Vec<u8>, number: u64) -> Result<(), NoMemory>
     ensures { OnOk result (text.new.items ≡ text.old.items ++ decimal number) }
 {
-    let digits = number.to_string(alloc)?;
-    text.extend_from_slice(digits.as_bytes())?;
+    let mut digits = Buffer::new();
+    text.extend_from_slice(digits.format(number).as_bytes())?;
     Ok(())
 }
 
 /// Appends a signed number in decimal digits.
-pub fn push_signed(text: &mut Vec<u8>, alloc: Global, number: i64) -> Result<(), NoMemory>
+pub fn push_signed(text: &mut Vec<u8>, number: i64) -> Result<(), NoMemory>
     ensures { OnOk result (text.new.items ≡ text.old.items ++ signed_decimal number) }
 {
-    let digits = number.to_string(alloc)?;
-    text.extend_from_slice(digits.as_bytes())?;
+    let mut digits = Buffer::new();
+    text.extend_from_slice(digits.format(number).as_bytes())?;
     Ok(())
 }
 
-fn push_cell(text: &mut Vec<u8>, alloc: Global, cell: Cell) -> Result<(), NoMemory>
+fn push_cell(text: &mut Vec<u8>, cell: Cell) -> Result<(), NoMemory>
     ensures { OnOk result (text.new.items ≡ text.old.items ++ cell_text cell) }
 {
     match cell {
         Cell::Fact(id) => {
             text.extend_from_slice(b" #")?;
-            push_number(text, alloc, id.0)
+            push_number(text, id.0)
         }
         Cell::Value(number) => {
             text.extend_from_slice(b" =")?;
-            push_signed(text, alloc, number)
+            push_signed(text, number)
         }
     }
 }
 
-fn push_cells(text: &mut Vec<u8>, alloc: Global, cells: &[Cell]) -> Result<(), NoMemory>
+fn push_cells(text: &mut Vec<u8>, cells: &[Cell]) -> Result<(), NoMemory>
     ensures { OnOk result (text.new.items ≡ text.old.items ++ flat_map cell_text cells.now) }
 {
     for cell in cells {
-        push_cell(text, alloc, *cell)?;
+        push_cell(text, *cell)?;
     }
     Ok(())
 }
 
 /// Appends the line of a faulty line of the script.
-pub(crate) fn push_fault(
-    text: &mut Vec<u8>,
-    alloc: Global,
-    number: u64,
-    code: LineCode,
-) -> Result<(), NoMemory>
+pub(crate) fn push_fault(text: &mut Vec<u8>, number: u64, code: LineCode) -> Result<(), NoMemory>
     ensures { OnOk result (text.new.items ≡ text.old.items ++ fault_text number code) }
 {
     text.extend_from_slice(b"fault ")?;
-    push_number(text, alloc, number)?;
+    push_number(text, number)?;
     text.extend_from_slice(b" ")?;
     text.extend_from_slice(code.name().as_bytes())?;
     text.push(b'\n')?;
@@ -105,11 +100,11 @@ pub(crate) fn push_fault(
 }
 
 /// Appends the line of the limit of firings.
-pub fn push_limit(text: &mut Vec<u8>, alloc: Global, limit: u64) -> Result<(), NoMemory>
+pub fn push_limit(text: &mut Vec<u8>, limit: u64) -> Result<(), NoMemory>
     ensures { OnOk result (text.new.items ≡ text.old.items ++ limit_text limit) }
 {
     text.extend_from_slice(b"limit ")?;
-    push_number(text, alloc, limit)?;
+    push_number(text, limit)?;
     text.push(b'\n')?;
     Ok(())
 }
@@ -118,7 +113,6 @@ pub fn push_limit(text: &mut Vec<u8>, alloc: Global, limit: u64) -> Result<(), N
 #[tactic(auto, unfolding(crate::specs::Texts::line_text))]
 fn push_line(
     text: &mut Vec<u8>,
-    alloc: Global,
     program: &Program,
     number: u64,
     line: &OutLine,
@@ -129,7 +123,7 @@ fn push_line(
     match line {
         OutLine::New { id, ty } => {
             text.extend_from_slice(b"new #")?;
-            push_number(text, alloc, id.0)?;
+            push_number(text, id.0)?;
             text.extend_from_slice(b" ")?;
             let name = name_of_type(program.types.as_slice(), ty.0 as usize);
             text.extend_from_slice(name.as_bytes())?;
@@ -141,12 +135,12 @@ fn push_line(
             let name = name_of_rule(program.rules.as_slice(), rule.0 as usize);
             push_quoted(text, name.as_bytes())?;
             text.extend_from_slice(b"\"")?;
-            push_cells(text, alloc, cells.as_slice())?;
+            push_cells(text, cells.as_slice())?;
             text.push(b'\n')?;
             Ok(false)
         }
         OutLine::Fault(code) => {
-            push_fault(text, alloc, number, LineCode::Refused(*code))?;
+            push_fault(text, number, LineCode::Refused(*code))?;
             Ok(true)
         }
     }
@@ -155,7 +149,6 @@ fn push_line(
 /// Appends lines, and answers whether one of them is a fault.
 pub(crate) fn push_lines(
     text: &mut Vec<u8>,
-    alloc: Global,
     program: &Program,
     number: u64,
     lines: &[OutLine],
@@ -165,7 +158,7 @@ pub(crate) fn push_lines(
 {
     let mut faulty = false;
     for line in lines {
-        let bad = push_line(text, alloc, program, number, line)?;
+        let bad = push_line(text, program, number, line)?;
         faulty = faulty || bad;
     }
     Ok(faulty)

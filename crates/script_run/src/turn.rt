@@ -1,5 +1,5 @@
 ghost use Rattle.std.specs.Prelude.{◌≡◌, ◌+◌, ◌<◌, ◌^◌, ◌||◌, false};
-ghost use Rattle.script_run.specs.Parts.{progress_behind, part_at};
+ghost use Rattle.script_run.specs.Parts.{progress_behind, run_part_at};
 
 use checkpoint::RunPart;
 
@@ -39,7 +39,7 @@ impl Progress {
 
     /// What an image says of a run that began behind this part and has come so far.
     pub fn part(self, first: RunPart, limit: u64) -> RunPart
-        ensures { result ≡ part_at limit first self }
+        ensures { result ≡ run_part_at limit first self }
     {
         let firings = limit
             .saturating_sub(first.firings)

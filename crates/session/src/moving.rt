@@ -7,7 +7,7 @@ ghost use Rattle.rule_world.specs.Programs.{IsRunnable};
 ghost use Rattle.rule_world.specs.Worlds.{with_values, is_of_type, modify_fault, revised as revised_fact};
 ghost use Rattle.retention.specs.Retentions.{lingers};
 ghost use Rattle.forgetting.specs.Sights.{end_of_life, ends_by};
-ghost use Rattle.session_laws.specs.Leading.{Moves};
+ghost use Rattle.session_laws.specs.Leading.{MovesSession};
 ghost use Rattle.session_laws.specs.Places.{IsNewestTag, newest};
 ghost use Rattle.session_laws.specs.Standing.{Runs, StaysSound};
 ghost use Rattle.session_laws.specs.Waiting.{with_timer, without_timer};
@@ -176,7 +176,7 @@ impl State {
         requires start_high { fact.times.start ≤ℤ most_millis }
         requires end_low { (pos 0 -ℤ most_millis) ≤ℤ fact.times.end }
         requires end_high { fact.times.end ≤ℤ (most_millis +ℤ most_millis) }
-        ensures stands { IfOk result (λ s. Moves setting.now memory.old self (Insert fact.ty fact.entry fact.fields) memory.new s) }
+        ensures stands { IfOk result (λ s. MovesSession setting.now memory.old self (Insert fact.ty fact.entry fact.fields) memory.new s) }
         ensures tags { IfOk result (λ s. s.next_tag ≡ self.next_tag + 1) }
         ensures sound { nat_lt fact.entry.0 (length setting.now.program.entries) ≡ true → IfOk result (λ s. StaysSound setting.now.program memory.old self memory.new s) }
     {
@@ -205,7 +205,7 @@ impl State {
         requires end_low { (pos 0 -ℤ most_millis) ≤ℤ fact.times.end }
         requires end_high { fact.times.end ≤ℤ (most_millis +ℤ most_millis) }
         requires present { is_present setting.now.program self.clock fact ≡ true }
-        ensures stands { IfOk result (λ s. Moves setting.now memory.old self (Insert fact.ty fact.entry fact.fields) memory.new s) }
+        ensures stands { IfOk result (λ s. MovesSession setting.now memory.old self (Insert fact.ty fact.entry fact.fields) memory.new s) }
         ensures tags { IfOk result (λ s. s.next_tag ≡ self.next_tag + 1) }
         ensures sound { nat_lt fact.entry.0 (length setting.now.program.entries) ≡ true → IfOk result (λ s. StaysSound setting.now.program memory.old self memory.new s) }
     {
@@ -248,7 +248,7 @@ impl State {
         requires tag { fact.now.tag.0 ≡ self.next_tag }
         requires times { fact.now.times ≡ times_of (slice_get setting.now.program.types fact.now.ty.0) self.clock fact.now.fields }
         requires absent { is_present setting.now.program self.clock fact.now ≡ false }
-        ensures stands { IfOk result (λ s. Moves setting.now memory.old self (Insert fact.now.ty fact.now.entry fact.now.fields) memory.new s) }
+        ensures stands { IfOk result (λ s. MovesSession setting.now memory.old self (Insert fact.now.ty fact.now.entry fact.now.fields) memory.new s) }
         ensures tags { IfOk result (λ s. s.next_tag ≡ self.next_tag + 1) }
         ensures sound { nat_lt fact.now.entry.0 (length setting.now.program.entries) ≡ true → IfOk result (λ s. StaysSound setting.now.program memory.old self memory.new s) }
     {
@@ -286,7 +286,7 @@ impl State {
         requires low { self.next_tag < 2 ^ 63 }
         requires tag { IsNewestTag self.facts id.0 tag }
         requires plain { modify_fault setting.now.program (newest self id.0) ≡ None }
-        ensures stands { IfOk result (λ s. Moves setting.now memory.old self (Modify id sets) memory.new s) }
+        ensures stands { IfOk result (λ s. MovesSession setting.now memory.old self (Modify id sets) memory.new s) }
         ensures tags { IfOk result (λ s. s.next_tag ≡ self.next_tag + 1) }
         ensures sound { IfOk result (λ s. StaysSound setting.now.program memory.old self memory.new s) }
     {
@@ -326,7 +326,7 @@ impl State {
         requires runs { Runs setting.now }
         requires tag { IsNewestTag self.facts id.0 tag }
         requires of_type { is_of_type ty.0 (newest self id.0) ≡ true }
-        ensures stands { IfOk result (λ s. Moves setting.now memory.old self (Retract ty id) memory.new s) }
+        ensures stands { IfOk result (λ s. MovesSession setting.now memory.old self (Retract ty id) memory.new s) }
         ensures tags { IfOk result (λ s. s.next_tag ≡ self.next_tag) }
         ensures sound { IfOk result (λ s. StaysSound setting.now.program memory.old self memory.new s) }
     {
@@ -361,7 +361,7 @@ impl State {
     ) -> Result<State, NoMemory>
         requires runs { Runs setting.now }
         requires absent { is_of_type ty.0 (newest self id.0) ≡ false }
-        ensures stands { IfOk result (λ s. Moves setting.now memory.old self (Retract ty id) memory.new s) }
+        ensures stands { IfOk result (λ s. MovesSession setting.now memory.old self (Retract ty id) memory.new s) }
         ensures tags { IfOk result (λ s. s.next_tag ≡ self.next_tag) }
         ensures sound { IfOk result (λ s. StaysSound setting.now.program memory.old self memory.new s) }
     {
@@ -379,7 +379,7 @@ impl State {
         from: Millis,
     ) -> Result<State, NoMemory>
         requires runs { Runs setting.now }
-        ensures stands { IfOk result (λ s. Moves setting.now memory.old self (Promise entry from) memory.new s) }
+        ensures stands { IfOk result (λ s. MovesSession setting.now memory.old self (Promise entry from) memory.new s) }
         ensures tags { IfOk result (λ s. s.next_tag ≡ self.next_tag) }
         ensures sound { nat_lt entry.0 (length setting.now.program.entries) ≡ true → IfOk result (λ s. StaysSound setting.now.program memory.old self memory.new s) }
     {
@@ -409,7 +409,7 @@ impl State {
         memory: &mut Memory,
     ) -> Result<State, NoMemory>
         requires runs { Runs setting.now }
-        ensures stands { IfOk result (λ s. Moves setting.now memory.old self Begin memory.new s) }
+        ensures stands { IfOk result (λ s. MovesSession setting.now memory.old self Begin memory.new s) }
         ensures tags { IfOk result (λ s. s.next_tag ≡ self.next_tag) }
         ensures sound { IfOk result (λ s. StaysSound setting.now.program memory.old self memory.new s) }
     {
@@ -431,7 +431,7 @@ impl State {
         requires low { pos 0 ≤ℤ clock }
         requires high { clock ≤ℤ most_millis }
         requires later { self.clock ≤ℤ clock }
-        ensures stands { IfOk result (λ s. Moves setting.now memory.old self (At clock) memory.new s) }
+        ensures stands { IfOk result (λ s. MovesSession setting.now memory.old self (At clock) memory.new s) }
         ensures tags { IfOk result (λ s. s.next_tag ≡ self.next_tag) }
         ensures sound { IfOk result (λ s. StaysSound setting.now.program memory.old self memory.new s) }
     {

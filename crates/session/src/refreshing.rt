@@ -6,7 +6,7 @@ ghost use Rattle.rete_net.specs.declared.changes.RuleChange.{RuleChange as RuleC
 ghost use Rattle.rete_net.specs.Nets.{AreBetween, NetStands, clean_rows};
 ghost use Rattle.rete_net.specs.Shapes.{IsNetOf};
 ghost use Rattle.session_laws.specs.Standing.{AreOfRules};
-ghost use Rattle.retention.specs.Retentions.{is_among};
+ghost use Rattle.retention.specs.Retentions.{is_tag_among};
 ghost use Rattle.forgetting.specs.Steps.{HasLeft};
 ghost use Rattle.row_delta.specs.declared.row.Named.{Named as NamedData};
 ghost use Rattle.row_delta.specs.declared.row.Row.{Row as RowData};
@@ -16,7 +16,7 @@ ghost use Rattle.rule_model.specs.Lent.{lent};
 ghost use Rattle.rule_world.specs.Programs.{IsRunnable};
 ghost use Rattle.session_laws.specs.Following.{Instant, LeadsOn, facts_at, instant_at};
 ghost use Rattle.session_laws.specs.Refreshed.{IsRefreshed};
-ghost use Rattle.session_laws.specs.Waiting.{left_at};
+ghost use Rattle.session_laws.specs.Waiting.{fact_left_at};
 ghost use Rattle.std.specs.FinMap as map;
 
 use crate::boxed::{BoxedAgenda, BoxedFacts};
@@ -29,7 +29,7 @@ use std::alloc::Global;
 
 /// Adds the tags of the facts that are named.
 pub(crate) fn add_names(tags: &mut Vec<Tag>, names: &[Named]) -> Result<(), NoMemory>
-    ensures { OnOk result ((tag : ℕ) → is_among tags.new.items tag ≡ (is_among tags.old.items tag || list_any (λ (n : NamedData). tag == n.tag.0) names.now)) }
+    ensures { OnOk result ((tag : ℕ) → is_tag_among tags.new.items tag ≡ (is_tag_among tags.old.items tag || list_any (λ (n : NamedData). tag == n.tag.0) names.now)) }
 {
     for name in names {
         tags.push(name.tag)?;
@@ -39,7 +39,7 @@ pub(crate) fn add_names(tags: &mut Vec<Tag>, names: &[Named]) -> Result<(), NoMe
 
 // Adds the tags of the facts that rows name.
 fn add_rows(tags: &mut Vec<Tag>, rows: &[Row]) -> Result<(), NoMemory>
-    ensures { OnOk result ((tag : ℕ) → is_among tags.new.items tag ≡ (is_among tags.old.items tag || list_any (λ (row : RowData). list_any (λ (n : NamedData). tag == n.tag.0) row.facts) rows.now)) }
+    ensures { OnOk result ((tag : ℕ) → is_tag_among tags.new.items tag ≡ (is_tag_among tags.old.items tag || list_any (λ (row : RowData). list_any (λ (n : NamedData). tag == n.tag.0) row.facts) rows.now)) }
 {
     for row in rows {
         add_names(tags, row.facts.as_slice())?;
@@ -55,7 +55,7 @@ pub(crate) fn refreshed(
     changes: Vec<RuleChange>,
 ) -> Result<(Agenda, Vec<Tag>), NoMemory>
     ensures agenda { (p : ProgramData) (old new : RuleData → List RowData) → AreBetween p old new changes.items → IfOk result (λ r. IsRefreshed p.rules old new agenda r.0) }
-    ensures left { IfOk result (λ r. HasLeft agenda r.0 (is_among r.1.items)) }
+    ensures left { IfOk result (λ r. HasLeft agenda r.0 (is_tag_among r.1.items)) }
     ensures rules { (rules : ℕ) → ((c : RuleChangeData) → In c changes.items → c.rule.0 < rules) → AreOfRules rules agenda.pending → IfOk result (λ r. AreOfRules rules r.0.pending) }
 {
     let mut agenda = agenda;
@@ -76,7 +76,7 @@ impl BoxedAgenda {
         changes: Vec<RuleChange>,
     ) -> Result<(BoxedAgenda, Vec<Tag>), NoMemory>
         ensures agenda { (p : ProgramData) (old new : RuleData → List RowData) → AreBetween p old new changes.items → IfOk result (λ r. IsRefreshed p.rules old new self r.0) }
-        ensures left { IfOk result (λ r. HasLeft self r.0 (is_among r.1.items)) }
+        ensures left { IfOk result (λ r. HasLeft self r.0 (is_tag_among r.1.items)) }
         ensures rules { (rules : ℕ) → ((c : RuleChangeData) → In c changes.items → c.rule.0 < rules) → AreOfRules rules self.pending → IfOk result (λ r. AreOfRules rules r.0.pending) }
     {
         if changes.is_empty() {
@@ -123,7 +123,7 @@ pub(crate) fn followed(
     ensures agenda { (before behind all : HeldFacts) (from : Instant) (forgotten : NamedData → Bool) → LeadsOn program.now before from behind (instant_at moment.now) all gone.now (option_map (λ f. f.now) come.entry) forgotten facts.now
         → NetStands program.now net.old (facts_at before from) forgotten
         → IfOk result (λ r. IsRefreshed program.now.rules (clean_rows program.now (facts_at before from) forgotten) (clean_rows program.now (facts_at behind (instant_at moment.now)) forgotten) agenda r.0) }
-    ensures left { IfOk result (λ r. HasLeft agenda r.0 (is_among r.1.items)) }
+    ensures left { IfOk result (λ r. HasLeft agenda r.0 (is_tag_among r.1.items)) }
     ensures shape { (p : ProgramData) → IsNetOf p net.old.nodes.items net.old.ends.items → OnOk result (IsNetOf p net.new.nodes.items net.new.ends.items) }
     ensures rules { length net.old.ends.items < 2 ^ 16 → AreOfRules (length net.old.ends.items) agenda.pending → IfOk result (λ r. AreOfRules (length net.old.ends.items) r.0.pending) }
 {
@@ -134,7 +134,7 @@ pub(crate) fn followed(
 
 /// The facts without those of these tags.
 pub(crate) fn without_all(facts: BoxedFacts, tags: Vec<u64>) -> BoxedFacts
-    ensures { (tag : ℕ) → map.get result tag ≡ left_at facts tags.items tag }
+    ensures { (tag : ℕ) → map.get result tag ≡ fact_left_at facts tags.items tag }
 {
     let mut facts = facts;
     for tag in tags {

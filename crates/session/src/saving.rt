@@ -7,14 +7,14 @@ ghost use Rattle.rule_world.specs.Worlds.{World};
 ghost use Rattle.rule_model.specs.Matches.{match_cmp};
 ghost use Rattle.image_laws.specs.Fitting.{Fits};
 ghost use Rattle.image_laws.specs.Images.{IsImageOf, match_fired};
-ghost use Rattle.image_laws.specs.Laden.{AreOwners};
+ghost use Rattle.laden_rows.specs.Laden.{AreOwners};
 ghost use Rattle.image_fitting.specs.Plain.{FitsPlainly, FitsByRows};
 ghost use Rattle.session_laws.specs.Restoring.{IsMatched, IsRestored};
-ghost use Rattle.session_laws.specs.Saving.{IsSaved};
+ghost use Rattle.session_laws.specs.Saving.{IsSessionSaved};
 ghost use Rattle.session_laws.specs.Standing.{Runs};
 ghost use Rattle.checkpoint.specs.declared.image.Image.{Image as ImageData};
 ghost use Rattle.session.specs.Restores.{AreOfImage};
-ghost use Rattle.session.specs.Sessions.{Stands};
+ghost use Rattle.session.specs.Sessions.{SessionStands};
 
 use crate::boxed::{BoxedAgenda, BoxedFacts};
 use crate::course::Course;
@@ -145,7 +145,7 @@ impl State {
         net: &Rete,
     ) -> Result<Image, NoMemory>
         ensures run { IfOk result (λ image. image.run ≡ run) }
-        ensures saved { IfOk result (IsSaved self entries net.now) }
+        ensures saved { IfOk result (IsSessionSaved self entries net.now) }
     {
         let State {
             facts,
@@ -181,8 +181,8 @@ impl Session {
     /// and what conditions count beyond the facts, which costs the tallies of their rows.
     pub fn save(self, alloc: Global, run: RunPart) -> Result<Image, NoMemory>
         ensures run { IfOk result (λ image. image.run ≡ run) }
-        ensures lawful { (w : World) → Stands self w → IsLawful self.setting.program w }
-        ensures image { IfOk result (λ image. (w : World) → Stands self w → IsImageOf self.setting.program self.setting.lives w image) }
+        ensures lawful { (w : World) → SessionStands self w → IsLawful self.setting.program w }
+        ensures image { IfOk result (λ image. (w : World) → SessionStands self w → IsImageOf self.setting.program self.setting.lives w image) }
     {
         let entries = self.setting.setting().program.entries.as_slice().len();
         let Session { state, memory, .. } = self;
@@ -199,7 +199,7 @@ impl Session {
     ) -> Result<Session, ResumeFault>
         requires runnable { IsRunnable program }
         requires table { IsSafeTable program lives }
-        ensures stands { IfOk result (λ s. (w : World) → IsLawful program w → IsImageOf program lives w image → Stands s w) }
+        ensures stands { IfOk result (λ s. (w : World) → IsLawful program w → IsImageOf program lives w image → SessionStands s w) }
         ensures program { IfOk result (λ s. s.setting.program ≡ program) }
         ensures table { IfOk result (λ s. s.setting.lives ≡ lives) }
         ensures next { IfOk result (λ s. s.state.next_tag ≡ image.next_tag) }

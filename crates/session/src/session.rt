@@ -49,13 +49,13 @@ impl Session {
     ghost use Rattle.engine.specs.Counts.{HasEach};
     ghost use Rattle.session_laws.specs.Counts.{held_counts};
     ghost use Rattle.session_laws.specs.Gives.{gives, fires};
-    ghost use Rattle.session.specs.Sessions.{Stands};
+    ghost use Rattle.session.specs.Sessions.{SessionStands};
 
     /// An engine in the empty world of a program, with a safe table of lives.
     pub fn new(alloc: Global, program: Program, lives: LifeTable) -> Result<Session, NoMemory>
         requires runnable { IsRunnable program }
         requires table { IsSafeTable program lives }
-        ensures stands { IfOk result (λ s. Stands s empty_world) }
+        ensures stands { IfOk result (λ s. SessionStands s empty_world) }
         ensures program { IfOk result (λ s. s.setting.program ≡ program) }
         ensures table { IfOk result (λ s. s.setting.lives ≡ lives) }
         ensures next { IfOk result (λ s. s.state.next_tag ≡ 1) }
@@ -77,8 +77,8 @@ impl Session {
     /// The lines of a change, or its fault, which leaves the world as it is.
     pub fn apply(self, alloc: Global, change: &Change) -> Result<(Session, Lines), NoMemory>
         requires { self.state.next_tag ≤ 2 ^ 62 }
-        ensures lines { IfOk result (λ r. (w : World) → Stands self w → r.1 ≡ (gives self.setting.program w change.now).0) }
-        ensures next { IfOk result (λ r. (w : World) → Stands self w → Stands r.0 (gives self.setting.program w change.now).1) }
+        ensures lines { IfOk result (λ r. (w : World) → SessionStands self w → r.1 ≡ (gives self.setting.program w change.now).0) }
+        ensures next { IfOk result (λ r. (w : World) → SessionStands self w → SessionStands r.0 (gives self.setting.program w change.now).1) }
         ensures known { IfOk result (λ r. are_known self.setting.program r.1 ≡ true) }
         ensures program { IfOk result (λ r. r.0.setting.program ≡ self.setting.program) }
         ensures table { IfOk result (λ r. r.0.setting.lives ≡ self.setting.lives) }
@@ -107,7 +107,7 @@ impl Session {
     /// pending.
     pub fn fire_one(self, alloc: Global) -> Result<(Session, Fired), NoMemory>
         requires { self.state.next_tag ≤ 2 ^ 62 }
-        ensures answers { IfOk result (λ r. (w : World) → Stands self w → FiringAnswers (fires self.setting.program w) r.1 w (Stands r.0)) }
+        ensures answers { IfOk result (λ r. (w : World) → SessionStands self w → FiringAnswers (fires self.setting.program w) r.1 w (SessionStands r.0)) }
         ensures known { IfOk result (λ r. is_known_firing self.setting.program r.1 ≡ true) }
         ensures program { IfOk result (λ r. r.0.setting.program ≡ self.setting.program) }
         ensures table { IfOk result (λ r. r.0.setting.lives ≡ self.setting.lives) }
@@ -145,14 +145,14 @@ impl Session {
 
     /// Whether a match is pending. Takes no memory.
     pub fn due(&self) -> bool
-        ensures { (w : World) → Stands self.now w → result ≡ is_some (fires self.now.setting.program w) }
+        ensures { (w : World) → SessionStands self.now w → result ≡ is_some (fires self.now.setting.program w) }
     {
         self.state.top().is_some()
     }
 
     /// The clock, in milliseconds. Takes no memory.
     pub fn clock(&self) -> Millis
-        ensures { (w : World) → Stands self.now w → result ≡ w.clock }
+        ensures { (w : World) → SessionStands self.now w → result ≡ w.clock }
     {
         self.state.clock()
     }
@@ -160,7 +160,7 @@ impl Session {
     /// For each event type of the program, in their order, how many of its events are kept. It goes once over the types, and takes
     /// memory for their places and their numbers alone.
     pub fn held(&self, alloc: Global) -> Result<Vec<u64>, NoMemory>
-        ensures counts { IfOk result (λ numbers. (w : World) → Stands self.now w
+        ensures counts { IfOk result (λ numbers. (w : World) → SessionStands self.now w
             → numbers.items ≡ held_counts self.now.setting.program self.now.setting.lives w) }
         ensures each { IfOk result (λ numbers. HasEach self.now.setting.program numbers.items) }
     {
@@ -175,22 +175,15 @@ impl Session {
     {
         &self.setting.setting().program
     }
-
-    /// The table of lives that the session was made with. Takes no memory.
-    pub fn lives(&self) -> &LifeTable
-        ensures { result.now ≡ self.now.setting.lives }
-    {
-        &self.setting.setting().lives
-    }
 }
 
 impl Engine for Session {
     ghost use Rattle.std.specs.Prelude.{◌-◌};
     ghost use Rattle.session_laws.specs.Counts.{held_counts};
     ghost use Rattle.session_laws.specs.Gives.{gives as session_gives, fires as session_fires};
-    ghost use Rattle.session.specs.Sessions.{Stands};
+    ghost use Rattle.session.specs.Sessions.{SessionStands};
 
-    ghost stands = { Stands };
+    ghost stands = { SessionStands };
 
     ghost made_with = { λ s. s.setting.program };
 

@@ -6,7 +6,7 @@ ghost use Rattle.rule_model.specs.declared.matched.Match.{Match};
 ghost use Rattle.rule_model.specs.Matches.{has_match};
 ghost use Rattle.rule_model.specs.Tuples.{name_of};
 ghost use Rattle.rule_world.specs.Worlds.{World};
-ghost use Rattle.retention.specs.Retentions.{has_tag, is_among};
+ghost use Rattle.retention.specs.Retentions.{has_listed_tag, is_tag_among};
 ghost use Rattle.rete_net.specs.Dropped.{AreListed, rows_for};
 ghost use Rattle.session_laws.specs.Standing.{Awaits, Runs, Standing, StaysSound};
 
@@ -32,7 +32,7 @@ fn rule_in(place: usize) -> RuleId
 
 // The tags of a set.
 fn tags_of(alloc: Global, set: &BTreeSet<u64, Global>) -> Result<Vec<u64>, NoMemory>
-    ensures { IfOk result (λ tags. (tag : ℕ) → list_any (nat_eq tag) tags.items ≡ has_tag set.now.keys tag) }
+    ensures { IfOk result (λ tags. (tag : ℕ) → list_any (nat_eq tag) tags.items ≡ has_listed_tag set.now.keys tag) }
 {
     Ok(set.iter().copied().collect(alloc)?)
 }
@@ -90,7 +90,7 @@ impl State {
         left: &[Tag],
     ) -> Result<State, NoMemory>
         requires runs { Runs setting.now }
-        ensures stands { IfOk result (λ s. (w : World) → Awaits setting.now memory.old self (is_among left.now) w → Standing setting.now memory.new s w) }
+        ensures stands { IfOk result (λ s. (w : World) → Awaits setting.now memory.old self (is_tag_among left.now) w → Standing setting.now memory.new s w) }
         ensures tags { IfOk result (λ s. s.next_tag ≡ self.next_tag) }
         ensures sound { IfOk result (λ s. StaysSound setting.now.program memory.old self memory.new s) }
     {

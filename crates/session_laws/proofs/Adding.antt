@@ -1,15 +1,15 @@
 -- Matches that are added to an agenda, and those of them that are marked, one after the other.
-use Rattle.session_laws.proofs.Common.{◌≡◌, ◌∙◌, ◌==◌, ◌&&◌, ◌||◌, not, ℕ, zero, suc, Bool, true, false, cond, inl, inr, List, [], ◌∷◌, ◌++◌, ◌+◌, ◌<◌, drop, get_or, length, refl, sym, ap, subst, arith, eq_by_cmp, drop_more, map-append, take_more, list_any-append, In, Row, row_cmp, has, same_equiv, FiredMatch, Match, has_match, match_cmp, match_equiv, of_append, Marks, IsChanged, match_fired, RuleChange, comes_by, has_marked, NoneGo, AreMarked, AreMarking}
+use Rattle.session_laws.proofs.Common.{◌≡◌, ◌∙◌, ◌==◌, ◌&&◌, ◌||◌, not, ℕ, zero, suc, Bool, true, false, cond, inl, inr, List, [], ◌∷◌, ◌++◌, ◌+◌, ◌<◌, get_or}
+use Rattle.session_laws.proofs.Common.{length, refl, sym, ap, subst, arith, eq_by_cmp, map-append, take_more, list_any-append, In, Row, row_cmp, has}
+use Rattle.session_laws.proofs.Common.{same_equiv, FiredMatch, Match, has_match, match_cmp, match_equiv, Marks, IsChanged, match_fired, RuleChange, comes_by}
+use Rattle.session_laws.proofs.Common.{has_marked, NoneGo, AreMarking}
+use Rattle.std.proofs.Math.Bool.{or-false, or_assoc}
 use Rattle.std.proofs.Common.{take, map as list_map}
 use Rattle.agenda.proofs.Steps.{fired_put, parts}
+use Rattle.fx_base.proofs.Sequences.{In-append}
+use Rattle.fx_base.proofs.Tests.{and_not_not, or_and_join}
 
 -- ---- matches in a set
-
-or_more : (o t a b : Bool) → ((o || (t && a)) || (t && b)) ≡ (o || (t && (a || b)))
-or_more true t a b = refl
-or_more false false a b = refl
-or_more false true true b = refl
-or_more false true false b = refl
 
 -- none yet
 pub none_yet : (o t : Bool) → o ≡ (o || (t && false))
@@ -17,14 +17,10 @@ none_yet true t = refl
 none_yet false true = refl
 none_yet false false = refl
 
-or_false : (b : Bool) → (b || false) ≡ b
-or_false true = refl
-or_false false = refl
-
 has_end : (rows : List Row) (row r : Row) → has (rows ++ row ∷ []) r ≡ (has rows r || eq_by_cmp row_cmp row r)
 has_end rows row r =
     list_any-append (eq_by_cmp row_cmp r) rows (row ∷ [])
-    ∙ ap (λ b. has rows r || b) (or_false (eq_by_cmp row_cmp r row) ∙ same_equiv.symm r row)
+    ∙ ap (λ b. has rows r || b) (or-false (eq_by_cmp row_cmp r row) ∙ same_equiv.symm r row)
 
 -- one row more
 pub one_added : (rule : ℕ) (old now new : List Match) (taken : List Row) (n : Match) → n.rule.0 ≡ rule
@@ -35,14 +31,14 @@ one_added rule old now new taken n is put before q =
     fired_put n now new put q
     ∙ ap (λ b. has_match now q || b) (parts n q rule n.row is refl)
     ∙ ap (λ b. b || (rule == q.rule.0 && eq_by_cmp row_cmp n.row q.row)) (before q)
-    ∙ or_more (has_match old q) (rule == q.rule.0) (has taken q.row) (eq_by_cmp row_cmp n.row q.row)
+    ∙ or_and_join (has_match old q) (rule == q.rule.0) (has taken q.row) (eq_by_cmp row_cmp n.row q.row)
     ∙ ap (λ b. has_match old q || (rule == q.rule.0 && b)) (sym (has_end taken n.row q.row))
 
 -- one change more
 pub one_come : (taken : List RuleChange) (c : RuleChange) (q : Match) → comes_by (taken ++ c ∷ []) q ≡ (comes_by taken q || (c.rule.0 == q.rule.0 && has c.delta.come q.row))
 one_come taken c q =
     list_any-append (λ (d : RuleChange). d.rule.0 == q.rule.0 && has d.delta.come q.row) taken (c ∷ [])
-    ∙ ap (λ b. comes_by taken q || b) (or_false (c.rule.0 == q.rule.0 && has c.delta.come q.row))
+    ∙ ap (λ b. comes_by taken q || b) (or-false (c.rule.0 == q.rule.0 && has c.delta.come q.row))
 
 -- ---- rows that come into an agenda
 
@@ -82,7 +78,7 @@ added_turn first now next all rest more c step changed are =
     }
 
 pub added_pending : (first now : Marks) (all rest : List RuleChange) → rest ≡ [] → AreAdding first all now rest → (m : Match) → has_match now.pending m ≡ (has_match first.pending m || comes_by all m)
-added_pending first now all rest none are m = sym (or_false (has_match now.pending m)) ∙ ap (λ cs. has_match now.pending m || comes_by cs m) (sym none) ∙ are.pending m
+added_pending first now all rest none are m = sym (or-false (has_match now.pending m)) ∙ ap (λ cs. has_match now.pending m || comes_by cs m) (sym none) ∙ are.pending m
 
 -- ---- matches that are marked
 
@@ -90,16 +86,7 @@ marked_end : (taken : List FiredMatch) (f : FiredMatch) (m : Match) → has_mark
 marked_end taken f m =
     ap (λ ms. has_match ms m) (map-append match_fired taken (f ∷ []))
     ∙ list_any-append (eq_by_cmp match_cmp m) (list_map match_fired taken) (match_fired f ∷ [])
-    ∙ ap (λ b. has_marked taken m || b) (or_false (eq_by_cmp match_cmp m (match_fired f)) ∙ match_equiv.symm m (match_fired f) ∙ parts (match_fired f) m f.rule.0 f.row refl refl)
-
-and_more : (p a b : Bool) → ((p && not a) && not b) ≡ (p && not (a || b))
-and_more true true b = refl
-and_more true false b = refl
-and_more false a b = refl
-
-or_else : (p a b : Bool) → ((p || a) || b) ≡ (p || (a || b))
-or_else true a b = refl
-or_else false a b = refl
+    ∙ ap (λ b. has_marked taken m || b) (or-false (eq_by_cmp match_cmp m (match_fired f)) ∙ match_equiv.symm m (match_fired f) ∙ parts (match_fired f) m f.rule.0 f.row refl refl)
 
 pub one_marked : (came : List Match) (first now next : Marks) (taken : List FiredMatch) (f : FiredMatch) → AreMarking came first now taken → has_match came (match_fired f) ≡ true → next.saliences ≡ now.saliences
     → ((m : Match) → has_match next.pending m ≡ (has_match now.pending m && not (f.rule.0 == m.rule.0 && eq_by_cmp row_cmp f.row m.row)))
@@ -109,13 +96,13 @@ one_marked came first now next taken f are came_f salient pending fired = record
   saliences = salient ∙ are.saliences;
   pending = λ m.
       pending m ∙ ap (λ b. b && not (f.rule.0 == m.rule.0 && eq_by_cmp row_cmp f.row m.row)) (are.pending m)
-      ∙ and_more (has_match first.pending m) (has_marked taken m) (f.rule.0 == m.rule.0 && eq_by_cmp row_cmp f.row m.row)
+      ∙ and_not_not (has_match first.pending m) (has_marked taken m) (f.rule.0 == m.rule.0 && eq_by_cmp row_cmp f.row m.row)
       ∙ ap (λ b. has_match first.pending m && not b) (sym (marked_end taken f m));
   fired = λ m.
       fired m ∙ ap (λ b. b || (f.rule.0 == m.rule.0 && eq_by_cmp row_cmp f.row m.row)) (are.fired m)
-      ∙ or_else (has_match first.fired m) (has_marked taken m) (f.rule.0 == m.rule.0 && eq_by_cmp row_cmp f.row m.row)
+      ∙ or_assoc (has_match first.fired m) (has_marked taken m) (f.rule.0 == m.rule.0 && eq_by_cmp row_cmp f.row m.row)
       ∙ ap (λ b. has_match first.fired m || b) (sym (marked_end taken f m));
-  there = λ m i. elim (of_append m taken (f ∷ []) i) [
+  there = λ m i. elim (In-append m taken (f ∷ []) i) [
     | inl j ↦ are.there m j
     | inr (inl e) ↦ subst (λ (z : FiredMatch). has_match came (match_fired z) ≡ true) (sym e) came_f
     | inr (inr k) ↦ absurd k

@@ -1,5 +1,8 @@
 -- Changes ask a session for what they ask the world for, and lead from lawful worlds to lawful ones.
-use Rattle.session_laws.proofs.Common.{◌≡◌, ℕ, Bool, true, false, List, Option, Some, None, Result, Err, refl, ◌∙◌, ap, subst, Fact, FactId, Program, TypeInfo, Step, is_event, is_event_type, Code, EventFixed, ReferenceFixed, Absent, sets_fit, IsLawful, IsOrdered, IsRunnable, event_by, found_fits, World, found, is_of_type, Change, Given, entry_asked, fields_step, insert_step, modify_step, type_named, asked_fits, stands, type_stands, Memory, Setting, Fits, IsOfPlain, newest, Contents, Runs, Standing}
+use Rattle.session_laws.proofs.Common.{◌≡◌, ℕ, Bool, true, false, List, Option, Some, None, Result, Err, refl, ◌∙◌, ap, subst, Fact, FactId, Program, TypeInfo}
+use Rattle.session_laws.proofs.Common.{Step, is_event, is_event_type, Code, EventFixed, ReferenceFixed, Absent, sets_fit, IsLawful, IsOrdered, IsRunnable}
+use Rattle.session_laws.proofs.Common.{event_by, found_fits, World, found, is_of_type, Change, Given, entry_asked, fields_step, insert_step, modify_step}
+use Rattle.session_laws.proofs.Common.{type_named, asked_fits, stands, type_stands, Memory, Setting, FitsWorld, IsOfPlain, newest, Contents, Runs, Standing}
 use Rattle.std.specs.Prelude.{if◌then◌else◌}
 use Rattle.rule_world.specs.Kinds.{step_fits}
 use Rattle.script_read.specs.declared.asked.Change.TheVariants.{Insert, Modify, Retract, Advance, At, Promise, Begin}
@@ -54,7 +57,7 @@ fits_plain p w (step.Promise entry from) fit = tt
 fits_plain p w step.Begin fit = tt
 
 -- what a change asks for fits
-pub change_fits : (p : Program) (w : World) (change : Change) → IsRunnable p → IsOrdered p w → Fits p w (change_step p w.begun (found p w) change)
+pub change_fits : (p : Program) (w : World) (change : Change) → IsRunnable p → IsOrdered p w → FitsWorld p w (change_step p w.begun (found p w) change)
 change_fits p w change runnable o asked e =
     let fit : step_fits p (found p w) asked ≡ true = asked_fits p w.begun (found p w) change asked runnable.some_entry e in
     record { plain = fits_plain p w asked fit; fits = λ none. found_fits p w asked o fit }

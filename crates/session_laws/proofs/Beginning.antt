@@ -1,5 +1,6 @@
 -- A session whose world has begun awaits the second phase of the step: nothing else has changed.
-use Rattle.session_laws.proofs.Common.{◌≡◌, ℕ, Bool, true, List, None, inl, refl, sym, subst, facts_of, Row, Program, Rule, Begin, IsLawful, World, only_present, clean_rows, Memory, Setting, over, Contents, Awaits, Mirrors, Runs, Standing, with_facts, reached_of}
+use Rattle.session_laws.proofs.Common.{◌≡◌, ℕ, Bool, true, List, None, inl, refl, sym, subst, facts_of, Row, Program, Rule, Begin, IsLawful, World}
+use Rattle.session_laws.proofs.Common.{only_present, clean_rows, Memory, Setting, over, Contents, Awaits, Mirrors, Runs, Standing, with_facts, reached_of}
 use Rattle.rule_world.specs.Worlds.{step_fault, stepped, moved}
 use Rattle.session_laws.proofs.Exactly.{after_begin}
 use Rattle.session_laws.proofs.Moving_on.{covered_at, on_time}

@@ -1,7 +1,11 @@
 -- Which matches of a world and of the next one name nothing that a session has forgotten.
-use Rattle.session_laws.proofs.Common.{◌≡◌, ◌∙◌, ◌≤◌, ◌<◌, ◌⊎◌, inl, inr, sym, ap, refl, subst, ℕ, ◌&&◌, ◌||◌, not, Bool, true, false, List, [], ◌∷◌, slice_get, Option, Some, None, arith, list_any, In, Fact, facts_of, Named, Row, Match, Program, Rule, matches, has_match, rows, Snapshot, name_of, of_filter, is_present, World, only_present, present, snapshot, below_of, kept_matches, clean, clean_rows, has_clean, Lives, Sight, ends_by, each_tag, is_kept, is_clean, fact_at, sight_of, clean_is, fact_in, own_at, named_present, sight_law, Memory, Setting, over, matches_by, Contents, Standing, Whole, with_facts, reached_of}
+use Rattle.session_laws.proofs.Common.{◌≡◌, ◌∙◌, ◌≤◌, ◌<◌, ◌⊎◌, inl, inr, sym, ap, refl, subst, ℕ, ◌&&◌, ◌||◌, not, Bool, true, false, List, [], ◌∷◌, slice_get}
+use Rattle.session_laws.proofs.Common.{Option, Some, None, arith, list_any, In, Fact, facts_of, Named, Row, Match, Program, Rule, matches, has_match, rows}
+use Rattle.session_laws.proofs.Common.{Snapshot, name_of, of_filter, is_present, World, only_present, present, snapshot, below_of, kept_matches, clean}
+use Rattle.session_laws.proofs.Common.{clean_rows, has_clean, Lives, TagWorld, ends_by, each_tag, is_kept_tag, is_clean, fact_at, sight_of, clean_is, fact_in}
+use Rattle.session_laws.proofs.Common.{own_at, named_present, sight_law, Memory, Setting, over, matches_by, Contents, Standing, Whole, with_facts, reached_of}
 use Rattle.std.specs.Prelude.{is_some}
-use Rattle.forgetting.specs.Sights.{is_forgotten}
+use Rattle.forgetting.specs.Sights.{is_forgotten_tag}
 use Rattle.session_laws.proofs.Alike.{same_matches}
 use Rattle.session_laws.proofs.Exactly.{Exact, exact}
 use Rattle.session_laws.proofs.Members.{Holds, all_listed, held_distinct, listed, own_tags}
@@ -45,7 +49,7 @@ module _ (s : Setting) (m : Memory) (k : Contents) (w : World) (st : Standing s 
   abbrev lives : Lives
   lives = ends_by s.lives
 
-  abbrev sight : Sight
+  abbrev sight : TagWorld
   sight = sight_of s.program w
 
   abbrev forgotten : Named → Bool
@@ -55,16 +59,16 @@ module _ (s : Setting) (m : Memory) (k : Contents) (w : World) (st : Standing s 
   same_holds = whole_holds s.program (with_facts k st.seen.all) w st.seen.whole
 
   -- a present fact is forgotten where the store lacks it
-  fact_forgotten : (f : Fact) → In f (present s.program w) → is_forgotten lives sight f.tag.0 ≡ forgotten (name_of f)
+  fact_forgotten : (f : Fact) → In f (present s.program w) → is_forgotten_tag lives sight f.tag.0 ≡ forgotten (name_of f)
   fact_forgotten f i =
-      ap (λ o. is_some o && not (is_kept lives sight f.tag.0)) (own_at (present s.program w) (exact s.program (with_facts k st.seen.all) w st.seen.whole).lawful.ordered.tags f i)
+      ap (λ o. is_some o && not (is_kept_tag lives sight f.tag.0)) (own_at (present s.program w) (exact s.program (with_facts k st.seen.all) w st.seen.whole).lawful.ordered.tags f i)
       ∙ ap (λ o. not (is_some o)) (sym (st.holds.store f.tag.0)) ∙ sym (st.seen.are.known f.tag.0 f (same_holds.from f i))
 
   -- and so is none with a tag that none of the world has
-  new_forgotten : (tag : ℕ) → k.next_tag ≤ tag → is_forgotten lives sight tag ≡ false
+  new_forgotten : (tag : ℕ) → k.next_tag ≤ tag → is_forgotten_tag lives sight tag ≡ false
   new_forgotten tag new = by (fact_at (present s.program w) tag) refl
     where
-      by : (o : Option Fact) → fact_at (present s.program w) tag ≡ o → (is_some o && not (is_kept lives sight tag)) ≡ false
+      by : (o : Option Fact) → fact_at (present s.program w) tag ≡ o → (is_some o && not (is_kept_tag lives sight tag)) ≡ false
       by None e = refl
       by (Some f) e =
           let i = fact_in (present s.program w) tag f e in
@@ -83,17 +87,17 @@ module _ (s : Setting) (m : Memory) (k : Contents) (w : World) (st : Standing s 
   -- a match of the world names nothing forgotten where its row is clean
   pub clean_was : (q : Match) → has_match (matches s.program (snapshot w)) q ≡ true → is_clean lives sight q ≡ clean forgotten q.row
   clean_was q is =
-      ap not (any_same (λ (n : Named). is_forgotten lives sight n.tag.0) forgotten q.row.facts (λ n i.
+      ap not (any_same (λ (n : Named). is_forgotten_tag lives sight n.tag.0) forgotten q.row.facts (λ n i.
       let g = named_present s.program w q is n i in
-      subst (λ (n : Named). is_forgotten lives sight n.tag.0 ≡ forgotten n) g.2 (fact_forgotten g.0 g.1)))
+      subst (λ (n : Named). is_forgotten_tag lives sight n.tag.0 ≡ forgotten n) g.2 (fact_forgotten g.0 g.1)))
 
   -- nor where it names kept facts alone
-  pub clean_kept : (q : Match) → has_match (matches s.program (snapshot w)) q ≡ true → is_clean lives sight q ≡ each_tag (is_kept lives sight) q
-  clean_kept q is = clean_is (λ tag. is_some (fact_at (present s.program w) tag)) (is_kept lives sight) q.row.facts ((sight_law s.program w st.seen.whole.lawful.ordered).names q is)
+  pub clean_kept : (q : Match) → has_match (matches s.program (snapshot w)) q ≡ true → is_clean lives sight q ≡ each_tag (is_kept_tag lives sight) q
+  clean_kept q is = clean_is (λ tag. is_some (fact_at (present s.program w) tag)) (is_kept_tag lives sight) q.row.facts ((sight_law s.program w st.seen.whole.lawful.ordered).names q is)
 
   -- so does a match of a world whose facts were there or are new
   module _ (next : World) (t : Contents) (whole : Whole s.program t next) (later : (tag : ℕ) (f : Fact) → map.get t.facts tag ≡ Some f → (map.get st.seen.all tag ≡ Some f) ⊎ (k.next_tag ≤ tag)) where
-    next_forgotten : (f : Fact) → In f (present s.program next) → is_forgotten lives sight f.tag.0 ≡ forgotten (name_of f)
+    next_forgotten : (f : Fact) → In f (present s.program next) → is_forgotten_tag lives sight f.tag.0 ≡ forgotten (name_of f)
     next_forgotten f i = elim (later f.tag.0 f ((whole_holds s.program t next whole).from f i)) [
       | inl was ↦ fact_forgotten f (same_holds.to f.tag.0 f was).0
       | inr new ↦ new_forgotten f.tag.0 new ∙ sym (new_unknown (name_of f) new)
@@ -101,6 +105,6 @@ module _ (s : Setting) (m : Memory) (k : Contents) (w : World) (st : Standing s 
 
     pub clean_next : (q : Match) → has_match (matches s.program (snapshot next)) q ≡ true → is_clean lives sight q ≡ clean forgotten q.row
     clean_next q is =
-        ap not (any_same (λ (n : Named). is_forgotten lives sight n.tag.0) forgotten q.row.facts (λ n i.
+        ap not (any_same (λ (n : Named). is_forgotten_tag lives sight n.tag.0) forgotten q.row.facts (λ n i.
         let g = named_present s.program next q is n i in
-        subst (λ (n : Named). is_forgotten lives sight n.tag.0 ≡ forgotten n) g.2 (next_forgotten g.0 g.1)))
+        subst (λ (n : Named). is_forgotten_tag lives sight n.tag.0 ≡ forgotten n) g.2 (next_forgotten g.0 g.1)))

@@ -1,8 +1,14 @@
 -- What comes of a network that was loaded are the rows of the rules over the facts of an image.
-use Rattle.session_laws.proofs.Common.{◌≡◌, ◌∙◌, ◌==◌, ◌&&◌, ◌||◌, not, ℕ, Bool, true, false, inl, inr, List, [], ◌∷◌, cond, Option, Some, None, refl, sym, ap, subst, arith, AllByRecursion, nat_cmp, Less, nat_tests, In, Image, Delta, has, Match, Program, Rule, snapshot_of, RuleChange, AreLadenRows, coming, change_of, Marks, FiredMatch, comes_by, has_marked, laden_by, is_laden, AreMarked, NoneGo}
+use Rattle.session_laws.proofs.Common.{◌≡◌, ◌∙◌, ◌==◌, ◌&&◌, ◌||◌, not, ℕ, Bool, true, false, inl, inr, List, [], ◌∷◌, cond, Option, Some, None, refl, sym, ap}
+use Rattle.session_laws.proofs.Common.{subst, arith, AllByRecursion, nat_cmp, Less, nat_tests, In, Image, Delta, has, Match, Program, Rule, snapshot_of}
+use Rattle.session_laws.proofs.Common.{RuleChange, AreLadenRows, coming, change_of, Marks, FiredMatch, comes_by, has_marked, laden_by, is_laden, AreMarked}
+use Rattle.session_laws.proofs.Common.{NoneGo}
+use Rattle.std.proofs.lemmas.Bool.{eqb-true}
+use Rattle.std.proofs.Math.Bool.{or-false}
 use Rattle.std.proofs.Common.{map as list_map}
 use Rattle.std.specs.Prelude.{slice_get}
 use Rattle.std.specs.List.Sorted.{IsStrictlySortedBy}
+use Rattle.fx_base.proofs.Orders.{eqb-self}
 
 abbrev rules_of : List RuleChange → List ℕ
 rules_of changes = list_map (λ (c : RuleChange). c.rule.0) changes
@@ -12,16 +18,6 @@ is_later n k e = grind (arith, nat_tests)
 
 is_earlier : (n k : ℕ) → nat_cmp n k ≡ Less → (n == k) ≡ false
 is_earlier n k e = grind (arith, nat_tests)
-
-itself : (n : ℕ) → (n == n) ≡ true
-itself n = grind (arith, nat_tests)
-
-number_of : (a b : ℕ) → (a == b) ≡ true → a ≡ b
-number_of a b e = grind (arith, nat_tests)
-
-or_none : (b : Bool) → (b || false) ≡ b
-or_none true = refl
-or_none false = refl
 
 -- a rule of which the changes are in order has one
 none_later : (n : ℕ) (changes : List RuleChange) → AllByRecursion (λ k. nat_cmp n k ≡ Less) (rules_of changes) → (m : Match) → n ≡ m.rule.0 → comes_by changes m ≡ false
@@ -35,7 +31,7 @@ comes_one [] s m = refl
 comes_one (c ∷ changes) s m = by (c.rule.0 == m.rule.0) refl (comes_one changes s.1 m)
   where
     by : (b : Bool) → (c.rule.0 == m.rule.0) ≡ b → comes_by changes m ≡ has (coming (change_of changes m.rule.0)) m.row → ((b && has c.delta.come m.row) || comes_by changes m) ≡ has (coming (cond b (Some c.delta) (change_of changes m.rule.0))) m.row
-    by true e later = ap (λ b. has c.delta.come m.row || b) (none_later c.rule.0 changes s.0 m (number_of c.rule.0 m.rule.0 e)) ∙ or_none (has c.delta.come m.row)
+    by true e later = ap (λ b. has c.delta.come m.row || b) (none_later c.rule.0 changes s.0 m (eqb-true c.rule.0 m.rule.0 e)) ∙ or-false (has c.delta.come m.row)
     by false e later = later
 
 later_than : (n : ℕ) (changes : List RuleChange) → AllByRecursion (λ k. nat_cmp n k ≡ Less) (rules_of changes) → (c : RuleChange) → In c changes → nat_cmp n c.rule.0 ≡ Less
@@ -48,7 +44,7 @@ unfolding IsStrictlySortedBy
 change_found [] s c i = absurd i
 change_found (d ∷ changes) s c (inl e) =
     subst (λ (z : RuleChange). cond (d.rule.0 == z.rule.0) (Some d.delta) (change_of changes z.rule.0) ≡ Some z.delta) (sym e)
-    (ap (λ b. cond b (Some d.delta) (change_of changes d.rule.0)) (itself d.rule.0))
+    (ap (λ b. cond b (Some d.delta) (change_of changes d.rule.0)) (eqb-self d.rule.0))
 change_found (d ∷ changes) s c (inr i) =
     ap (λ b. cond b (Some d.delta) (change_of changes c.rule.0)) (is_earlier d.rule.0 c.rule.0 (later_than d.rule.0 changes s.0 c i)) ∙ change_found changes s.1 c i
 

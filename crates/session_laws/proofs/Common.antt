@@ -1,10 +1,13 @@
 -- Names from modules that two proofs and more cite, passed on from one place. Declares nothing.
-pub use Rattle.std.proofs.Common.{◌≡◌, ℕ, refl, sym, true, subst, ◌∙◌, List, Bool, ap, false, None, Some, arith, [], Option, ◌∷◌, inl, not, inr, ℤ, ◌&&◌, ◌<◌, ◌==◌, cond, ◌||◌, ◌≤◌, length, ◌≤ℤ◌, nat_eq, slice_get, ◌++◌, if◌then◌else◌, suc, ◌⊎◌, Result, pos, zero, is_some, ◌+◌, Err, Ok, filter_map, option_map, map, nat_lt, ◌+ℤ◌, append_assoc, ◌-ℤ◌, ◌^◌, Bor, FitsSigned, drop, get_or, int_lt, lt-ltb, negsuc, of_z, to_z, to_z-of_z, w64, ◌<ℤ◌, ◌↔◌}
+pub use Rattle.std.proofs.Common.{◌≡◌, ℕ, refl, sym, true, subst, ◌∙◌, List, Bool, ap, false, None, Some, arith, [], Option, ◌∷◌, inl, not, inr, ℤ, ◌&&◌, ◌<◌}
+pub use Rattle.std.proofs.Common.{◌==◌, cond, ◌||◌, ◌≤◌, length, ◌≤ℤ◌, nat_eq, slice_get, ◌++◌, if◌then◌else◌, suc, ◌⊎◌, Result, pos, zero, is_some, ◌+◌, Err}
+pub use Rattle.std.proofs.Common.{Ok, filter_map, option_map, map, nat_lt, ◌+ℤ◌, append_assoc, ◌-ℤ◌, ◌^◌, Bor, FitsSigned, get_or, int_lt, lt-ltb, negsuc, of_z}
+pub use Rattle.std.proofs.Common.{to_z, to_z-of_z, w64, ◌<ℤ◌, ◌↔◌}
 pub use Rattle.std.proofs.Math.Bool.{or-false, and-true, and-not_self}
 pub use Rattle.std.proofs.Math.Logic.{∥∥₁_elim}
 pub use Rattle.std.proofs.lemmas.Bool.Decides.{nat_tests}
 pub use Rattle.std.proofs.lemmas.Int.{ints}
-pub use Rattle.std.proofs.lemmas.List.{append-nil, drop_more, length-map, map-append, take_all, take_more}
+pub use Rattle.std.proofs.lemmas.List.{append-nil, length-map, map-append, take_all, take_more}
 pub use Rattle.std.proofs.lemmas.List.Folds.{list_any-append, list_all-append}
 pub use Rattle.std.proofs.lemmas.Map.Views.{tells_apart, exact_unsigned_eq}
 pub use Rattle.std.proofs.lemmas.Option.{slice_get_within}
@@ -18,10 +21,11 @@ pub use Rattle.std.specs.declared.cmp.Ordering.TheVariants.{Less, Equal}
 pub use Rattle.agenda.specs.Agendas.{Marks, names_tag, IsChanged}
 pub use Rattle.change_read.proofs.Fitting.{asked_fits}
 pub use Rattle.change_read.proofs.Places.{entry_within, stands, type_stands}
-pub use Rattle.change_read.specs.Changes.{entry_asked, fields_step, insert_step, modify_step, type_named, change_step, new_step, promise_step, retract_step, sets_step, values_step}
+pub use Rattle.change_read.specs.Changes.{entry_asked, fields_step, insert_step, modify_step, type_named, change_step, new_step, promise_step, retract_step}
+pub use Rattle.change_read.specs.Changes.{sets_step, values_step}
 pub use Rattle.checkpoint.specs.declared.image.FiredMatch.{FiredMatch}
 pub use Rattle.checkpoint.specs.declared.image.Image.{Image}
-pub use Rattle.condition_rows.proofs.Ends.{tuple_of_row, has_in, same_truth, in_has}
+pub use Rattle.condition_rows.proofs.Ends.{tuple_of_row, has_in, in_has}
 pub use Rattle.condition_rows.proofs.Holding.{held_fact, joins_of_tuple, held_all, version_in}
 pub use Rattle.condition_rows.proofs.Joined.{candidate_of, candidate_named, made_facts}
 pub use Rattle.condition_rows.specs.Looks.{HasAllOf, empty_snapshot}
@@ -33,16 +37,17 @@ pub use Rattle.engine.specs.declared.lines.OutLine.{OutLine}
 pub use Rattle.engine.specs.declared.lines.OutLine.TheVariants.{Fault, New}
 pub use Rattle.fact_store.proofs.Members.{from_list, from_map, tags_rise}
 pub use Rattle.fact_store.proofs.Stored.{tied, itself}
-pub use Rattle.fact_store.specs.Held.{HeldFacts, facts_of, tag_of, IsNewest, CountsType, HoldsNone, is_id, is_of}
+pub use Rattle.fact_store.specs.Held.{HeldFacts, facts_of, tag_of, IsNewest, CountsType, HoldsNone, is_held_with_id, is_of}
 pub use Rattle.forgetting.proofs.Agreeing.{same_kept, expired_endless, modify_endless, plain_endless, same_clean}
 pub use Rattle.forgetting.proofs.Before.{pending_kept, chosen}
 pub use Rattle.forgetting.proofs.Closing.{world_fire_kept, world_step_kept}
 pub use Rattle.forgetting.proofs.Covering.{later_covers, endless_covers, retract_covers}
-pub use Rattle.forgetting.proofs.Naming.{clean_is, same_bool, some_in, any_alike, witness}
+pub use Rattle.forgetting.proofs.Naming.{clean_is, some_in, any_alike, witness}
 pub use Rattle.forgetting.proofs.Seeing.{own_at, sight_law, fact_in, at_filter, named_present}
 pub use Rattle.forgetting.proofs.Stepping.{drop_law, start_law}
-pub use Rattle.forgetting.specs.Sights.{ends_by, ends_of, only, is_kept, each_tag, Lives, Sight, is_kept_fact, is_needed, is_clean, HoldsKept, end_of_life, some_tag}
-pub use Rattle.forgetting.specs.Steps.{HasLeft, changed, brought, Takes}
+pub use Rattle.forgetting.specs.Sights.{ends_by, ends_of, only, is_kept_tag, each_tag, Lives, TagWorld, is_kept_fact, is_needed, is_clean, HoldsKept}
+pub use Rattle.forgetting.specs.Sights.{end_of_life, some_tag}
+pub use Rattle.forgetting.specs.Steps.{HasLeft, changed, brought, TakesChanges}
 pub use Rattle.forgetting.specs.WorldSights.{sight_of, comes, goes, fact_at}
 pub use Rattle.fx_base.specs.Lists.{In, EachOnce}
 pub use Rattle.fx_base.specs.declared.fact.Fact.{Fact}
@@ -54,11 +59,11 @@ pub use Rattle.fx_base.specs.declared.times.Times.{Times}
 pub use Rattle.fx_base.specs.declared.value.Value.{Value}
 pub use Rattle.image_fitting.specs.Plain.{FitsPlainly, FitsByRows}
 pub use Rattle.image_laws.proofs.Imaged.{image_kept}
-pub use Rattle.image_laws.specs.Images.{snapshot_of, match_fired, IsImageOf, has_fired, tag_cmp, AreMoments}
-pub use Rattle.image_laws.specs.Laden.{AreOwners, IsKeptOf, extra_at, laden_gives, laden_line, laden_with}
+pub use Rattle.image_laws.specs.Images.{snapshot_of, match_fired, IsImageOf, has_fired, AreMoments}
+pub use Rattle.rule_model.specs.Distinct.{tag_cmp, HaveDistinctTags, HaveDistinctIds}
+pub use Rattle.laden_rows.specs.Laden.{AreOwners, IsKeptOf, extra_at, laden_gives, laden_line, laden_with}
 pub use Rattle.join_tests.specs.Joins.{joins, Look}
 pub use Rattle.keeping.proofs.Decided.{kept_listed, kept_inside}
-pub use Rattle.keeping.proofs.Members.{passing_one, some_passes}
 pub use Rattle.keeping.proofs.Staying.{not_alive, lost_event, there_same}
 pub use Rattle.keeping.proofs.Versions.{forgotten_fact, lost, tags_behind}
 pub use Rattle.keeping.proofs.Windows.{in_no_window}
@@ -66,10 +71,10 @@ pub use Rattle.keeping.specs.Kept.{is_forgotten, is_alive, kept_facts}
 pub use Rattle.keeping.specs.Steps.{IsLawfulStep, RowComes}
 pub use Rattle.pair_memory.specs.Joined.{has_name, joined}
 pub use Rattle.pair_memory.specs.Standing.{clean, cleaned, either, no_names}
-pub use Rattle.pattern_gate.specs.Moves.{IsOrderly, Moves, shares_tag}
+pub use Rattle.pattern_gate.specs.Moves.{IsOrderly, MovesSnapshot, shares_tag}
 pub use Rattle.rete_net.proofs.Cleaning.{has_clean}
 pub use Rattle.rete_net.specs.Dropped.{rows_for, AreDropped, AreListed}
-pub use Rattle.rete_net.specs.Forgetting.{AreNotNeeded, CountsNone, IsUnmissed, less_fact}
+pub use Rattle.rete_net.specs.Forgetting.{AreNotNeeded, CountsNone, IsUnmissed, snapshot_without}
 pub use Rattle.rete_net.specs.Loading.{AreLadenRows, IsBehind, IsLoadable, IsThere, AreOutsideOfTime, coming}
 pub use Rattle.rete_net.specs.Nets.{NetStands, clean_rows, change_of, AreBetween, IsChange}
 pub use Rattle.rete_net.specs.Shapes.{IsNetOf}
@@ -77,7 +82,7 @@ pub use Rattle.rete_net.specs.declared.changes.RuleChange.{RuleChange}
 pub use Rattle.rete_net.specs.declared.forgetting.RuleRows.{RuleRows}
 pub use Rattle.rete_net.specs.declared.net.Rete.{Rete}
 pub use Rattle.retention.proofs.Past.{past_law}
-pub use Rattle.retention.specs.Retentions.{lingers, is_named, Passes, has_tag, is_among}
+pub use Rattle.retention.specs.Retentions.{lingers, is_named, PassesLives, has_listed_tag, is_tag_among}
 pub use Rattle.retention.specs.Watching.{Covers, Ends, is_old, Watches}
 pub use Rattle.retention.specs.declared.retention.Retention.{Retention}
 pub use Rattle.row_delta.specs.RowOrder.{row_exact, same_equiv}
@@ -86,19 +91,17 @@ pub use Rattle.row_delta.specs.declared.delta.Delta.{Delta}
 pub use Rattle.row_delta.specs.declared.extra.Extra.{Extra}
 pub use Rattle.row_delta.specs.declared.row.Named.{Named}
 pub use Rattle.row_delta.specs.declared.row.Row.{Row}
-pub use Rattle.rule_lives.proofs.Basics.{not_true, same_number, number_same}
 pub use Rattle.rule_lives.proofs.Flagged.{flagged}
 pub use Rattle.rule_lives.specs.Keeping.{IsKept, AreSafe}
 pub use Rattle.rule_model.proofs.Exact.{fire_exact, match_exact, match_parts}
-pub use Rattle.rule_model.proofs.Firsts.{or_split, or_left, first_in, or_right, first_alike}
+pub use Rattle.rule_model.proofs.Firsts.{or_split, first_in, first_alike}
 pub use Rattle.rule_model.proofs.Floors.{floor_on}
-pub use Rattle.rule_model.proofs.Listed.{of_append, of_map, both_of, in_left, in_map, in_right, both}
+pub use Rattle.rule_model.proofs.Listed.{of_map, in_left, in_map, in_right}
 pub use Rattle.rule_model.proofs.Named.{of_filter, AllOf, made_of, named_of}
 pub use Rattle.rule_model.proofs.Once.{one_fact, once_filter}
 pub use Rattle.rule_model.proofs.Order.{passed, in_filter, Same, rows_over, same_length, same_values}
 pub use Rattle.rule_model.proofs.RuleOf.{in_place, rule_of, IsMatchOf}
 pub use Rattle.rule_model.specs.Candidates.{is_present, is_candidate, candidates, fits, is_within, count_behind, is_behind, is_inside}
-pub use Rattle.rule_model.specs.Distinct.{HaveDistinctTags, HaveDistinctIds}
 pub use Rattle.rule_model.specs.First.{first}
 pub use Rattle.rule_model.specs.Lent.{Holds, bound_in, named_at}
 pub use Rattle.rule_model.specs.MatchOrders.{fire_total, match_equiv}
@@ -126,9 +129,10 @@ pub use Rattle.rule_model.specs.declared.step.Step.TheVariants.{Modify, Retract,
 pub use Rattle.rule_world.proofs.Acting.{all_of, steps_fit}
 pub use Rattle.rule_world.proofs.Faultless.{event_by, inserted, promised_forward}
 pub use Rattle.rule_world.proofs.Found.{found_in, found_fits, found_there}
-pub use Rattle.rule_world.proofs.Fresh.{below_of, and_parts, and_both, distinct_filtered, AllBelow, has_number, distinct_more, revise}
+pub use Rattle.rule_world.proofs.Fresh.{below_of, distinct_filtered, AllBelow, has_number, distinct_more, revise}
 pub use Rattle.rule_world.proofs.Ids.{one_id, id_of, ids_filtered}
-pub use Rattle.rule_world.proofs.Keeping.{without_fact, kept_lawful, others, with_numbers, without, kept_later, kept_new, kept_numbers, kept_revised, kept_without}
+pub use Rattle.rule_world.proofs.Keeping.{without_fact, kept_lawful, others, with_numbers, without, kept_later, kept_new, kept_numbers, kept_revised}
+pub use Rattle.rule_world.proofs.Keeping.{kept_without}
 pub use Rattle.rule_world.proofs.Kept.{kept_matches, kept_rows, filter_same, filter_within, kept_settled}
 pub use Rattle.rule_world.proofs.Lawfuls.{firing_lawful, step_lawful, empty_lawful}
 pub use Rattle.rule_world.proofs.Pending.{has_pending, by_fire, first_is_pending}
@@ -137,20 +141,26 @@ pub use Rattle.rule_world.specs.Events.{end_of_presence, end_by, most_millis, ti
 pub use Rattle.rule_world.specs.Kinds.{sets_fit, set_fits, values_fit}
 pub use Rattle.rule_world.specs.Lawful.{IsLawful, IsOrdered}
 pub use Rattle.rule_world.specs.Programs.{IsRunnable}
-pub use Rattle.rule_world.specs.Worlds.{World, only_present, present, step_fault, snapshot, is_of_type, settled, found, pending, stepped, at_clock, with_new, with_revised, has_id, marked, modify_fault, retract_fault, revised, fact_of, first_pending, promise_with, revised_in, with_retracted, empty_world, last_start_with, moved, new_fact, with_begin, with_promise}
+pub use Rattle.rule_world.specs.Worlds.{World, only_present, present, step_fault, snapshot, is_of_type, settled, found, pending, stepped, world_at_clock}
+pub use Rattle.rule_world.specs.Worlds.{with_new, with_revised, has_id, marked, modify_fault, retract_fault, revised, fact_of, first_pending, promise_with}
+pub use Rattle.rule_world.specs.Worlds.{revised_in, with_retracted, empty_world, last_start_with, moved, new_fact, with_begin, with_promise}
 pub use Rattle.rule_world.specs.declared.code.Code.{Code}
 pub use Rattle.rule_world.specs.declared.code.Code.TheVariants.{ReferenceFixed, Absent, EventFixed, EventObserved, BadFields, ClockBack, ClockEnd}
 pub use Rattle.script_read.specs.declared.asked.Change.{Change}
 pub use Rattle.script_read.specs.declared.given.Given.{Given}
 pub use Rattle.session_laws.specs.Counts.{AreCounts, facts_of_type}
-pub use Rattle.session_laws.specs.Following.{Leads, instant_of, LeadsOn, GoesOn, HasAtHand, Instant, IsReady, facts_at, Comes}
-pub use Rattle.session_laws.specs.Gives.{version_of, actions_of, does, fire_line, fires_with, step_lines, step_or_overflow, tries_with, wanted, does_all, fires_match, refused, tries}
-pub use Rattle.session_laws.specs.Leading.{AllFit, Fits, IsOfPlain, StandsAfter, WritesFor, AllWantKnown, StayKnown, Suits, Tries, WantsKnown, Writes, has_known_places}
+pub use Rattle.session_laws.specs.Following.{LeadsStep, instant_of, LeadsOn, NeverFalls, HasAtHand, Instant, IsReady, facts_at, ComesLast}
+pub use Rattle.session_laws.specs.Gives.{version_of, actions_of, does, fire_line, fires_with, step_lines, step_or_overflow, tries_with, wanted, does_all}
+pub use Rattle.session_laws.specs.Gives.{fires_match, refused, tries}
+pub use Rattle.session_laws.specs.Leading.{AllFit, FitsWorld, IsOfPlain, StandsAfter, WritesFor, AllWantKnown, StayKnown, Suits, Tries, WantsKnown, Writes}
+pub use Rattle.session_laws.specs.Leading.{has_known_places}
 pub use Rattle.session_laws.specs.Places.{newest, IsNewestTag, IsSafe, held_at, planned, insert_fault_in, planned_for}
-pub use Rattle.session_laws.specs.Refreshed.{over, IsRefreshed, matches_by, only_in, rows_at, no_rows}
-pub use Rattle.session_laws.specs.Restoring.{AreMarked, stored, AreHeld, is_laden, NoneGo, comes_by, has_marked, laden_by, AreStorable, IsMatched, AreMarking, HasTimes, IsRestored, all_held, at_hand}
-pub use Rattle.session_laws.specs.Standing.{Contents, Standing, Runs, reached_of, with_facts, Mirrors, Awaits, holding, expiry_at, Course, AreForgotten, Whole, reached_by, AreOfRules, ReachesNoMore, Seen, IsSound}
-pub use Rattle.session_laws.specs.Waiting.{left_at, HaveOwnTags, with_timer, without_timer}
+pub use Rattle.session_laws.specs.Refreshed.{over, IsRefreshed, matches_by, only_in, rows_at, no_rule_rows}
+pub use Rattle.session_laws.specs.Restoring.{AreMarked, stored, AreHeld, is_laden, NoneGo, comes_by, has_marked, laden_by, AreStorable, IsMatched, AreMarking}
+pub use Rattle.session_laws.specs.Restoring.{HasTimes, IsRestored, all_held, at_hand}
+pub use Rattle.session_laws.specs.Standing.{Contents, Standing, Runs, reached_of, with_facts, Mirrors, Awaits, holding, expiry_at, Course, AreForgotten, Whole}
+pub use Rattle.session_laws.specs.Standing.{reached_by, AreOfRules, ReachesNoMore, Seen, IsSound}
+pub use Rattle.session_laws.specs.Waiting.{fact_left_at, HaveOwnTags, with_timer, without_timer}
 pub use Rattle.session_laws.specs.declared.memory.Memory.{Memory}
 pub use Rattle.session_laws.specs.declared.setting.Setting.{Setting}
 pub use mathlib.Core.Path.{fun_ext}

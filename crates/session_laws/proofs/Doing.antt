@@ -1,11 +1,15 @@
 -- Steps that are done or refused lead from lawful worlds to lawful ones, and facts keep their types.
-use Rattle.session_laws.proofs.Common.{◌≡◌, ◌&&◌, not, inl, inr, ℕ, Bool, true, false, List, [], ◌∷◌, Option, Some, None, slice_get, Result, Ok, Err, refl, sym, ◌∙◌, ap, list_all, TypeId, Value, Fact, Program, TypeInfo, Step, Insert, Modify, Retract, Advance, At, Promise, Begin, is_event, is_event_type, Code, set_fits, sets_fit, IsLawful, IsOrdered, World, fact_of, step_fault, event_by, found_there, step_lawful, Stays, fits_later, same_stays, stays_on, step_stays, type_stays, does, tries_with, AllFit, Fits, IsOfPlain}
+use Rattle.session_laws.proofs.Common.{◌≡◌, ◌&&◌, not, inl, inr, ℕ, Bool, true, false, List, [], ◌∷◌, Option, Some, None, slice_get, Result, Ok, Err, refl, sym}
+use Rattle.session_laws.proofs.Common.{◌∙◌, ap, list_all, TypeId, Value, Fact, Program, TypeInfo, Step, Insert, Modify, Retract, Advance, At, Promise, Begin}
+use Rattle.session_laws.proofs.Common.{is_event, is_event_type, Code, set_fits, sets_fit, IsLawful, IsOrdered, World, fact_of, step_fault, event_by}
+use Rattle.session_laws.proofs.Common.{found_there, step_lawful, Stays, fits_later, same_stays, stays_on, step_stays, type_stays, does, tries_with, AllFit}
+use Rattle.session_laws.proofs.Common.{FitsWorld, IsOfPlain}
 use Rattle.rule_world.specs.Kinds.{step_fits}
 use Rattle.rule_world.proofs.Fitting.{sets_of_type}
 use Rattle.session_laws.specs.Gives.{does_all}
 
 -- a step that is done, or a fault
-pub does_lawful : (p : Program) (w : World) (wanted : Result Step Code) → IsLawful p w → Fits p w wanted → IsLawful p (does p w wanted).1
+pub does_lawful : (p : Program) (w : World) (wanted : Result Step Code) → IsLawful p w → FitsWorld p w wanted → IsLawful p (does p w wanted).1
 does_lawful p w (Err code) l fits = l
 does_lawful p w (Ok step) l fits = by (step_fault p w step) refl
   where
@@ -58,7 +62,7 @@ of_plain_later p v u Begin first o stays fit = tt
 
 module _ (p : Program) (v : World) (first : IsOrdered p v) where
   -- what is next suits the world that the others led to
-  pub next_fits : (u : World) (wanted : Result Step Code) (plan : List (Result Step Code)) → AllFit p v (wanted ∷ plan) → IsOrdered p u → Stays v u → Fits p u wanted
+  pub next_fits : (u : World) (wanted : Result Step Code) (plan : List (Result Step Code)) → AllFit p v (wanted ∷ plan) → IsOrdered p u → Stays v u → FitsWorld p u wanted
   next_fits u wanted plan fit o stays step e = record {
     plain = of_plain_later p v u step first o stays (fit step (inl (sym e)));
     fits = λ none. fits_later p v u step first stays (fit step (inl (sym e))) none;

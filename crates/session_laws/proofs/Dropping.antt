@@ -1,5 +1,9 @@
 -- Fired matches are dropped rule by rule, and of a match's rule there is one entry.
-use Rattle.session_laws.proofs.Common.{◌≡◌, ◌∙◌, sym, ap, refl, subst, inl, inr, ℕ, zero, suc, ◌<◌, ◌==◌, ◌&&◌, ◌||◌, not, Bool, true, false, cond, List, [], ◌∷◌, length, slice_get, Some, arith, list_any, and-true, nat_tests, In, Row, has, Match, has_match, RuleRows, AreListed, rows_for, Marks}
+use Rattle.session_laws.proofs.Common.{◌≡◌, ◌∙◌, sym, ap, refl, subst, inl, inr, ℕ, zero, suc, ◌<◌, ◌==◌, ◌&&◌, ◌||◌, not, Bool, true, false, cond, List, []}
+use Rattle.session_laws.proofs.Common.{◌∷◌, length, slice_get, Some, arith, list_any, and-true, nat_tests, In, Row, has, Match, has_match, RuleRows, AreListed}
+use Rattle.session_laws.proofs.Common.{rows_for, Marks}
+use Rattle.std.proofs.lemmas.Bool.{eqb-true}
+use Rattle.fx_base.proofs.Tests.{and_not_not}
 
 -- ---- one entry of a rule
 
@@ -27,9 +31,6 @@ places_rise (x ∷ answers) h = (
 other_place : (a place : ℕ) → place < a → (a == place) ≡ false
 other_place a place lt = grind (arith, nat_tests)
 
-same_place : (a place : ℕ) → (a == place) ≡ true → a ≡ place
-same_place a place e = grind (arith, nat_tests)
-
 -- entries of later rules drop nothing of this one
 none_later : (answers : List RuleRows) (place : ℕ) (row : Row) → ((b : RuleRows) → In b answers → place < b.place) → drops answers place row ≡ false
 none_later [] place row later = refl
@@ -48,7 +49,7 @@ one_entry (a ∷ answers) rise place row = by (a.place == place) refl (one_entry
         → ((t && has a.rows row) || drops answers place row) ≡ has (cond t a.rows (rows_for answers place)) row
     by true e rest =
         or_nothing (has a.rows row) (drops answers place row)
-        (none_later answers place row (λ b i. subst (λ n. n < b.place) (same_place a.place place e) (rise.0 b i)))
+        (none_later answers place row (λ b i. subst (λ n. n < b.place) (eqb-true a.place place e) (rise.0 b i)))
     by false e rest = rest
 
 -- ---- the entries one after the other
@@ -64,11 +65,6 @@ all_ahead all ahead rules first same listed = record {
   fired = λ m. ap (λ (xs : List RuleRows). has_match first.fired m && not (drops xs m.rule.0 m.row)) same;
 }
 
-one_more : (f t d : Bool) → ((f && not t) && not d) ≡ (f && not (t || d))
-one_more true true d = refl
-one_more true false d = refl
-one_more false t d = refl
-
 module _ (all ahead rest : List RuleRows) (rules : ℕ) (first now next : Marks) (a : RuleRows) (number : ℕ) (before : AreAhead all rules first now ahead) (items : ahead ≡ a ∷ rest) where
   -- the place of the next entry is one of a rule
   pub place_within : a.place < rules
@@ -79,7 +75,7 @@ module _ (all ahead rest : List RuleRows) (rules : ℕ) (first now next : Marks)
     within = λ b i. before.within b (subst (λ (xs : List RuleRows). In b xs) (sym items) (inr i));
     fired = λ m.
         ap (λ z. z && not (drops rest m.rule.0 m.row)) (dropped m ∙ ap (λ n. has_match now.fired m && not (n == m.rule.0 && has a.rows m.row)) same)
-        ∙ one_more (has_match now.fired m) (a.place == m.rule.0 && has a.rows m.row) (drops rest m.rule.0 m.row)
+        ∙ and_not_not (has_match now.fired m) (a.place == m.rule.0 && has a.rows m.row) (drops rest m.rule.0 m.row)
         ∙ ap (λ (xs : List RuleRows). has_match now.fired m && not (drops xs m.rule.0 m.row)) (sym items)
         ∙ before.fired m;
   }

@@ -1,5 +1,7 @@
 -- Sessions stand exactly for worlds in which every fact is present, and for a world where they stand exactly for what is kept of it.
-use Rattle.session_laws.proofs.Common.{◌≡◌, ℕ, ℤ, true, false, ◌≤ℤ◌, List, ◌∙◌, ap, Fact, Value, Program, is_present, IsLawful, World, only_present, settled, with_new, with_revised, at_clock, with_retracted, with_promise, with_begin, kept_settled, kept_lawful, kept_new, kept_numbers, kept_revised, kept_without, kept_later, with_numbers, without_fact, Contents, Mirrors, Whole}
+use Rattle.session_laws.proofs.Common.{◌≡◌, ℕ, ℤ, true, false, ◌≤ℤ◌, List, ◌∙◌, ap, Fact, Value, Program, is_present, IsLawful, World, only_present, settled}
+use Rattle.session_laws.proofs.Common.{with_new, with_revised, world_at_clock, with_retracted, with_promise, with_begin, kept_settled, kept_lawful, kept_new}
+use Rattle.session_laws.proofs.Common.{kept_numbers, kept_revised, kept_without, kept_later, with_numbers, without_fact, Contents, Mirrors, Whole}
 
 -- the contents of a session are those of a lawful world
 pub record Exact (p : Program) (k : Contents) (w : World) : Type 0 where
@@ -23,8 +25,8 @@ after_revised p w id sets = kept_settled p (with_revised w id sets) ∙ ap (sett
 pub after_without : (p : Program) (w : World) (ty id : ℕ) → only_present p (settled p (with_retracted p w ty id)) ≡ settled p (without_fact (only_present p w) ty id)
 after_without p w ty id = kept_settled p (with_retracted p w ty id) ∙ ap (settled p) (kept_without p w ty id)
 
-pub after_clock : (p : Program) (w : World) (clock : ℤ) → w.clock ≤ℤ clock → only_present p (settled p (at_clock w clock)) ≡ settled p (only_present p (at_clock (only_present p w) clock))
-after_clock p w clock le = kept_settled p (at_clock w clock) ∙ ap (settled p) (kept_later p w clock le)
+pub after_clock : (p : Program) (w : World) (clock : ℤ) → w.clock ≤ℤ clock → only_present p (settled p (world_at_clock w clock)) ≡ settled p (only_present p (world_at_clock (only_present p w) clock))
+after_clock p w clock le = kept_settled p (world_at_clock w clock) ∙ ap (settled p) (kept_later p w clock le)
 
 pub after_promise : (p : Program) (w : World) (entry : ℕ) (from : ℤ) → only_present p (settled p (with_promise w entry from)) ≡ settled p (with_promise (only_present p w) entry from)
 after_promise p w entry from = kept_settled p (with_promise w entry from)

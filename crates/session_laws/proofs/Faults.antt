@@ -1,13 +1,20 @@
 -- The faults of steps, by what a session has.
-use Rattle.session_laws.proofs.Common.{◌≡◌, ◌≤◌, ◌^◌, ℕ, ℤ, pos, negsuc, ◌+◌, ◌+ℤ◌, ◌≤ℤ◌, ◌&&◌, not, cond, Bool, true, false, List, [], ◌∷◌, Option, Some, None, slice_get, Bor, FitsSigned, to_z, of_z, to_z-of_z, w64, refl, sym, ◌∙◌, ap, subst, arith, IfNone, IfSome, nat_cmp_total, get-insert, get-retain_keys, list_any, nat_cmp, eq_by_cmp, is_eq, ints, EntryId, FactId, TypeId, Times, Value, Fact, Timers, TakesDue, is_due, HeldFacts, HoldsNone, IsNewest, tied, Code, EventObserved, ReferenceFixed, Absent, ClockBack, ClockEnd, Program, Insert, Modify, Retract, Advance, At, Promise, clock_fault, new_fault, promise_fault, times_of, IsLawful, IsRunnable, World, at_clock, only_present, is_of_type, retract_fault, settled, with_new, with_revised, with_retracted, floor_by, Reached, is_event, is_observed, is_reference, lateness_of, New, Memory, Setting, step_lines, IsSafe, insert_fault_in, newest, Contents, Mirrors, Standing, with_facts, reached_of, with_timer, without_timer, left_at}
+use Rattle.session_laws.proofs.Common.{◌≡◌, ◌≤◌, ◌^◌, ℕ, ℤ, pos, negsuc, ◌+◌, ◌+ℤ◌, ◌≤ℤ◌, ◌&&◌, not, cond, Bool, true, false, List, [], ◌∷◌, Option, Some, None}
+use Rattle.session_laws.proofs.Common.{slice_get, Bor, FitsSigned, to_z, of_z, to_z-of_z, w64, refl, sym, ◌∙◌, ap, subst, arith, IfNone, IfSome, nat_cmp_total}
+use Rattle.session_laws.proofs.Common.{get-insert, get-retain_keys, list_any, nat_cmp, eq_by_cmp, is_eq, ints, EntryId, TypeId, Times, Value, Fact, Timers}
+use Rattle.session_laws.proofs.Common.{TakesDue, is_due, HeldFacts, HoldsNone, IsNewest, tied, Code, EventObserved, ReferenceFixed, Absent, ClockBack, ClockEnd}
+use Rattle.session_laws.proofs.Common.{Program, Insert, Advance, At, Promise, clock_fault, new_fault, promise_fault, IsLawful, IsRunnable, World}
+use Rattle.session_laws.proofs.Common.{world_at_clock, only_present, is_of_type, retract_fault, settled, floor_by, Reached, is_event, is_observed, is_reference}
+use Rattle.session_laws.proofs.Common.{lateness_of, New, Memory, Setting, step_lines, IsSafe, insert_fault_in, newest, Contents, Mirrors, Standing, with_facts}
+use Rattle.session_laws.proofs.Common.{reached_of, with_timer, without_timer, fact_left_at}
 use Rattle.std.specs.Prelude.{if◌then◌else◌, int_lt, nat_eq, option_map}
 use Rattle.rule_world.specs.Events.{most_millis}
 use Rattle.rule_world.specs.Worlds.{moved, step_fault, stepped}
 use Rattle.rule_model.specs.Snapshots.{floor}
-use Rattle.session_laws.specs.Leading.{Moves}
+use Rattle.session_laws.specs.Leading.{MovesSession}
 use Rattle.session_laws.proofs.Members.{got_old, none_left}
 use Rattle.session_laws.proofs.Newest.{store_found, store_none}
-use Rattle.session_laws.proofs.Stands.{own}
+use Rattle.fx_base.proofs.Orders.{int_lt-false, ≤ℤ_trans as later}
 use Rattle.std.specs.FinMap as map
 
 -- ---- numbers
@@ -23,17 +30,11 @@ moved_by true b e = absurd (let n : Some ClockBack ≡ None = e in cc)
 moved_by false true e = absurd (let n : Some ClockEnd ≡ None = e in cc)
 moved_by false false e = (refl, refl)
 
-pub not_before : (x y : ℤ) → int_lt x y ≡ false → y ≤ℤ x
-not_before x y e = grind (arith, ints)
-
-later : (x y z : ℤ) → x ≤ℤ y → y ≤ℤ z → x ≤ℤ z
-later x y z a b = omega (arith, ints)
-
 -- and so does the one to which it moves
 pub moved_same : (now next : ℤ) → pos 0 ≤ℤ now → clock_fault now next ≡ None → to_z w64 (of_z w64 next) ≡ next
 moved_same now next low e =
     let r = moved_by (int_lt next now) (int_lt most_millis next) e in
-    clock_same next (later (pos 0) now next low (not_before next now r.0)) (not_before most_millis next r.1)
+    clock_same next (later (pos 0) now next low (int_lt-false next now r.0)) (int_lt-false most_millis next r.1)
 
 pub zero_clock : (pos 0 ≤ℤ pos 0) × (pos 0 ≤ℤ most_millis)
 unfolding most_millis
@@ -91,7 +92,7 @@ module _ (s : Setting) (m : Memory) (k : Contents) (w : World) (st : Standing s 
   -- a move by so much is one to that moment
   pub advance_at : (by clock : ℤ) → clock ≡ k.clock +ℤ by → stepped s.program w (Advance by) ≡ stepped s.program w (At clock)
   unfolding stepped moved
-  advance_at by clock e = ap (λ z. settled s.program (at_clock w z)) (ap (λ z. z +ℤ by) (sym whole.clock) ∙ sym e)
+  advance_at by clock e = ap (λ z. settled s.program (world_at_clock w z)) (ap (λ z. z +ℤ by) (sym whole.clock) ∙ sym e)
 
 -- the fault of a move by so much, in the session's numbers
 fault_by_clock : (s : Setting) (m : Memory) (k : Contents) (w : World) (st : Standing s m k w) (by : ℤ) → step_fault s.program w (Advance by) ≡ None → clock_fault k.clock (k.clock +ℤ by) ≡ None
@@ -99,7 +100,7 @@ unfolding step_fault
 fault_by_clock s m k w st by none = ap (λ z. clock_fault z (z +ℤ by)) (whole s m k w st).clock ∙ none
 
 -- what moves as the clock does moves so much later
-pub advance_moves : (s : Setting) (m : Memory) (k : Contents) (by clock : ℤ) (n : Memory) (t : Contents) → clock ≡ k.clock +ℤ by → Moves s m k (At clock) n t → Moves s m k (Advance by) n t
+pub advance_moves : (s : Setting) (m : Memory) (k : Contents) (by clock : ℤ) (n : Memory) (t : Contents) → clock ≡ k.clock +ℤ by → MovesSession s m k (At clock) n t → MovesSession s m k (Advance by) n t
 advance_moves s m k by clock n t e moves w st none lawful =
     let same : stepped s.program w (Advance by) ≡ stepped s.program w (At clock) = advance_at s m k w st by clock e in
     subst (Standing s n t) (sym same)
@@ -247,7 +248,7 @@ none_kept false o e = refl
 
 -- those that are due out, at another clock
 pub safe_left : (facts fewer : HeldFacts) (timers later : Timers) (clock next : ℤ) (id tag : ℕ) (gone : List ℕ) → IsSafe facts timers clock id tag → pos 0 ≤ℤ next → next ≤ℤ most_millis
-    → TakesDue next timers later gone → ((t : ℕ) → map.get fewer t ≡ left_at facts gone t) → IsSafe fewer later next id tag
+    → TakesDue next timers later gone → ((t : ℕ) → map.get fewer t ≡ fact_left_at facts gone t) → IsSafe fewer later next id tag
 safe_left facts fewer timers later clock next id tag gone safe low high takes left = record {
   fresh = λ t le. left t ∙ left_fresh (list_any (nat_eq t) gone) (map.get facts t) (safe.fresh t le);
   untimed = λ t le.

@@ -1,5 +1,10 @@
 -- What fires in the worlds for which a session stands: the agenda's first match is the world's, and its facts are all kept.
-use Rattle.session_laws.proofs.Common.{◌≡◌, ◌==◌, ℕ, Bool, true, false, cond, List, [], ◌∷◌, ◌++◌, map, Option, Some, None, is_some, option_map, slice_get, Result, refl, sym, ◌∙◌, ap, subst, option_and_then, fun_ext, Fact, Tag, Named, Action, Code, Match, Program, Step, named_at, has_match, fire_cmp, saliences, fire_total, first, step_of, World, present, pending, marked, first_pending, fire_exact, first_alike, first_in, in_place, all_of, by_fire, Marks, OutLine, No, Yes, ends_by, is_kept, is_kept_fact, only, fact_at, sight_of, pending_kept, sight_law, Memory, Setting, actions_of, does_all, fire_line, fires_with, step_or_overflow, wanted, AllFit, held_at, planned, Contents, Runs, Standing, FiringAnswers}
+use Rattle.session_laws.proofs.Common.{◌≡◌, ◌==◌, ℕ, Bool, true, false, cond, List, [], ◌∷◌, ◌++◌, map, Option, Some, None, is_some, option_map, slice_get}
+use Rattle.session_laws.proofs.Common.{Result, refl, sym, ◌∙◌, ap, subst, option_and_then, fun_ext, Fact, Tag, Named, Action, Code, Match, Program, Step}
+use Rattle.session_laws.proofs.Common.{named_at, has_match, fire_cmp, saliences, fire_total, first, step_of, World, present, pending, marked, first_pending}
+use Rattle.session_laws.proofs.Common.{fire_exact, first_alike, first_in, in_place, all_of, by_fire, Marks, OutLine, No, Yes, ends_by, is_kept_tag}
+use Rattle.session_laws.proofs.Common.{is_kept_fact, only, fact_at, sight_of, pending_kept, sight_law, Memory, Setting, actions_of, does_all, fire_line}
+use Rattle.session_laws.proofs.Common.{fires_with, step_or_overflow, wanted, AllFit, held_at, planned, Contents, Runs, Standing, FiringAnswers}
 use Rattle.std.specs.Prelude.{if◌then◌else◌}
 use Rattle.session_laws.specs.Gives.{version_of}
 use Rattle.session_laws.proofs.Acting.{wanted_fits}
@@ -62,7 +67,7 @@ module _ (s : Setting) (m : Memory) (k : Contents) (w : World) (st : Standing s 
         let sight = sight_of s.program w in
         let lives = ends_by s.lives in
         let each = pending_kept lives sight (sight_law s.program w st.seen.whole.lawful.ordered) q is in
-        let here : is_kept lives sight n.tag.0 ≡ true = all_of (λ (n : Named). is_kept lives sight n.tag.0) q.row.facts n each (in_place q.row.facts place n there) in
+        let here : is_kept_tag lives sight n.tag.0 ≡ true = all_of (λ (n : Named). is_kept_tag lives sight n.tag.0) q.row.facts n each (in_place q.row.facts place n there) in
         st.holds.store n.tag.0 ∙ only_whole (is_kept_fact lives sight n.tag.0) (fact_at (present s.program w) n.tag.0) here ∙ fact_version (present s.program w) n.tag
 
     -- so what is planned for it is what is wanted

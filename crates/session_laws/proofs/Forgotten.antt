@@ -1,10 +1,16 @@
 -- What a session forgets in the second phase of a step, and that it stands for the world then.
-use Rattle.session_laws.proofs.Common.{◌≡◌, ◌∙◌, sym, ap, refl, subst, inl, inr, ℕ, ℤ, ◌<◌, ◌==◌, ◌&&◌, ◌||◌, not, Bool, true, false, List, [], ◌∷◌, length, filter_map, nat_eq, slice_get, Option, Some, None, if◌then◌else◌, arith, find, list_any, In, Fact, Tag, Timers, HeldFacts, facts_of, Named, Row, has, Match, Program, Rule, HaveDistinctTags, matches, has_match, Snapshot, name_of, or_left, or_split, World, snapshot, only_present, below_of, kept_matches, Look, has_name, clean, either, HasAllOf, rows_of, tuple_of_row, made_facts, Marks, Retention, has_tag, is_named, Passes, RuleRows, Rete, AreDropped, rows_for, NetStands, some_tag, some_in, drop_law, Memory, Setting, IsSafe, over, rows_at, Awaits, Contents, Seen, Standing, holding, with_facts, reached_of, HaveOwnTags, left_at}
+use Rattle.session_laws.proofs.Common.{◌≡◌, ◌∙◌, sym, ap, refl, subst, inl, inr, ℕ, ℤ, ◌<◌, ◌==◌, ◌&&◌, ◌||◌, not, Bool, true, false, List, [], ◌∷◌, length}
+use Rattle.session_laws.proofs.Common.{filter_map, nat_eq, slice_get, Option, Some, None, if◌then◌else◌, arith, find, list_any, In, Fact, Tag, Timers}
+use Rattle.session_laws.proofs.Common.{HeldFacts, facts_of, Named, Row, has, Match, Program, Rule, HaveDistinctTags, matches, has_match, Snapshot, name_of}
+use Rattle.session_laws.proofs.Common.{or_split, World, snapshot, only_present, below_of, kept_matches, Look, has_name, clean, either, HasAllOf, rows_of}
+use Rattle.session_laws.proofs.Common.{tuple_of_row, made_facts, Marks, Retention, has_listed_tag, is_named, PassesLives, RuleRows, Rete, AreDropped, rows_for}
+use Rattle.session_laws.proofs.Common.{NetStands, some_tag, some_in, drop_law, Memory, Setting, IsSafe, over, rows_at, Awaits, Contents, Seen, Standing}
+use Rattle.session_laws.proofs.Common.{holding, with_facts, reached_of, HaveOwnTags, fact_left_at}
+use Rattle.std.proofs.lemmas.Bool.{not-true, or_left}
 use Rattle.std.proofs.Common.{map as list_map}
 use Rattle.std.specs.Option.{is_some}
 use Rattle.rule_model.specs.Lent.{Holds as AreHeld}
 use Rattle.condition_rows.specs.Sets.{held}
-use Rattle.forgetting.proofs.Naming.{not_true}
 use Rattle.session_laws.specs.Gives.{version_of}
 use Rattle.session_laws.proofs.Alike.{same_matches}
 use Rattle.session_laws.proofs.Exactly.{Exact, exact}
@@ -50,7 +56,7 @@ no_keys [] e = refl
 no_keys (key ∷ keys) e = absurd (omega (arith, e))
 
 -- parts with fewer facts keep to the same
-pub safe_fewer : (facts fewer : HeldFacts) (timers : Timers) (clock : ℤ) (id tag : ℕ) (gone : List ℕ) → IsSafe facts timers clock id tag → ((t : ℕ) → map.get fewer t ≡ left_at facts gone t) → IsSafe fewer timers clock id tag
+pub safe_fewer : (facts fewer : HeldFacts) (timers : Timers) (clock : ℤ) (id tag : ℕ) (gone : List ℕ) → IsSafe facts timers clock id tag → ((t : ℕ) → map.get fewer t ≡ fact_left_at facts gone t) → IsSafe fewer timers clock id tag
 safe_fewer facts fewer timers clock id tag gone safe less = record {
   fresh = λ t le. less t ∙ by (list_any (nat_eq t) gone) (map.get facts t) (safe.fresh t le);
   untimed = safe.untimed;
@@ -109,7 +115,7 @@ module _ (p : Program) (net : Rete) (k : Contents) (w : World) (seen : Seen p ne
   named_there rule row is free n i =
       let t = tuple_of_row p s rule.conditions row is in
       let g = each_held (held s) t.0.facts (made_facts p s distinct rule.conditions t.0 t.1) n (subst (λ (r : Row). In n r.facts) (sym t.2) i) in
-      (g.0, has_all g.0.tag g.0 g.1 (ap seen.forgotten g.2 ∙ free_in seen.forgotten row.facts n i (not_true (list_any seen.forgotten row.facts) free)), g.2)
+      (g.0, has_all g.0.tag g.0 g.1 (ap seen.forgotten g.2 ∙ free_in seen.forgotten row.facts n i (not-true (list_any seen.forgotten row.facts) free)), g.2)
 
   module _ (old : ℕ → Bool) (tags : List ℕ) (is : (tag : ℕ) → list_any (nat_eq tag) tags ≡ old tag) where
     -- the names of what is old
@@ -132,7 +138,7 @@ module _ (p : Program) (net : Rete) (k : Contents) (w : World) (seen : Seen p ne
             ∙ both_hold (rows_of p s rule.conditions q.row) (clean seen.forgotten q.row) (list_any named q.row.facts) there free
             ∙ some_old k.facts own_store old tags is q.row.facts (named_there rule q.row there free)
 
-    module _ (facts : HeldFacts) (b : Marks) (less : (tag : ℕ) → map.get facts tag ≡ left_at k.facts tags tag) where
+    module _ (facts : HeldFacts) (b : Marks) (less : (tag : ℕ) → map.get facts tag ≡ fact_left_at k.facts tags tag) where
       abbrev t : Contents
       t = contents facts k.expiries k.clock k.course b k.next_id k.next_tag
 
@@ -212,23 +218,23 @@ module _ (p : Program) (net : Rete) (k : Contents) (w : World) (seen : Seen p ne
 -- ---- the second phase
 
 module _ (s : Setting) (m : Memory) (k : Contents) (left : ℕ → Bool) (w : World) (a : Awaits s m k left w) where
-  passes_there : (r : Retention) (old : ℕ → Bool) → Passes k.clock left (is_named k.agenda) m.retention r old → Passes w.clock left (is_named k.agenda) m.retention r old
-  passes_there r old = subst (λ clock. Passes clock left (is_named k.agenda) m.retention r old) a.seen.whole.mirrors.clock
+  passes_there : (r : Retention) (old : ℕ → Bool) → PassesLives k.clock left (is_named k.agenda) m.retention r old → PassesLives w.clock left (is_named k.agenda) m.retention r old
+  passes_there r old = subst (λ clock. PassesLives clock left (is_named k.agenda) m.retention r old) a.seen.whole.mirrors.clock
 
   -- where nothing is old
-  pub stands_same : (r : Retention) (old : List ℕ) → old ≡ [] → Passes k.clock left (is_named k.agenda) m.retention r (has_tag old) → Standing s (record { net = m.net; retention = r }) k w
+  pub stands_same : (r : Retention) (old : List ℕ) → old ≡ [] → PassesLives k.clock left (is_named k.agenda) m.retention r (has_listed_tag old) → Standing s (record { net = m.net; retention = r }) k w
   stands_same r [] none passes = record {
     seen = a.seen;
     holds =
-        a.finishes (holding k r) (has_tag []) (record {
-          told = passes_there r (has_tag []) passes;
+        a.finishes (holding k r) (has_listed_tag []) (record {
+          told = passes_there r (has_listed_tag []) passes;
           store = λ tag. refl;
           pending = λ q. refl;
           fired = λ q. nothing_old (has_match k.agenda.fired q) q.row.facts;
         });
   }
     where
-      nothing_old : (f : Bool) (names : List Named) → f ≡ (f && not (list_any (λ (n : Named). has_tag [] n.tag.0) names))
+      nothing_old : (f : Bool) (names : List Named) → f ≡ (f && not (list_any (λ (n : Named). has_listed_tag [] n.tag.0) names))
       nothing_old true [] = refl
       nothing_old false names = refl
       nothing_old true (n ∷ names) = nothing_old true names
@@ -236,11 +242,11 @@ module _ (s : Setting) (m : Memory) (k : Contents) (left : ℕ → Bool) (w : Wo
 
   -- where something is
   pub stands_less : (net : Rete) (r : Retention) (facts : HeldFacts) (b : Marks) (old tags : List ℕ) (names : List Named) (answers : List RuleRows)
-      → Passes k.clock left (is_named k.agenda) m.retention r (has_tag old) → ((tag : ℕ) → list_any (nat_eq tag) tags ≡ has_tag old tag)
+      → PassesLives k.clock left (is_named k.agenda) m.retention r (has_listed_tag old) → ((tag : ℕ) → list_any (nat_eq tag) tags ≡ has_listed_tag old tag)
       → names ≡ filter_map (named_at k.facts) tags
       → ((v : Snapshot) (forgotten : Named → Bool) → NetStands s.program m.net v forgotten → HasAllOf (λ tag. map.get k.facts tag.0) v forgotten → NetStands s.program net v (either forgotten (has_name names)))
       → ((v : Snapshot) (forgotten : Named → Bool) → NetStands s.program m.net v forgotten → HasAllOf (λ tag. map.get k.facts tag.0) v forgotten → AreDropped s.program v forgotten (has_name names) answers)
-      → ((tag : ℕ) → map.get facts tag ≡ left_at k.facts tags tag)
+      → ((tag : ℕ) → map.get facts tag ≡ fact_left_at k.facts tags tag)
       → b.saliences ≡ k.agenda.saliences → b.pending ≡ k.agenda.pending
       → ((q : Match) → has_match b.fired q ≡ (has_match k.agenda.fired q && not (has (rows_for answers q.rule.0) q.row)))
       → Standing s (record { net = net; retention = r }) (contents facts k.expiries k.clock k.course b k.next_id k.next_tag) w
@@ -250,17 +256,17 @@ module _ (s : Setting) (m : Memory) (k : Contents) (left : ℕ → Bool) (w : Wo
       let at_hand = has_all p m.net k w a.seen in
       record {
         seen =
-            sees_less p m.net k w a.seen (has_tag old) tags is facts b less net
+            sees_less p m.net k w a.seen (has_listed_tag old) tags is facts b less net
             (subst (λ (ns : List Named). NetStands p net v (either a.seen.forgotten (has_name ns))) names_are (stands v a.seen.forgotten a.seen.stands at_hand)) saliences;
         holds =
-            a.finishes (holding (contents facts k.expiries k.clock k.course b k.next_id k.next_tag) r) (has_tag old) (record {
-              told = passes_there r (has_tag old) passes;
+            a.finishes (holding (contents facts k.expiries k.clock k.course b k.next_id k.next_tag) r) (has_listed_tag old) (record {
+              told = passes_there r (has_listed_tag old) passes;
               store = λ tag. less tag ∙ ap (λ c. if c then None else map.get k.facts tag) (is tag);
               pending = λ q. ap (λ ms. has_match ms q) pending;
               fired =
-                  drop_law k.agenda b (has_tag old) (λ q. has (rows_for answers q.rule.0) q.row) fired
+                  drop_law k.agenda b (has_listed_tag old) (λ q. has (rows_for answers q.rule.0) q.row) fired
                   (λ q e.
-                  drops_old p m.net k w a.seen (has_tag old) tags is answers
+                  drops_old p m.net k w a.seen (has_listed_tag old) tags is answers
                   (subst (λ (ns : List Named). AreDropped p v a.seen.forgotten (has_name ns) answers) names_are (dropped v a.seen.forgotten a.seen.stands at_hand)) q (a.fired q e).0 (a.fired q e).1);
             });
       }

@@ -1,6 +1,7 @@
 -- What a session holds of a world for which it stands: exactly what is kept, so that of the events past their lives it holds those alone
 -- which a pending match names.
-use Rattle.session_laws.proofs.Common.{◌≡◌, ◌∙◌, ◌+ℤ◌, ◌<ℤ◌, ℤ, true, false, slice_get, Some, None, sym, arith, ints, In, Fact, Finite, Infinite, Match, has_match, name_of, World, pending, IsKept, kept_listed, Memory, Setting, Contents, Runs, Standing}
+use Rattle.session_laws.proofs.Common.{◌≡◌, ◌∙◌, ◌+ℤ◌, ◌<ℤ◌, ℤ, true, false, slice_get, Some, None, sym, arith, ints, In, Fact, Finite, Infinite, Match}
+use Rattle.session_laws.proofs.Common.{has_match, name_of, World, pending, IsKept, kept_listed, Memory, Setting, Contents, Runs, Standing}
 use Rattle.std.specs.Prelude.{◌↔◌}
 use Rattle.std.specs.FinMap as map_of
 use Rattle.session_laws.proofs.Tallied.{holds_kept}

@@ -1,5 +1,13 @@
 -- A session that has taken a new fact, or its numbers alone, awaits the second phase of the step.
-use Rattle.session_laws.proofs.Common.{◌≡◌, ◌+◌, ◌∙◌, inl, inr, ℕ, ℤ, pos, ◌<◌, ◌≤◌, ◌≤ℤ◌, ◌==◌, ◌&&◌, not, Bool, true, false, cond, [], ◌∷◌, Option, Some, None, is_some, refl, sym, ap, subst, slice_get, arith, OnOk, nat_tests, ints, nat_cmp_total, get-insert, get-remove, nat_cmp, eq_by_cmp, tied, itself, Fact, Times, Timers, has_come, HeldFacts, Named, Program, Step, Insert, is_present, name_of, is_event, in_right, end_of_presence, most_millis, times_of, IsLawful, World, only_present, new_fact, present, settled, step_fault, with_new, below_of, Marks, Retention, lingers, Covers, Ends, ends_by, ends_of, only, HasLeft, brought, changed, comes, goes, sight_of, later_covers, Memory, Setting, GoesOn, HasAtHand, Leads, LeadsOn, instant_of, Contents, AreForgotten, Awaits, Mirrors, Runs, Standing, Whole, holding, with_facts, reached_of, Course, reached_by, with_timer, Reached}
+use Rattle.session_laws.proofs.Common.{◌≡◌, ◌+◌, ◌∙◌, inl, inr, ℕ, ℤ, pos, ◌<◌, ◌≤◌, ◌≤ℤ◌, ◌==◌, ◌&&◌, not, Bool, true, false, cond, [], ◌∷◌, Option, Some}
+use Rattle.session_laws.proofs.Common.{None, is_some, refl, sym, ap, subst, slice_get, arith, OnOk, nat_cmp_total, get-insert, get-remove, nat_cmp, eq_by_cmp}
+use Rattle.session_laws.proofs.Common.{itself, Fact, Times, Timers, has_come, HeldFacts, Named, Program, Step, Insert, is_present, name_of, is_event, in_right}
+use Rattle.session_laws.proofs.Common.{end_of_presence, most_millis, times_of, IsLawful, World, only_present, new_fact, present, settled, step_fault, with_new}
+use Rattle.session_laws.proofs.Common.{below_of, Marks, Retention, lingers, Covers, Ends, ends_by, ends_of, only, HasLeft, brought, changed, comes, goes}
+use Rattle.session_laws.proofs.Common.{sight_of, later_covers, Memory, Setting, NeverFalls, HasAtHand, LeadsStep, LeadsOn, instant_of, Contents, AreForgotten}
+use Rattle.session_laws.proofs.Common.{Awaits, Mirrors, Runs, Standing, Whole, holding, with_facts, reached_of, Course, reached_by, with_timer, Reached}
+use Rattle.std.specs.Int.Signed.{≤ℤ_refl}
+use Rattle.std.proofs.lemmas.Bool.{eqb-false, eqb-true}
 use Rattle.std.specs.Prelude.{option_and_then, Result, Ok, Err}
 use Rattle.rule_world.specs.Worlds.{moved, stepped}
 use Rattle.session_laws.proofs.Exactly.{Exact, exact, after_new, after_numbers}
@@ -12,34 +20,9 @@ use Rattle.session_laws.proofs.Taken.{taken_awaits}
 use Rattle.std.specs.FinMap as map
 use Rattle.session_laws.proofs.Reaching.{reaches_on}
 use Rattle.session_laws.proofs.Still.{AgendaFollows, NetFollows, none_out, still_awaits}
-
-same_number : (a b : ℕ) → (a == b) ≡ true → a ≡ b
-same_number a b e = grind (arith, nat_tests)
-
-is_same : (a b : ℕ) → a ≡ b → (a == b) ≡ true
-is_same a b e = grind (arith, nat_tests)
-
-turned : (a b : ℕ) → (a == b) ≡ (b == a)
-turned a b = grind (arith, nat_tests)
-
-other_number : (a b : ℕ) → (a == b) ≡ false → a ≡ b → ⊥
-other_number a b e h = grind (arith, nat_tests)
-
-same_clock : (clock : ℤ) → clock ≤ℤ clock
-same_clock clock = grind (arith, ints)
+use Rattle.fx_base.proofs.Orders.{eq_by_nat_cmp, eqb-flip}
 
 -- ---- the retention
-
-same_test : (a b : ℕ) → eq_by_cmp nat_cmp a b ≡ (a == b)
-same_test a b = by (a == b) refl
-  where
-    by : (t : Bool) → (a == b) ≡ t → eq_by_cmp nat_cmp a b ≡ (a == b)
-    by true e = ap (λ z. eq_by_cmp nat_cmp a z) (sym (same_number a b e)) ∙ itself a ∙ sym e
-    by false e = apart (eq_by_cmp nat_cmp a b) refl ∙ sym e
-      where
-        apart : (t : Bool) → eq_by_cmp nat_cmp a b ≡ t → eq_by_cmp nat_cmp a b ≡ false
-        apart true h = absurd (other_number a b e (tied a b h))
-        apart false h = h
 
 -- a tag that was released is free
 pub released_free : (due left : Timers) (tag : ℕ) → left ≡ map.remove due tag → map.get left tag ≡ None
@@ -51,7 +34,7 @@ pub held_again : (due left after : Timers) (tag : ℕ) (until : Option ℤ) (at 
 held_again due left after tag until at some released held other =
     ap (λ m. map.get m other) held ∙ get-insert nat_cmp_total left tag at other ∙ ap (λ m. cond (eq_by_cmp nat_cmp other tag) (Some at) (map.get m other)) released
     ∙ ap (λ o. cond (eq_by_cmp nat_cmp other tag) (Some at) o) (get-remove nat_cmp_total due tag other)
-    ∙ ap (λ b. cond b (Some at) (cond b None (map.get due other))) (same_test other tag)
+    ∙ ap (λ b. cond b (Some at) (cond b None (map.get due other))) (eq_by_nat_cmp other tag)
     ∙ by (other == tag)
     ∙ ap (λ o. cond (other == tag && is_some o) o (map.get due other)) (sym some)
   where
@@ -70,10 +53,10 @@ pub held_covers : (ends also : Ends) (now : ℤ) (new : ℕ) (until : Option ℤ
     → ((tag : ℕ) → lingers after tag ≡ (lingers before tag && not (tag == new && is_some until)))
     → Covers also now after
 held_covers ends also now new until before after covers free is due lingering = record {
-  due = λ tag. due tag ∙ due_by (tag == new) until (lingers before tag) (map.get before.due tag) (ends tag) (covers.due tag) (λ e. ap ends (same_number tag new e) ∙ free) ∙ sym (both tag);
+  due = λ tag. due tag ∙ due_by (tag == new) until (lingers before tag) (map.get before.due tag) (ends tag) (covers.due tag) (λ e. ap ends (eqb-true tag new e) ∙ free) ∙ sym (both tag);
   past = λ tag e.
       ap (has_come now) (is tag)
-      ∙ past_by (tag == new) until (lingers before tag) (ends tag) (covers.past tag) (λ h. ap ends (same_number tag new h) ∙ free) (sym (lingering tag) ∙ e);
+      ∙ past_by (tag == new) until (lingers before tag) (ends tag) (covers.past tag) (λ h. ap ends (eqb-true tag new h) ∙ free) (sym (lingering tag) ∙ e);
 }
   where
     both : (tag : ℕ) → cond (lingers after tag) None (also tag) ≡ cond (lingers before tag && not (tag == new && is_some until)) None (cond (tag == new) until (ends tag))
@@ -163,7 +146,7 @@ module _ (s : Setting) (m : Memory) (k : Contents) (w : World) (st : Standing s 
   covered_before : Covers (ends_of (ends_by s.lives) (map.get k.facts)) k.clock m.retention
   covered_before =
       subst (λ z. Covers (ends_of (ends_by s.lives) (map.get k.facts)) z m.retention) (sym st.seen.whole.mirrors.clock)
-      (later_covers (ends_by s.lives) (sight_of p w) w.clock (holding k m.retention) st.holds (same_clock w.clock))
+      (later_covers (ends_by s.lives) (sight_of p w) w.clock (holding k m.retention) st.holds (≤ℤ_refl w.clock))
 
   -- ---- what a new fact changes
 
@@ -184,13 +167,13 @@ module _ (s : Setting) (m : Memory) (k : Contents) (w : World) (st : Standing s 
   module _ (facts : HeldFacts) (made : facts ≡ map.insert k.facts f.tag.0 f) where
     -- the fact at a tag, with the new one
     got : (held : HeldFacts) (u : ℕ) (b : Bool) → (f.tag.0 == u) ≡ b → map.get (map.insert held f.tag.0 f) u ≡ cond b (Some f) (map.get held u)
-    got held u true e = ap (map.get (map.insert held f.tag.0 f)) (sym (same_number f.tag.0 u e)) ∙ got_new held f
-    got held u false e = got_old held f u (λ h. other_number f.tag.0 u e (sym h))
+    got held u true e = ap (map.get (map.insert held f.tag.0 f)) (sym (eqb-true f.tag.0 u e)) ∙ got_new held f
+    got held u false e = got_old held f u (λ h. eqb-false f.tag.0 u e (sym h))
 
     ends_are : (until : Option ℤ) → until ≡ ends_by s.lives f → (u : ℕ) → ends_of (ends_by s.lives) (map.get facts) u ≡ cond (u == f.tag.0) until (ends_of (ends_by s.lives) (map.get k.facts) u)
     ends_are until is u =
         ap (λ h. option_and_then (ends_by s.lives) (map.get h u)) made ∙ ap (option_and_then (ends_by s.lives)) (got k.facts u (f.tag.0 == u) refl)
-        ∙ by (f.tag.0 == u) ∙ ap (λ b. cond b until (ends_of (ends_by s.lives) (map.get k.facts) u)) (turned f.tag.0 u)
+        ∙ by (f.tag.0 == u) ∙ ap (λ b. cond b until (ends_of (ends_by s.lives) (map.get k.facts) u)) (eqb-flip f.tag.0 u)
       where
         by : (b : Bool) → option_and_then (ends_by s.lives) (cond b (Some f) (map.get k.facts u)) ≡ cond b until (option_and_then (ends_by s.lives) (map.get k.facts u))
         by true = sym is
@@ -222,9 +205,9 @@ module _ (s : Setting) (m : Memory) (k : Contents) (w : World) (st : Standing s 
   -- ---- both phases
 
   module _ (runs : Runs s) (none : step_fault p w step ≡ None) (lawful : IsLawful p (stepped p w step)) where
-    goes_on : (reached : Reached) → reached ≡ (stepped p w step).reached → GoesOn (reached_of k) reached
+    goes_on : (reached : Reached) → reached ≡ (stepped p w step).reached → NeverFalls (reached_of k) reached
     goes_on reached is =
-        subst (λ (r : Reached). GoesOn r reached) (sym st.seen.whole.mirrors.reached) (subst (GoesOn w.reached) (sym is) (reaches_on p w step st.seen.whole.lawful none))
+        subst (λ (r : Reached). NeverFalls r reached) (sym st.seen.whole.mirrors.reached) (subst (NeverFalls w.reached) (sym is) (reaches_on p w step st.seen.whole.lawful none))
 
     from_zero : is_event p f.ty.0 ≡ true → pos 0 ≤ℤ f.times.start
     from_zero e =
@@ -252,7 +235,7 @@ module _ (s : Setting) (m : Memory) (k : Contents) (w : World) (st : Standing s 
             (new_moves p (with_facts k all) more expiries course b f (only_present p w) before id tag refl timed last);
       }
 
-      leads : Leads p all k.clock more k.clock more [] (Some f)
+      leads : LeadsStep p all k.clock more k.clock more [] (Some f)
       leads =
           lead_new p all k.expiries k.clock (whole_ready p (with_facts k all) w st.seen.whole) f (record { present = here; low = from_zero; high = λ e. high }) more refl above
 

@@ -1,15 +1,23 @@
 -- What a session that is made from the image of a world holds is exactly what is kept of that world.
-use Rattle.session_laws.proofs.Common.{◌≡◌, ◌↔◌, ◌∙◌, ◌&&◌, not, ℕ, Bool, true, false, cond, is_some, List, [], length, Option, Some, None, refl, sym, ap, subst, arith, take_all, In, Fact, Row, Image, Timers, HeldFacts, LifeTable, Match, Program, Rule, HaveDistinctTags, matches, has_match, rows, both, IsLawful, World, snapshot, pending, distinct_filtered, has_pending, AreSafe, clean, cleaned, rows_of, kept_facts, is_forgotten, kept_listed, has_fired, snapshot_of, IsImageOf, AreOwners, image_kept, Marks, names_tag, Retention, is_among, is_named, Passes, Ends, Covers, Watches, past_law, Lives, Sight, HoldsKept, ends_by, ends_of, only, is_kept, is_needed, each_tag, fact_at, sight_of, same_clean, same_kept, pending_kept, any_alike, clean_is, at_filter, fact_in, own_at, sight_law, stored, AreHeld, AreMarked, laden_by, is_laden}
+use Rattle.session_laws.proofs.Common.{◌≡◌, ◌↔◌, ◌∙◌, ◌&&◌, not, ℕ, Bool, true, false, cond, is_some, List, [], length, Option, Some, None, refl, sym, ap}
+use Rattle.session_laws.proofs.Common.{subst, arith, take_all, In, Fact, Row, Image, Timers, HeldFacts, LifeTable, Match, Program, Rule, HaveDistinctTags}
+use Rattle.session_laws.proofs.Common.{matches, has_match, rows, IsLawful, World, snapshot, pending, distinct_filtered, has_pending, AreSafe, clean, cleaned}
+use Rattle.session_laws.proofs.Common.{rows_of, kept_facts, is_forgotten, kept_listed, has_fired, snapshot_of, IsImageOf, AreOwners, image_kept, Marks}
+use Rattle.session_laws.proofs.Common.{names_tag, Retention, is_tag_among, is_named, PassesLives, Ends, Covers, Watches, past_law, Lives, TagWorld, HoldsKept}
+use Rattle.session_laws.proofs.Common.{ends_by, ends_of, only, is_kept_tag, is_needed, each_tag, fact_at, sight_of, same_clean, same_kept, pending_kept}
+use Rattle.session_laws.proofs.Common.{any_alike, clean_is, at_filter, fact_in, own_at, sight_law, stored, AreHeld, AreMarked, laden_by, is_laden}
+use Rattle.std.proofs.lemmas.Bool.{and_from}
 use Rattle.std.specs.Prelude.{◌≤◌, slice_get}
 use Rattle.std.specs.FinMap as map_of
 use Rattle.keeping.specs.Kept.{is_kept as is_kept_in}
-use Rattle.image_laws.proofs.Rows.{laden_rows}
+use Rattle.laden_rows.proofs.Rows.{laden_rows}
 use Rattle.retention.specs.Watching.{without}
 use Rattle.retention.proofs.Calls.{same_watched}
-use Rattle.forgetting.specs.Sights.{IsLawful as IsLawfulSight}
+use Rattle.forgetting.specs.Sights.{IsSoundSight as IsLawfulSight}
 use Rattle.session_laws.proofs.Members.{Holds}
 use Rattle.session_laws.proofs.Rules.{found_at, is_found}
 use Rattle.session_laws.proofs.Storing.{stored_holds}
+use Rattle.fx_base.proofs.Tests.{and_where}
 
 -- a match that is not fired names what is kept alone
 pending_bits : (m f c : Bool) → (m ≡ true → f ≡ false → c ≡ true) → ((m && c) && not (f && c)) ≡ (m && not f)
@@ -18,15 +26,11 @@ pending_bits true true true h = refl
 pending_bits true true false h = refl
 pending_bits true false c h = ap (λ b. b && true) (h refl refl)
 
-pub fired_bits : (f c e : Bool) → (f ≡ true → c ≡ e) → (f && c) ≡ (f && e)
-fired_bits true c e h = h refl
-fired_bits false c e h = refl
-
 module _ (p : Program) (table : LifeTable) (w : World) (safe : AreSafe p table) (l : IsLawful p w) where
   abbrev lives : Lives
   lives = ends_by table
 
-  abbrev sight : Sight
+  abbrev sight : TagWorld
   sight = sight_of p w
 
   -- ---- the matches of the world
@@ -41,19 +45,19 @@ module _ (p : Program) (table : LifeTable) (w : World) (safe : AreSafe p table) 
   is_clean_row m = clean (is_forgotten p table w) m.row
 
   -- a match names what is kept alone where its row is clean
-  pub kept_each : (m : Match) → is_match m ≡ true → is_clean_row m ≡ each_tag (is_kept lives sight) m
-  kept_each m matched = sym (same_clean p table w safe l.ordered m matched) ∙ clean_is (λ tag. is_some (sight.facts tag)) (is_kept lives sight) m.row.facts (lawful_sight.names m matched)
+  pub kept_each : (m : Match) → is_match m ≡ true → is_clean_row m ≡ each_tag (is_kept_tag lives sight) m
+  kept_each m matched = sym (same_clean p table w safe l.ordered m matched) ∙ clean_is (λ tag. is_some (sight.facts tag)) (is_kept_tag lives sight) m.row.facts (lawful_sight.names m matched)
 
   clean_pending : (m : Match) → is_match m ≡ true → has_match w.fired m ≡ false → is_clean_row m ≡ true
   clean_pending m matched unfired =
       kept_each m matched
-      ∙ pending_kept lives sight lawful_sight m (has_pending p w m ∙ both (is_match m) (not (has_match w.fired m)) matched (ap not unfired))
+      ∙ pending_kept lives sight lawful_sight m (has_pending p w m ∙ and_from (is_match m) (not (has_match w.fired m)) matched (ap not unfired))
 
 module _ (p : Program) (table : LifeTable) (w : World) (image : Image) (safe : AreSafe p table) (l : IsLawful p w) (is : IsImageOf p table w image) (once : HaveDistinctTags image.facts) where
   abbrev lives_by : Lives
   lives_by = ends_by table
 
-  abbrev seen_as : Sight
+  abbrev seen_as : TagWorld
   seen_as = sight_of p w
 
   abbrev matches_world : Match → Bool
@@ -115,12 +119,12 @@ module _ (p : Program) (table : LifeTable) (w : World) (image : Image) (safe : A
           ∙ pending_bits (matches_world m) (has_match w.fired m) (names_kept m) (clean_pending p table w safe l m)
           ∙ sym (has_pending p w m)
 
-      fired_is : (m : Match) → has_match marks.fired m ≡ (has_match w.fired m && each_tag (is_kept lives_by seen_as) m)
-      fired_is m = are.fired m ∙ is.fired m ∙ fired_bits (has_match w.fired m) (names_kept m) (each_tag (is_kept lives_by seen_as) m) (λ f. kept_each p table w safe l m (l.ordered.fired m f))
+      fired_is : (m : Match) → has_match marks.fired m ≡ (has_match w.fired m && each_tag (is_kept_tag lives_by seen_as) m)
+      fired_is m = are.fired m ∙ is.fired m ∙ and_where (has_match w.fired m) (names_kept m) (each_tag (is_kept_tag lives_by seen_as) m) (λ f. kept_each p table w safe l m (l.ordered.fired m f))
 
       -- ---- the ends of lives
 
-      module _ (expiries : Timers) (before after : Retention) (old : ℕ → Bool) (held : AreHeld p table store expiries before) (passes : Passes image.clock (is_among []) (is_named marks) before after old)
+      module _ (expiries : Timers) (before after : Retention) (old : ℕ → Bool) (held : AreHeld p table store expiries before) (passes : PassesLives image.clock (is_tag_among []) (is_named marks) before after old)
           (none : (tag : ℕ) → old tag ≡ false) where
         abbrev ends : Ends
         ends = ends_of lives_by (map_of.get store)
@@ -135,7 +139,7 @@ module _ (p : Program) (table : LifeTable) (w : World) (image : Image) (safe : A
         watched =
             same_watched (without ends old) ends image.clock (is_named marks) (is_needed seen_as) after (λ tag. ap (λ b. cond b None (ends tag)) (none tag))
             (λ tag. any_alike (names_tag tag) marks.pending (pending p w) pending_is)
-            (past_law ends image.clock (is_among []) (is_named marks) before after old covers (λ tag e. absurd (let no : false ≡ true = sym (held.none tag) ∙ e in cc)) passes).1
+            (past_law ends image.clock (is_tag_among []) (is_named marks) before after old covers (λ tag e. absurd (let no : false ≡ true = sym (held.none tag) ∙ e in cc)) passes).1
 
         pub holds_kept_parts : HoldsKept lives_by seen_as (record { store = map_of.get store; retention = after; agenda = marks })
         holds_kept_parts = record {

@@ -1,5 +1,14 @@
 -- The lines of changes and firings name types and rules of the program alone.
-use Rattle.session_laws.proofs.Common.{◌^◌, ◌≡◌, ◌<◌, ◌≤◌, ◌==◌, ◌&&◌, ℕ, ℤ, zero, suc, not, Bool, true, false, if◌then◌else◌, ap, Err, List, [], ◌∷◌, ◌++◌, length, nat_lt, Option, Some, None, option_map, Result, Ok, refl, sym, ◌∙◌, subst, lt-ltb, arith, list_all-append, ∥∥₁_elim, FactId, TypeId, Value, Fact, HeldFacts, Named, Row, Action, Code, Absent, BadFields, EventFixed, ReferenceFixed, Match, Program, Rule, TypeInfo, Step, values_fit, bound_in, Bindings, matches, has_match, id_at, sets_of, type_or_first, IsRunnable, In, World, is_of_type, snapshot, all_of, and_both, and_parts, of_map, has_pending, rule_of, in_place, Change, Given, entry_asked, fields_step, insert_step, modify_step, new_step, promise_step, retract_step, sets_step, type_named, values_step, entry_within, asked_fits, OutLine, Memory, Setting, actions_of, fire_line, AllWantKnown, has_known_places, StayKnown, WantsKnown, planned, planned_for, held_at, IsNetOf, AreOfRules, Contents, Course, IsSound, ReachesNoMore, Runs, Standing, reached_by, reached_of, nat_tests, moment_in, nothing_reached, is_event}
+use Rattle.session_laws.proofs.Common.{◌^◌, ◌≡◌, ◌<◌, ◌≤◌, ◌==◌, ◌&&◌, ℕ, ℤ, zero, suc, not, Bool, true, false, if◌then◌else◌, ap, Err, List, [], ◌∷◌, ◌++◌}
+use Rattle.session_laws.proofs.Common.{length, nat_lt, Option, Some, None, option_map, Result, Ok, refl, sym, ◌∙◌, subst, lt-ltb, arith, list_all-append}
+use Rattle.session_laws.proofs.Common.{∥∥₁_elim, FactId, TypeId, Value, Fact, HeldFacts, Named, Row, Action, Code, Absent, BadFields, EventFixed}
+use Rattle.session_laws.proofs.Common.{ReferenceFixed, Match, Program, Rule, TypeInfo, Step, values_fit, bound_in, Bindings, matches, has_match, id_at, sets_of}
+use Rattle.session_laws.proofs.Common.{type_or_first, IsRunnable, In, World, is_of_type, snapshot, all_of, of_map, has_pending, rule_of, in_place, Change}
+use Rattle.session_laws.proofs.Common.{Given, entry_asked, fields_step, insert_step, modify_step, new_step, promise_step, retract_step, sets_step, type_named}
+use Rattle.session_laws.proofs.Common.{values_step, entry_within, asked_fits, OutLine, Memory, Setting, actions_of, fire_line, AllWantKnown, has_known_places}
+use Rattle.session_laws.proofs.Common.{StayKnown, WantsKnown, planned, planned_for, held_at, IsNetOf, AreOfRules, Contents, Course, IsSound, ReachesNoMore}
+use Rattle.session_laws.proofs.Common.{Runs, Standing, reached_by, reached_of, nat_tests, moment_in, nothing_reached, is_event}
+use Rattle.std.proofs.lemmas.Bool.{and_from, and_parts, and_right}
 use Rattle.rete_net.proofs.Fanwise.{net_under}
 use Rattle.std.specs.Prelude.{slice_get}
 use mathlib.Core.Bool.{Bool-set}
@@ -49,7 +58,7 @@ fitting_known : (p : Program) (present : ℕ → Option Fact) (s : Step) → IsP
 unfolding step_fits
 fitting_known p present (step.Insert ty entry fields) promised fits =
     let parts = and_parts (values_fit (slice_get p.types ty.0) fields) (nat_lt entry.0 (length p.entries)) fits in
-    and_both (nat_lt ty.0 (length p.types)) (nat_lt entry.0 (length p.entries)) (type_of_values p ty.0 fields (slice_get p.types ty.0) refl parts.0) parts.1
+    and_from (nat_lt ty.0 (length p.types)) (nat_lt entry.0 (length p.entries)) (type_of_values p ty.0 fields (slice_get p.types ty.0) refl parts.0) parts.1
 fitting_known p present (step.Modify id sets) promised fits = refl
 fitting_known p present (step.Retract ty id) promised fits = refl
 fitting_known p present (step.Advance by) promised fits = refl
@@ -146,7 +155,7 @@ acted_known : (p : Program) (taken : List ℕ) (look : Bindings) (names : List N
 unfolding step_of
 acted_known p taken look names (action.Insert ty args) s some fits e =
     inserted_known p ty (values_of look args) s
-    (and_both (nat_lt ty.0 (length p.types)) (nat_lt 0 (length p.entries)) (and_parts (nat_lt ty.0 (length p.types)) (args_fit (bound_fields p.types taken) (fields_in (slice_get p.types ty.0)) args) fits).0
+    (and_from (nat_lt ty.0 (length p.types)) (nat_lt 0 (length p.entries)) (and_parts (nat_lt ty.0 (length p.types)) (args_fit (bound_fields p.types taken) (fields_in (slice_get p.types ty.0)) args) fits).0
     (lt-ltb 0 (length p.entries) (omega (arith, some)))) e
 acted_known p taken look names (action.Modify fact sets) s some fits e = modified_known p (id_at names fact) (sets_of look sets) s e
 acted_known p taken look names (action.Retract fact) s some fits e =
@@ -182,7 +191,7 @@ top_known p k plan runnable own = by (top_of k.agenda) own
 -- ---- lines
 
 pub one_more_known : (p : Program) (lines : List OutLine) (line : OutLine) → is_known p line ≡ true → StayKnown p lines (lines ++ line ∷ [])
-one_more_known p lines line known before = list_all-append (is_known p) lines (line ∷ []) ∙ and_both (are_known p lines) (are_known p (line ∷ [])) before (and_both (is_known p line) true known refl)
+one_more_known p lines line known before = list_all-append (is_known p) lines (line ∷ []) ∙ and_from (are_known p lines) (are_known p (line ∷ [])) before (and_from (is_known p line) true known refl)
 
 -- the line of a match that is pending
 pub fire_line_known : (p : Program) (m : Memory) (k : Contents) (q : Match) → IsSound p m k → Some q ≡ top_of k.agenda → is_known p (fire_line p q) ≡ true
@@ -209,13 +218,9 @@ none_more p entry beyond = (refl, refl)
 other_entry : (of entry entries : ℕ) → nat_lt of entries ≡ true → entries ≤ entry → (of == entry) ≡ false
 other_entry of entry entries within beyond = grind (arith, nat_tests)
 
-and_no : (a b : Bool) → b ≡ false → (a && b) ≡ false
-and_no true b e = e
-and_no false b e = refl
-
 pub new_no_more : (p : Program) (f : Fact) (was now : Course) → HasStart p f was now → nat_lt f.entry.0 (length p.entries) ≡ true → ReachesNoMore p (reached_by was) → ReachesNoMore p (reached_by now)
 new_no_more p f was now has within before = subst (ReachesNoMore p) (sym has.reached) (λ entry beyond. (
-  ap (λ b. if b then f.times.start else moment_in was.last_starts entry) (and_no (is_event p f.ty.0) (f.entry.0 == entry) (other_entry f.entry.0 entry (length p.entries) within beyond)) ∙ (before entry beyond).0,
+  ap (λ b. if b then f.times.start else moment_in was.last_starts entry) (and_right (is_event p f.ty.0) (f.entry.0 == entry) (other_entry f.entry.0 entry (length p.entries) within beyond)) ∙ (before entry beyond).0,
   (before entry beyond).1,
 ))
 

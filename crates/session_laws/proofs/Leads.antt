@@ -1,31 +1,25 @@
 -- What leads from the facts before a step of the network to those behind it is what the network asks for.
-use Rattle.session_laws.proofs.Common.{◌≡◌, ◌∙◌, inl, inr, sym, ap, refl, subst, ℕ, ℤ, ◌<◌, ◌==◌, ◌||◌, not, List, [], ◌∷◌, ◌++◌, filter_map, nat_eq, Bool, true, false, Option, Some, None, Result, Ok, Err, if◌then◌else◌, arith, OnOk, cons_option, filter, find, list_any, option_to_list, nat_tests, append-nil, In, EachOnce, Fact, Tag, HeldFacts, facts_of, from_list, from_map, tags_rise, Program, HaveDistinctTags, in_left, in_right, of_append, of_map, AllOf, of_filter, in_filter, passed, Named, HasAllOf, Moves, shares_tag, Comes, GoesOn, HasAtHand, Leads, over, HaveOwnTags, Reached, Snapshot, floor_on}
+use Rattle.session_laws.proofs.Common.{◌≡◌, ◌∙◌, inl, inr, sym, ap, refl, subst, ℕ, ℤ, ◌<◌, ◌==◌, ◌||◌, not, List, [], ◌∷◌, ◌++◌, filter_map, nat_eq, Bool}
+use Rattle.session_laws.proofs.Common.{true, false, Option, Some, None, Result, Ok, Err, if◌then◌else◌, arith, OnOk, cons_option, filter, find, list_any}
+use Rattle.session_laws.proofs.Common.{option_to_list, append-nil, In, EachOnce, Fact, Tag, HeldFacts, facts_of, from_list, from_map, tags_rise, Program}
+use Rattle.session_laws.proofs.Common.{HaveDistinctTags, in_left, in_right, of_map, AllOf, of_filter, in_filter, passed, Named, HasAllOf, MovesSnapshot}
+use Rattle.session_laws.proofs.Common.{shares_tag, ComesLast, NeverFalls, HasAtHand, LeadsStep, over, HaveOwnTags, Reached, Snapshot, floor_on}
+use Rattle.std.proofs.lemmas.Bool.{eqb-true, not-true}
 use Rattle.condition_rows.specs.Sets.{held}
 use Rattle.session_laws.specs.Gives.{version_of}
 use Rattle.session_laws.proofs.Members.{got_new, got_old, of_insert, version_found}
 use Rattle.session_laws.proofs.Rising.{Rise, rising_filter, rising_more, rising_same}
+use Rattle.fx_base.proofs.Orders.{eqb-flip}
+use Rattle.fx_base.proofs.Sequences.{In-append}
 use Rattle.std.specs.FinMap as map
-
-same_number : (m n : ℕ) → nat_eq m n ≡ true → m ≡ n
-same_number m n e = grind (arith, nat_tests)
-
-flipped_by : (m n : ℕ) (t : Bool) → nat_eq n m ≡ t → (m == n) ≡ t
-flipped_by m n t e = grind (arith, nat_tests)
-
-flipped : (m n : ℕ) → (m == n) ≡ nat_eq n m
-flipped m n = flipped_by m n (nat_eq n m) refl
 
 any_in : (n : ℕ) (tags : List ℕ) → list_any (nat_eq n) tags ≡ true → In n tags
 any_in n [] e = absurd (let h : false ≡ true = e in cc)
 any_in n (tag ∷ tags) e = by (nat_eq n tag) refl e (any_in n tags)
   where
     by : (b : Bool) → nat_eq n tag ≡ b → (b || list_any (nat_eq n) tags) ≡ true → (list_any (nat_eq n) tags ≡ true → In n tags) → In n (tag ∷ tags)
-    by true h k rest = inl (same_number n tag h)
+    by true h k rest = inl (eqb-true n tag h)
     by false h k rest = inr (rest k)
-
-not_true : (b : Bool) → not b ≡ true → b ≡ false
-not_true true e = absurd (let h : false ≡ true = e in cc)
-not_true false e = refl
 
 -- ---- the facts of a map
 
@@ -65,7 +59,7 @@ module _ (all : HeldFacts) (own : HaveOwnTags all) where
   shares_found (tag ∷ tags) there f =
       let r = there tag (inl refl) in
       ap (λ o. shares_tag (cons_option o (filter_map (map.get all) tags)) f) r.1
-      ∙ ap (λ b. b || shares_tag (filter_map (map.get all) tags) f) (ap (λ n. n == f.tag.0) (own tag r.0 r.1) ∙ flipped tag f.tag.0)
+      ∙ ap (λ b. b || shares_tag (filter_map (map.get all) tags) f) (ap (λ n. n == f.tag.0) (own tag r.0 r.1) ∙ eqb-flip tag f.tag.0)
       ∙ ap (λ b. nat_eq f.tag.0 tag || b) (shares_found tags (λ t i. there t (inr i)) f)
 
 -- the version of a snapshot with a tag
@@ -76,12 +70,12 @@ same_version (f ∷ facts) tag = ap (λ o. if f.tag.0 == tag.0 then Some f else 
 
 -- ---- a step
 
-module _ (p : Program) (before behind all : HeldFacts) (from to : ℤ) (gone : List ℕ) (come : Option Fact) (l : Leads p before from behind to all gone come) where
+module _ (p : Program) (before behind all : HeldFacts) (from to : ℤ) (gone : List ℕ) (come : Option Fact) (l : LeadsStep p before from behind to all gone come) where
   -- what was there is among all
   in_all : (tag : ℕ) (g : Fact) → map.get before tag ≡ Some g → map.get all tag ≡ Some g
   in_all tag g e = by come l.comes
     where
-      by : (o : Option Fact) → Comes before all o → map.get all tag ≡ Some g
+      by : (o : Option Fact) → ComesLast before all o → map.get all tag ≡ Some g
       by None c = ap (λ m. map.get m tag) c ∙ e
       by (Some f) c =
           let lt : tag < f.tag.0 = c.1 tag g e in
@@ -122,7 +116,7 @@ module _ (p : Program) (before behind all : HeldFacts) (from to : ℤ) (gone : L
       from_map before f r.0 (h.1 ∙ same)
 
   -- the one that comes stays
-  comes_in : (c : Fact) → Comes before all (Some c) → In c (facts_of behind)
+  comes_in : (c : Fact) → ComesLast before all (Some c) → In c (facts_of behind)
   comes_in c h = in_behind c (ap (λ m. map.get m c.tag.0) h.0 ∙ got_new before c) (by (list_any (nat_eq c.tag.0) gone) refl)
     where
       by : (b : Bool) → list_any (nat_eq c.tag.0) gone ≡ b → list_any (nat_eq c.tag.0) gone ≡ false
@@ -144,7 +138,7 @@ module _ (p : Program) (before behind all : HeldFacts) (from to : ℤ) (gone : L
       was : map.get before f.tag.0 ≡ Some f → In f (filter keeps (facts_of before))
       was e = in_filter keeps f (facts_of before) (ap not (shared f ∙ is.1)) (from_map before f f.tag.0 e)
 
-      by : (o : Option Fact) → Comes before all o → In f (filter keeps (facts_of before) ++ option_to_list o)
+      by : (o : Option Fact) → ComesLast before all o → In f (filter keeps (facts_of before) ++ option_to_list o)
       by None c = in_left f (filter keeps (facts_of before)) [] (was (ap (λ m. map.get m f.tag.0) (sym c) ∙ is.0))
       by (Some c) h = elim (of_insert before c f f.tag.0 (ap (λ m. map.get m f.tag.0) (sym h.0) ∙ is.0)) [
         | inl r ↦ in_right f (filter keeps (facts_of before)) (c ∷ []) (inl r.0)
@@ -152,13 +146,13 @@ module _ (p : Program) (before behind all : HeldFacts) (from to : ℤ) (gone : L
       ]
 
   from_next : AllOf (facts_of behind) next
-  from_next f i = elim (of_append f (filter keeps (facts_of before)) (option_to_list come) i) [
+  from_next f i = elim (In-append f (filter keeps (facts_of before)) (option_to_list come) i) [
     | inl j ↦ in_behind f (in_all f.tag.0 f (at_own before own_before f (of_filter keeps f (facts_of before) j)))
-        (sym (shared f) ∙ not_true (shares_tag out f) (passed keeps f (facts_of before) j))
+        (sym (shared f) ∙ not-true (shares_tag out f) (passed keeps f (facts_of before) j))
     | inr j ↦ by come l.comes j
   ]
     where
-      by : (o : Option Fact) → Comes before all o → In f (option_to_list o) → In f (facts_of behind)
+      by : (o : Option Fact) → ComesLast before all o → In f (option_to_list o) → In f (facts_of behind)
       by None c j = absurd j
       by (Some c) h (inl e) = subst (λ (z : Fact). In z (facts_of behind)) (sym e) (comes_in c h)
       by (Some c) h (inr k) = absurd k
@@ -169,18 +163,18 @@ module _ (p : Program) (before behind all : HeldFacts) (from to : ℤ) (gone : L
       rest : Rise (filter keeps (facts_of before))
       rest = rising_filter keeps (facts_of before) (tags_rise before own_before)
 
-      by : (o : Option Fact) → Comes before all o → Rise (filter keeps (facts_of before) ++ option_to_list o)
+      by : (o : Option Fact) → ComesLast before all o → Rise (filter keeps (facts_of before) ++ option_to_list o)
       by None c = subst Rise (sym (append-nil (filter keeps (facts_of before)))) rest
       by (Some c) h = rising_more (filter keeps (facts_of before)) c rest (λ g i. h.1 g.tag.0 g (at_own before own_before g (of_filter keeps g (facts_of before) i)))
 
-  module _ (was now : Reached) (goes_on : GoesOn was now) where
+  module _ (was now : Reached) (goes_on : NeverFalls was now) where
     abbrev s : Snapshot
     s = over (facts_of before) from was
 
     abbrev t : Snapshot
     t = over (facts_of behind) to now
 
-    pub leads_move : Moves p s t out come
+    pub leads_move : MovesSnapshot p s t out come
     leads_move = record {
       before = record { in_order = l.kept_before.in_order; present = l.kept_before.present; low = l.kept_before.low; high = l.kept_before.high };
       after = record { in_order = l.kept_behind.in_order; present = l.kept_behind.present; low = l.kept_behind.low; high = l.kept_behind.high };

@@ -1,17 +1,14 @@
 -- Facts that leave a session, by their tags.
-use Rattle.session_laws.proofs.Common.{◌≡◌, ◌∙◌, ◌++◌, ◌||◌, inl, inr, ℕ, Bool, true, false, nat_eq, ◌==◌, length, List, [], ◌∷◌, Option, None, if◌then◌else◌, refl, sym, ap, subst, append_assoc, arith, Less, Equal, AllByRecursion, list_any, nat_cmp, ordering_then, or-false, nat_tests, list_any-append, In, EachOnce, Fact, Timers, due_cmp, moment_of, HeldFacts, left_at}
+use Rattle.session_laws.proofs.Common.{◌≡◌, ◌∙◌, ◌++◌, ◌||◌, inl, inr, ℕ, Bool, true, false, nat_eq, ◌==◌, length, List, [], ◌∷◌, Option, None, if◌then◌else◌}
+use Rattle.session_laws.proofs.Common.{refl, sym, ap, subst, append_assoc, arith, Less, Equal, AllByRecursion, list_any, nat_cmp, ordering_then, or-false}
+use Rattle.session_laws.proofs.Common.{nat_tests, list_any-append, In, EachOnce, Fact, Timers, due_cmp, moment_of, HeldFacts, fact_left_at}
+use Rattle.std.proofs.lemmas.Bool.{eqb-false, eqb-true}
 use Rattle.std.specs.List.Sorted.{IsStrictlySortedBy}
 use Rattle.std.proofs.lemmas.Cmp.{nat_cmp_total, int_cmp_total, tied_itself}
 use Rattle.session_laws.proofs.Members.{is_out, not_out}
 use Rattle.std.specs.FinMap as map
 
 -- ---- what is left
-
-same_number : (m n : ℕ) → nat_eq m n ≡ true → m ≡ n
-same_number m n e = grind (arith, nat_tests)
-
-other_number : (m n : ℕ) → nat_eq m n ≡ false → m ≡ n → ⊥
-other_number m n e h = grind (arith, nat_tests)
 
 or_none : (a b : Bool) (o : Option Fact) → (if b then None else (if a then None else o)) ≡ (if a || b then None else o)
 or_none true true o = refl
@@ -20,8 +17,8 @@ or_none false true o = refl
 or_none false false o = refl
 
 out_by : (facts : HeldFacts) (tag t : ℕ) (b : Bool) → nat_eq t tag ≡ b → map.get (map.remove facts tag) t ≡ (if b then None else map.get facts t)
-out_by facts tag t true e = ap (map.get (map.remove facts tag)) (same_number t tag e) ∙ is_out facts tag
-out_by facts tag t false e = not_out facts tag t (other_number t tag e)
+out_by facts tag t true e = ap (map.get (map.remove facts tag)) (eqb-true t tag e) ∙ is_out facts tag
+out_by facts tag t false e = not_out facts tag t (eqb-false t tag e)
 
 -- no tags, where their count says so
 no_count : (n : ℕ) → (n == 0) ≡ true → n ≡ 0
@@ -32,13 +29,13 @@ no_tags n b [] e t count = refl
 no_tags n b (tag ∷ gone) e t count = let zero_is : n ≡ 0 = no_count n (sym e ∙ t) in absurd (omega arith)
 
 -- where none go, all are left
-pub none_gone : (facts : HeldFacts) (gone : List ℕ) → gone ≡ [] → (tag : ℕ) → map.get facts tag ≡ left_at facts gone tag
+pub none_gone : (facts : HeldFacts) (gone : List ℕ) → gone ≡ [] → (tag : ℕ) → map.get facts tag ≡ fact_left_at facts gone tag
 none_gone facts [] e tag = refl
 none_gone facts (t ∷ gone) e tag = absurd cc
 
 -- one more is gone
-pub one_gone : (first facts rest : HeldFacts) (done : List ℕ) (tag : ℕ) → ((t : ℕ) → map.get facts t ≡ left_at first done t) → rest ≡ map.remove facts tag
-    → (t : ℕ) → map.get rest t ≡ left_at first (done ++ tag ∷ []) t
+pub one_gone : (first facts rest : HeldFacts) (done : List ℕ) (tag : ℕ) → ((t : ℕ) → map.get facts t ≡ fact_left_at first done t) → rest ≡ map.remove facts tag
+    → (t : ℕ) → map.get rest t ≡ fact_left_at first (done ++ tag ∷ []) t
 one_gone first facts rest done tag left is t =
     ap (λ m. map.get m t) is ∙ out_by facts tag t (nat_eq t tag) refl ∙ ap (λ o. if nat_eq t tag then None else o) (left t)
     ∙ or_none (list_any (nat_eq t) done) (nat_eq t tag) (map.get first t)
@@ -47,7 +44,7 @@ one_gone first facts rest done tag left is t =
 
 -- some had their turn, and these are ahead
 abbrev pub AreGone : HeldFacts → List ℕ → HeldFacts → List ℕ → Type 0
-AreGone first tags facts ahead = (done : List ℕ) × (tags ≡ done ++ ahead) × ((tag : ℕ) → map.get facts tag ≡ left_at first done tag)
+AreGone first tags facts ahead = (done : List ℕ) × (tags ≡ done ++ ahead) × ((tag : ℕ) → map.get facts tag ≡ fact_left_at first done tag)
 
 pub turn_gone : (first : HeldFacts) (tags : List ℕ) (facts rest : HeldFacts) (tag : ℕ) (ahead more : List ℕ) → AreGone first tags facts ahead → ahead ≡ tag ∷ more → rest ≡ map.remove facts tag → AreGone first tags rest more
 turn_gone first tags facts rest tag ahead more g step made = (

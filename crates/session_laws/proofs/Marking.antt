@@ -1,5 +1,10 @@
 -- A session whose first match is marked as fired awaits the second phase of the firing.
-use Rattle.session_laws.proofs.Common.{◌≡◌, ◌∙◌, ◌&&◌, ◌||◌, not, ℕ, Bool, true, inl, inr, Some, refl, sym, subst, eq_by_cmp, tells_apart, Match, Program, first, fire_total, matches, has_match, match_cmp, fire_cmp, fire_exact, match_exact, first_in, or_split, World, marked, pending, snapshot, and_parts, firing_lawful, by_fire, has_pending, Marks, names_tag, clean, Lives, Sight, each_tag, ends_by, is_kept, sight_of, pending_kept, world_fire_kept, sight_law, Memory, Setting, Awaits, Contents, Seen, Standing, holding}
+use Rattle.session_laws.proofs.Common.{◌≡◌, ◌∙◌, ◌&&◌, ◌||◌, not, ℕ, Bool, true, inl, inr, Some, refl, sym, subst, eq_by_cmp, tells_apart, Match, Program}
+use Rattle.session_laws.proofs.Common.{first, fire_total, matches, has_match, match_cmp, fire_cmp, fire_exact, match_exact, first_in, or_split, World, marked}
+use Rattle.session_laws.proofs.Common.{pending, snapshot, firing_lawful, by_fire, has_pending, Marks, names_tag, clean, Lives, TagWorld, each_tag, ends_by}
+use Rattle.session_laws.proofs.Common.{is_kept_tag, sight_of, pending_kept, world_fire_kept, sight_law, Memory, Setting, Awaits, Contents, Seen, Standing}
+use Rattle.session_laws.proofs.Common.{holding}
+use Rattle.std.proofs.lemmas.Bool.{and_parts}
 use Rattle.session_laws.proofs.Clean.{clean_kept, clean_was}
 use Rattle.session_laws.proofs.Stands.{contents}
 
@@ -10,7 +15,7 @@ module _ (s : Setting) (m : Memory) (k : Contents) (w : World) (st : Standing s 
   abbrev lives : Lives
   lives = ends_by s.lives
 
-  abbrev sight : Sight
+  abbrev sight : TagWorld
   sight = sight_of p w
 
   -- the first of the agenda is pending in the world
@@ -22,7 +27,7 @@ module _ (s : Setting) (m : Memory) (k : Contents) (w : World) (st : Standing s 
   top_pending = sym (st.holds.pending q) ∙ agenda_pending
 
   -- a match that names kept facts alone names nothing forgotten
-  clean_of : (x : Match) → has_match (matches p (snapshot w)) x ≡ true → each_tag (is_kept lives sight) x ≡ true → clean st.seen.forgotten x.row ≡ true
+  clean_of : (x : Match) → has_match (matches p (snapshot w)) x ≡ true → each_tag (is_kept_tag lives sight) x ≡ true → clean st.seen.forgotten x.row ≡ true
   clean_of x is each = sym (clean_was s m k w st x is) ∙ clean_kept s m k w st x is ∙ each
 
   module _ (b : Marks) (sal : b.saliences ≡ k.agenda.saliences) (pend : (x : Match) → has_match b.pending x ≡ (has_match k.agenda.pending x && not (eq_by_cmp match_cmp q x)))
@@ -58,7 +63,7 @@ module _ (s : Setting) (m : Memory) (k : Contents) (w : World) (st : Standing s 
     marked_clean : (x : Match) → has_match b.fired x ≡ true → (has_match (matches p (snapshot w)) x ≡ true) × (clean st.seen.forgotten x.row ≡ true)
     marked_clean x e = elim (or_split (has_match k.agenda.fired x) (eq_by_cmp match_cmp q x) (sym (fired x) ∙ e)) [
       | inl was ↦ (
-          let parts = and_parts (has_match w.fired x) (each_tag (is_kept lives sight) x) (sym (st.holds.fired x) ∙ was) in
+          let parts = and_parts (has_match w.fired x) (each_tag (is_kept_tag lives sight) x) (sym (st.holds.fired x) ∙ was) in
           let is = st.seen.whole.lawful.ordered.fired x parts.0 in
           (is, clean_of x is parts.1))
       | inr same ↦ (

@@ -1,5 +1,13 @@
 -- The parts of a session that are made from an image, as they are told one after the other.
-use Rattle.session_laws.proofs.Common.{◌≡◌, ◌∙◌, ◌≤◌, ◌<◌, ◌≤ℤ◌, ◌||◌, not, ℕ, ℤ, pos, Bool, true, false, cond, List, [], ◌∷◌, length, Option, Some, None, Result, Ok, Err, refl, sym, ap, subst, arith, IsErrAnd, eq_by_cmp, nat_cmp, ∥∥₁_elim, In, Fact, Extra, Named, FiredMatch, Image, Timers, HeldFacts, itself, LifeTable, Moment, Program, saliences, Snapshot, both_of, most_millis, IsRunnable, below_of, slice_get_within, Look, Marks, match_fired, snapshot_of, AreOwners, FitsPlainly, FitsByRows, Retention, has_tag, is_among, is_named, Passes, Covers, Ends, is_old, past_law, ends_by, ends_of, RuleChange, Rete, AreLadenRows, IsBehind, IsLoadable, IsThere, NetStands, IsNetOf, Memory, Setting, IsSafe, at_hand, comes_by, has_marked, is_laden, stored, AreHeld, AreMarked, IsMatched, IsRestored, NoneGo, AreOfRules, Contents, Course, IsSound, ReachesNoMore, Runs, expiry_at, reached_of}
+use Rattle.session_laws.proofs.Common.{◌≡◌, ◌∙◌, ◌≤◌, ◌<◌, ◌≤ℤ◌, ◌||◌, not, ℕ, ℤ, pos, Bool, true, false, cond, List, [], ◌∷◌, length, Option, Some, None}
+use Rattle.session_laws.proofs.Common.{Result, Ok, Err, refl, sym, ap, subst, arith, IsErrAnd, eq_by_cmp, nat_cmp, ∥∥₁_elim, In, Fact, Extra, Named, FiredMatch}
+use Rattle.session_laws.proofs.Common.{Image, Timers, HeldFacts, itself, LifeTable, Moment, Program, saliences, Snapshot, most_millis, IsRunnable, below_of}
+use Rattle.session_laws.proofs.Common.{slice_get_within, Look, Marks, match_fired, snapshot_of, AreOwners, FitsPlainly, FitsByRows, Retention, has_listed_tag}
+use Rattle.session_laws.proofs.Common.{is_tag_among, is_named, PassesLives, Covers, Ends, is_old, past_law, ends_by, ends_of, RuleChange, Rete, AreLadenRows}
+use Rattle.session_laws.proofs.Common.{IsBehind, IsLoadable, IsThere, NetStands, IsNetOf, Memory, Setting, IsSafe, at_hand, comes_by, has_marked, is_laden}
+use Rattle.session_laws.proofs.Common.{stored, AreHeld, AreMarked, IsMatched, IsRestored, NoneGo, AreOfRules, Contents, Course, IsSound, ReachesNoMore, Runs}
+use Rattle.session_laws.proofs.Common.{expiry_at, reached_of}
+use Rattle.std.proofs.lemmas.Bool.{and_parts, or_left}
 use Rattle.std.specs.FinMap as map_of
 use lib.IntN.{ℤ_set}
 use Rattle.engine.specs.declared.resuming.ResumeFault.{ResumeFault}
@@ -83,16 +91,12 @@ module _ (p : Program) (table : LifeTable) (image : Image) (plain : FitsPlainly 
 
 -- ---- the ends of lives
 
-or_left : (a b : Bool) → a ≡ true → (a || b) ≡ true
-or_left true b e = refl
-or_left false b e = absurd cc
-
-pub some_key : (keys : List ℕ) → (length keys ≡ 0 → ⊥) → (tag : ℕ) × (has_tag keys tag ≡ true)
+pub some_key : (keys : List ℕ) → (length keys ≡ 0 → ⊥) → (tag : ℕ) × (has_listed_tag keys tag ≡ true)
 some_key [] some = absurd (some refl)
-some_key (key ∷ keys) some = (key, or_left (eq_by_cmp nat_cmp key key) (has_tag keys key) (itself key))
+some_key (key ∷ keys) some = (key, or_left (eq_by_cmp nat_cmp key key) (has_listed_tag keys key) (itself key))
 
 module _ (p : Program) (table : LifeTable) (image : Image) (facts : HeldFacts) (expiries : Timers) (before after : Retention) (marks : Marks) (old : ℕ → Bool)
-    (is_stored : facts ≡ stored image.facts) (held : AreHeld p table facts expiries before) (passes : Passes image.clock (is_among []) (is_named marks) before after old) where
+    (is_stored : facts ≡ stored image.facts) (held : AreHeld p table facts expiries before) (passes : PassesLives image.clock (is_tag_among []) (is_named marks) before after old) where
   abbrev ends : Ends
   ends = ends_of (ends_by table) (map_of.get (stored image.facts))
 
@@ -106,15 +110,15 @@ module _ (p : Program) (table : LifeTable) (image : Image) (facts : HeldFacts) (
   }
 
   pub told_old : (tag : ℕ) → old tag ≡ is_old ends image.clock (is_named marks) tag
-  told_old = (past_law ends image.clock (is_among []) (is_named marks) before after old covers (λ tag e. absurd (let no : false ≡ true = sym (held_here.none tag) ∙ e in cc)) passes).0
+  told_old = (past_law ends image.clock (is_tag_among []) (is_named marks) before after old covers (λ tag e. absurd (let no : false ≡ true = sym (held_here.none tag) ∙ e in cc)) passes).0
 
   pub old_refuses : (net : Rete) → IsMatched p image net marks → FitsPlainly p table image → (tag : ℕ) × (old tag ≡ true) → (owners : ℕ → ℕ → ℕ) → AreOwners p owners → FitsByRows p table image owners → ⊥
   old_refuses net are plain some owners own fits = old_unfit p table image owners plain marks (are.marked owners own) some.0 (sym (told_old some.0) ∙ some.1) fits
 
 -- ---- a session that is made
 
-keys_none : (keys : List ℕ) → keys ≡ [] → (tag : ℕ) → has_tag keys tag ≡ false
-keys_none keys none tag = ap (λ ks. has_tag ks tag) none
+keys_none : (keys : List ℕ) → keys ≡ [] → (tag : ℕ) → has_listed_tag keys tag ≡ false
+keys_none keys none tag = ap (λ ks. has_listed_tag ks tag) none
 
 expires_none : (p : Program) (o : Option Fact) → o ≡ None → expiry_at p o ≡ None
 expires_none p o e = ap (expiry_at p) e
@@ -144,19 +148,19 @@ abbrev course_of : Image → Course
 course_of image = record { last_starts = image.last_starts; promises = image.promises; begun = image.begun }
 
 module _ (s : Setting) (runs : Runs s) (image : Image) (plain : FitsPlainly s.program s.lives image) (owners : ℕ → ℕ → ℕ) (own : AreOwners s.program owners) (net : Rete) (expiries : Timers) (before after : Retention) (marks : Marks)
-    (old : List ℕ) (are : IsMatched s.program image net marks) (passes : Passes image.clock (is_among []) (is_named marks) before after (has_tag old)) (none : old ≡ []) where
+    (old : List ℕ) (are : IsMatched s.program image net marks) (passes : PassesLives image.clock (is_tag_among []) (is_named marks) before after (has_listed_tag old)) (none : old ≡ []) where
   abbrev state_of : Contents
   state_of = contents (stored image.facts) expiries image.clock (course_of image) marks image.next_id image.next_tag
 
   of_rules : AreOfRules (length s.program.rules) marks.pending
   of_rules q e =
-      let laden_q = (both_of (is_laden s.program image owners q) (not (has_marked image.fired q)) (sym ((are.marked owners own).pending q) ∙ e)).0 in
+      let laden_q = (and_parts (is_laden s.program image owners q) (not (has_marked image.fired q)) (sym ((are.marked owners own).pending q) ∙ e)).0 in
       let r = laden_match s.program s.lives image owners plain q laden_q in
       slice_get_within s.program.rules q.rule.0 r.0 r.1
 
   pub is_restored : AreHeld s.program s.lives (stored image.facts) expiries before → IsRestored s image owners (record { net = net; retention = after }) state_of
   is_restored held = record {
-    stands = λ w l is. restored_stands s runs image plain w l is owners own net marks are expiries before after (has_tag old) held passes (keys_none old none);
+    stands = λ w l is. restored_stands s runs image plain w l is owners own net marks are expiries before after (has_listed_tag old) held passes (keys_none old none);
     sound = record {
       net = are.net_of;
       pending = of_rules;
@@ -168,7 +172,7 @@ module _ (s : Setting) (runs : Runs s) (image : Image) (plain : FitsPlainly s.pr
     next = refl;
     fits =
         rows_fit s.program s.lives image owners plain marks (are.marked owners own) (are.there owners own) (are.came owners own)
-        (λ tag. sym (told_old s.program s.lives image (stored image.facts) expiries before after marks (has_tag old) refl held passes tag) ∙ keys_none old none tag);
+        (λ tag. sym (told_old s.program s.lives image (stored image.facts) expiries before after marks (has_listed_tag old) refl held passes tag) ∙ keys_none old none tag);
   }
 
   -- the same with the parts as they are at hand
@@ -178,4 +182,4 @@ module _ (s : Setting) (runs : Runs s) (image : Image) (plain : FitsPlainly s.pr
       subst (λ (m : HeldFacts). IsRestored s image owners (record { net = net; retention = after }) (contents m expiries clock course marks image.next_id image.next_tag)) (sym is_stored)
       (subst (λ (z : ℤ). IsRestored s image owners (record { net = net; retention = after }) (contents (stored image.facts) expiries z course marks image.next_id image.next_tag)) (sym same)
       (subst (λ (c : Course). IsRestored s image owners (record { net = net; retention = after }) (contents (stored image.facts) expiries image.clock c marks image.next_id image.next_tag)) (sym course_is)
-      (is_restored (held_here s.program s.lives image facts expiries before after marks (has_tag old) is_stored held passes))))
+      (is_restored (held_here s.program s.lives image facts expiries before after marks (has_listed_tag old) is_stored held passes))))

@@ -1,12 +1,15 @@
 -- The facts of a map and those of a list: where both have the same, each at its tag.
-use Rattle.session_laws.proofs.Common.{◌≡◌, ℕ, ◌<◌, ◌==◌, ◌⊎◌, inl, inr, not, ◌&&◌, Bool, true, false, cond, List, [], ◌∷◌, ◌++◌, Option, Some, None, refl, sym, ◌∙◌, ap, subst, arith, without, others, get-insert, get-remove, same_map, nat_cmp-IsAntisymmetric, nat_cmp_total, nat_cmp, eq_by_cmp, nat_tests, Tag, Value, Fact, HeldFacts, facts_of, tag_of, from_list, from_map, tags_rise, tied, itself, In, HaveDistinctTags, HaveDistinctIds, has_id, revised, revised_in, AllBelow, revise, has_number, one_id, in_left, in_right, in_map, of_append, of_map, AllOf, of_filter, one_fact, in_filter, passed, HaveOwnTags}
+use Rattle.session_laws.proofs.Common.{◌≡◌, ℕ, ◌<◌, ◌==◌, ◌⊎◌, inl, inr, not, ◌&&◌, Bool, true, false, cond, List, [], ◌∷◌, ◌++◌, Option, Some, None, refl, sym}
+use Rattle.session_laws.proofs.Common.{◌∙◌, ap, subst, arith, without, others, get-insert, get-remove, same_map, nat_cmp-IsAntisymmetric, nat_cmp_total}
+use Rattle.session_laws.proofs.Common.{nat_cmp, eq_by_cmp, nat_tests, Tag, Value, Fact, HeldFacts, facts_of, tag_of, from_list, from_map, tags_rise, tied}
+use Rattle.session_laws.proofs.Common.{itself, In, HaveDistinctTags, HaveDistinctIds, has_id, revised, revised_in, AllBelow, revise, has_number, one_id}
+use Rattle.session_laws.proofs.Common.{in_left, in_right, in_map, of_map, AllOf, of_filter, one_fact, in_filter, passed, HaveOwnTags}
+use Rattle.std.proofs.lemmas.Bool.{eqb-true}
 use Rattle.std.specs.Prelude.{if◌then◌else◌}
 use Rattle.session_laws.specs.Gives.{version_of}
 use Rattle.session_laws.proofs.Rising.{rising_distinct}
+use Rattle.fx_base.proofs.Sequences.{In-append}
 use Rattle.std.specs.FinMap as map
-
-same_number : (m n : ℕ) → (m == n) ≡ true → m ≡ n
-same_number m n e = grind (arith, nat_tests)
 
 other_number : (m n : ℕ) → m ≡ n → (m == n) ≡ false → ⊥
 other_number m n e h = grind (arith, nat_tests)
@@ -27,12 +30,12 @@ unfolding version_of
 version_in [] g d i = absurd i
 version_in (x ∷ facts) g d i =
     version_by facts x g (elim i [ inl a ↦ inl (sym a) | inr j ↦ inr (version_in facts g d.1 j) ]) (x.tag.0 == g.tag.0) refl
-    (λ e. one_fact (x ∷ facts) d x g (inl refl) i (ap tag_of (same_number x.tag.0 g.tag.0 e)))
+    (λ e. one_fact (x ∷ facts) d x g (inl refl) i (ap tag_of (eqb-true x.tag.0 g.tag.0 e)))
 
 found_by : (facts : List Fact) (x g : Fact) (tag : Tag) → (version_of facts tag ≡ Some g → In g facts × (g.tag.0 ≡ tag.0)) → (b : Bool) → (x.tag.0 == tag.0) ≡ b
     → cond b (Some x) (version_of facts tag) ≡ Some g → In g (x ∷ facts) × (g.tag.0 ≡ tag.0)
 found_by facts x g tag h true e is =
-    let s : x ≡ g = cc in (inl (sym s), ap (λ (z : Fact). z.tag.0) (sym s) ∙ same_number x.tag.0 tag.0 e)
+    let s : x ≡ g = cc in (inl (sym s), ap (λ (z : Fact). z.tag.0) (sym s) ∙ eqb-true x.tag.0 tag.0 e)
 found_by facts x g tag h false e is = let r = h is in (inr r.0, r.1)
 
 pub version_found : (facts : List Fact) (g : Fact) (tag : Tag) → version_of facts tag ≡ Some g → In g facts × (g.tag.0 ≡ tag.0)
@@ -157,7 +160,7 @@ module _ (held : HeldFacts) (facts : List Fact) (h : Holds held facts) where
       | inl r ↦ (in_right g facts (f ∷ []) (inl r.0), ap (λ (z : Fact). z.tag.0) r.0 ∙ sym r.1)
       | inr e ↦ (let i = h.to tag g e in (in_left g facts (f ∷ []) i.0, i.1))
     ];
-    from = λ g i. elim (of_append g facts (f ∷ []) i) [
+    from = λ g i. elim (In-append g facts (f ∷ []) i) [
       | inl j ↦ (
           let apart : g.tag.0 ≡ f.tag.0 → ⊥ = λ e. let n : None ≡ Some g = sym new ∙ ap (map.get held) (sym e) ∙ h.from g j in absurd (cc) in
           got_old held f g.tag.0 apart ∙ h.from g j)

@@ -1,5 +1,9 @@
 -- What a session has taken where facts go and one may come, and where the clock moves on: what the network is led to, and what awaits.
-use Rattle.session_laws.proofs.Common.{◌≡◌, ◌∙◌, ◌+◌, ◌<◌, ◌≤◌, ◌≤ℤ◌, inl, inr, not, ℕ, ℤ, Bool, true, false, cond, nat_eq, List, Option, Some, None, if◌then◌else◌, refl, sym, ap, subst, arith, list_any, ints, In, Fact, HeldFacts, Named, Program, Step, name_of, World, only_present, present, step_fault, stepped, below_of, Covers, ends_by, ends_of, only, changed, fact_at, sight_of, later_covers, Memory, Setting, GoesOn, HasAtHand, IsReady, Leads, LeadsOn, instant_of, AreForgotten, Contents, Mirrors, Runs, Standing, holding, with_facts, reached_of, left_at, Reached}
+use Rattle.session_laws.proofs.Common.{◌≡◌, ◌∙◌, ◌+◌, ◌<◌, ◌≤◌, ◌≤ℤ◌, inl, inr, not, ℕ, ℤ, Bool, true, false, cond, nat_eq, List, Option, Some, None}
+use Rattle.session_laws.proofs.Common.{if◌then◌else◌, refl, sym, ap, subst, arith, list_any, ints, In, Fact, HeldFacts, Named, Program, Step, name_of, World}
+use Rattle.session_laws.proofs.Common.{only_present, present, step_fault, stepped, below_of, Covers, ends_by, ends_of, only, changed, fact_at, sight_of}
+use Rattle.session_laws.proofs.Common.{later_covers, Memory, Setting, NeverFalls, HasAtHand, IsReady, LeadsStep, LeadsOn, instant_of, AreForgotten, Contents}
+use Rattle.session_laws.proofs.Common.{Mirrors, Runs, Standing, holding, with_facts, reached_of, fact_left_at, Reached}
 use Rattle.std.specs.Prelude.{is_some}
 use Rattle.std.specs.FinMap as map
 use Rattle.session_laws.proofs.Exactly.{Exact, exact}
@@ -20,14 +24,14 @@ only_some test (Some g) f e = by (test g) e
     by false h = absurd (let n : None ≡ Some f = h in cc)
 
 -- what is left was there, and does not go
-pub of_left : (facts : HeldFacts) (gone : List ℕ) (tag : ℕ) (f : Fact) → left_at facts gone tag ≡ Some f → (list_any (nat_eq tag) gone ≡ false) × (map.get facts tag ≡ Some f)
+pub of_left : (facts : HeldFacts) (gone : List ℕ) (tag : ℕ) (f : Fact) → fact_left_at facts gone tag ≡ Some f → (list_any (nat_eq tag) gone ≡ false) × (map.get facts tag ≡ Some f)
 of_left facts gone tag f e = by (list_any (nat_eq tag) gone) refl e
   where
     by : (b : Bool) → list_any (nat_eq tag) gone ≡ b → (if b then None else map.get facts tag) ≡ Some f → (list_any (nat_eq tag) gone ≡ false) × (map.get facts tag ≡ Some f)
     by true h k = absurd (let n : None ≡ Some f = k in cc)
     by false h k = (h, k)
 
-pub is_left : (facts : HeldFacts) (gone : List ℕ) (tag : ℕ) → list_any (nat_eq tag) gone ≡ false → left_at facts gone tag ≡ map.get facts tag
+pub is_left : (facts : HeldFacts) (gone : List ℕ) (tag : ℕ) → list_any (nat_eq tag) gone ≡ false → fact_left_at facts gone tag ≡ map.get facts tag
 is_left facts gone tag e = ap (λ b. if b then None else map.get facts tag) e
 
 -- what is left is what the step leaves of it
@@ -43,8 +47,8 @@ not_after a b e = grind (arith, ints)
 -- ---- what is forgotten
 
 -- where facts go from the store as from all facts
-pub less_forgotten : (k t : Contents) (both behind : HeldFacts) (gone : List ℕ) (forgotten : Named → Bool) → AreForgotten k both forgotten → ((tag : ℕ) → map.get behind tag ≡ left_at both gone tag)
-    → ((tag : ℕ) → map.get t.facts tag ≡ left_at k.facts gone tag) → t.next_tag ≡ k.next_tag → AreForgotten t behind forgotten
+pub less_forgotten : (k t : Contents) (both behind : HeldFacts) (gone : List ℕ) (forgotten : Named → Bool) → AreForgotten k both forgotten → ((tag : ℕ) → map.get behind tag ≡ fact_left_at both gone tag)
+    → ((tag : ℕ) → map.get t.facts tag ≡ fact_left_at k.facts gone tag) → t.next_tag ≡ k.next_tag → AreForgotten t behind forgotten
 less_forgotten k t both behind gone forgotten are out left same = record {
   held = λ tag f e. let r = of_left k.facts gone tag f (sym (left tag) ∙ e) in out tag ∙ is_left both gone tag r.0 ∙ are.held tag f r.1;
   known = λ tag f e. let r = of_left both gone tag f (sym (out tag) ∙ e) in are.known tag f r.1 ∙ ap (λ o. not (is_some o)) (sym (left tag ∙ is_left k.facts gone tag r.0));
@@ -131,13 +135,13 @@ module _ (s : Setting) (m : Memory) (k : Contents) (w : World) (st : Standing s 
 
   -- what the network is led to where no rule needs a forgotten fact
   pub leads_on : (step : Step) → Runs s → step_fault p w step ≡ None → (t : Contents) (behind both : HeldFacts) (gone : List ℕ) (come : Option Fact) (more : HeldFacts)
-      → Leads p all k.clock behind t.clock both gone come → Mirrors p (with_facts t behind) (only_present p (stepped p w step)) → ((tag : ℕ) → In tag gone → (f : Fact) × (map.get k.facts tag ≡ Some f))
+      → LeadsStep p all k.clock behind t.clock both gone come → Mirrors p (with_facts t behind) (only_present p (stepped p w step)) → ((tag : ℕ) → In tag gone → (f : Fact) × (map.get k.facts tag ≡ Some f))
       → ((f : Fact) → come ≡ Some f → k.next_tag ≤ f.tag.0) → HasAtHand both more gone forgotten → LeadsOn p all (instant_of k) behind (instant_of t) both gone come forgotten more
   leads_on step runs none t behind both gone come more leads mirrors held new hand = record {
     leads = leads;
     goes_on =
-        subst (λ (r : Reached). GoesOn r (reached_of t)) (sym st.seen.whole.mirrors.reached)
-        (subst (GoesOn w.reached) (sym mirrors.reached) (reaches_on p w step st.seen.whole.lawful none));
+        subst (λ (r : Reached). NeverFalls r (reached_of t)) (sym st.seen.whole.mirrors.reached)
+        (subst (NeverFalls w.reached) (sym mirrors.reached) (reaches_on p w step st.seen.whole.lawful none));
     unneeded = not_needed s m k w st step runs none behind (instant_of t) both gone come leads mirrors.facts mirrors.clock mirrors.reached held new;
     at_hand = hand;
   }

@@ -1,22 +1,28 @@
 -- The facts of a map that are the present ones of a world make the rows and have the candidates of the world.
-use Rattle.session_laws.proofs.Common.{◌≡◌, ◌∙◌, ◌==◌, ◌&&◌, ℕ, ℤ, true, nat_lt, List, length, refl, sym, ap, subst, In, Fact, Named, Row, has, HeldFacts, facts_of, tag_of, Condition, Pattern, Program, is_present, fits, is_behind, count_behind, is_inside, is_candidate, candidates, HaveDistinctTags, rows, Reached, Snapshot, name_of, unbound, both_of, of_filter, Same, passed, rows_over, World, snapshot, present, only_present, distinct_filtered, filter_within, filter_same, kept_rows, rows_of, candidates_of, in_has, has_in, same_truth, candidate_named, candidate_of, version_of, over}
+use Rattle.session_laws.proofs.Common.{◌≡◌, ◌∙◌, ◌==◌, ◌&&◌, ℕ, ℤ, true, nat_lt, List, length, refl, sym, ap, subst, In, Fact, Named, Row, has, HeldFacts}
+use Rattle.session_laws.proofs.Common.{facts_of, tag_of, Condition, Pattern, Program, is_present, fits, is_behind, count_behind, is_inside, is_candidate}
+use Rattle.session_laws.proofs.Common.{candidates, HaveDistinctTags, rows, Reached, Snapshot, name_of, unbound, of_filter, Same, passed, rows_over, World}
+use Rattle.session_laws.proofs.Common.{snapshot, present, only_present, distinct_filtered, filter_within, filter_same, kept_rows, rows_of, candidates_of}
+use Rattle.session_laws.proofs.Common.{in_has, has_in, candidate_named, candidate_of, version_of, over}
+use Rattle.std.proofs.lemmas.Bool.{and_parts}
 use Rattle.std.specs.FinMap as map
 use Rattle.rule_model.specs.declared.condition.WindowTag.{WindowTag}
 use Rattle.rule_model.specs.declared.condition.WindowTag.TheVariants.{Whole, Time, Length}
 use Rattle.rule_model.specs.Tests.{tests_hold}
 use Rattle.rule_model.proofs.Order.{same_candidates as same_in_order}
 use Rattle.session_laws.proofs.Members.{Holds, of_versions, held_distinct, own_tags, listed, all_listed}
+use Rattle.fx_base.proofs.Tests.{same_test}
 
 -- ---- what is not present is no candidate, and is in no window
 
 module _ (p : Program) (w : World) (q : Pattern) where
   fits_present : (f : Fact) → fits p q w.clock f ≡ true → is_present p w.clock f ≡ true
-  fits_present f e = (both_of (is_present p w.clock f) (f.ty.0 == q.ty.0 && (f.entry.0 == q.entry.0 && tests_hold unbound f q.alone)) e).0
+  fits_present f e = (and_parts (is_present p w.clock f) (f.ty.0 == q.ty.0 && (f.entry.0 == q.entry.0 && tests_hold unbound f q.alone)) e).0
 
   same_behind : (f : Fact) → count_behind p q w.clock f (present p w) ≡ count_behind p q w.clock f w.facts
   same_behind f =
       ap length (filter_within (is_behind p q w.clock f) (is_present p w.clock) w.facts
-      (λ g e. fits_present g (both_of (nat_lt f.tag.0 g.tag.0) (fits p q w.clock g) e).1))
+      (λ g e. fits_present g (and_parts (nat_lt f.tag.0 g.tag.0) (fits p q w.clock g) e).1))
 
   same_inside : (window : WindowTag) (f : Fact) → is_inside p q window w.clock (present p w) f ≡ is_inside p q window w.clock w.facts f
   same_inside Whole f = refl
@@ -27,7 +33,7 @@ module _ (p : Program) (w : World) (q : Pattern) where
   kept_candidates =
       filter_same (is_candidate p q (snapshot (only_present p w))) (is_candidate p q (snapshot w)) (present p w) (λ f. ap (λ b. fits p q w.clock f && b) (same_inside q.window f))
       ∙ filter_within (is_candidate p q (snapshot w)) (is_present p w.clock) w.facts
-      (λ f e. fits_present f (both_of (fits p q w.clock f) (is_inside p q q.window w.clock w.facts f) e).0)
+      (λ f e. fits_present f (and_parts (fits p q w.clock f) (is_inside p q q.window w.clock w.facts f) e).0)
 
 -- a candidate is one by its name
 named_candidate : (p : Program) (s : Snapshot) → HaveDistinctTags s.facts → (q : Pattern) (f : Fact) → In f (candidates p q s) → candidates_of p q s (name_of f) ≡ true
@@ -64,7 +70,7 @@ module _ (p : Program) (w : World) (d : HaveDistinctTags w.facts) (stored : Held
 
   pub world_rows : (cs : List Condition) (row : Row) → rows_of p here cs row ≡ rows_of p (snapshot w) cs row
   world_rows cs row =
-      same_truth (rows_of p here cs row) (rows_of p there cs row)
+      same_test (rows_of p here cs row) (rows_of p there cs row)
       (λ e. in_has row (rows p there cs) (rows_over p here there (sym now) (sym same) distinct_here distinct_there alike cs row (has_in row (rows p here cs) e)))
       (λ e. in_has row (rows p here cs) (rows_over p there here now same distinct_there distinct_here back cs row (has_in row (rows p there cs) e)))
       ∙ ap (λ rs. has rs row) (kept_rows p w cs)
@@ -90,4 +96,4 @@ module _ (p : Program) (w : World) (d : HaveDistinctTags w.facts) (stored : Held
         ap (candidates_of p q here) (sym f.2) ∙ named_candidate p here distinct_here q f.0 among
 
     pub world_candidates : candidates_of p q here who ≡ candidates_of p q (snapshot w) who
-    world_candidates = same_truth (candidates_of p q here who) (candidates_of p q (snapshot w) who) to_world from_world
+    world_candidates = same_test (candidates_of p q here who) (candidates_of p q (snapshot w) who) to_world from_world

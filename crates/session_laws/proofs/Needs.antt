@@ -1,10 +1,19 @@
 -- In a step no rule needs a forgotten fact.
-use Rattle.session_laws.proofs.Common.{◌≡◌, ◌∙◌, inl, inr, refl, sym, ap, subst, ℕ, zero, suc, ◌<◌, ◌≤◌, ◌==◌, ◌&&◌, not, Bool, true, false, cond, List, [], ◌∷◌, filter_map, Option, Some, None, arith, take, cons_option, filter, option_to_list, In, Fact, Named, Row, HeldFacts, facts_of, tag_of, from_list, Condition, Negated, Existing, Folded, Pattern, Rule, Step, is_candidate, HaveDistinctTags, Holds, pattern_of, Reached, Snapshot, name_of, row_of, both_of, of_append, in_left, of_filter, one_fact, in_filter, IsOrdered, World, snapshot, present, moved, step_fault, and_both, flagged, not_true, same_number, joins, held, rows_of, candidates_of, same_truth, tuple_of_row, held_fact, joins_of_tuple, version_in, made_facts, candidate_of, Moves, shares_tag, CountsNone, is_forgotten, IsLawfulStep, RowComes, passing_one, there_same, forgotten_fact, tags_behind, only, same_kept, chosen, own_at, Memory, Setting, GoesOn, Instant, Leads, facts_at, version_of, over, Contents, Runs, Standing, reached_of}
+use Rattle.session_laws.proofs.Common.{◌≡◌, ◌∙◌, inl, inr, refl, sym, ap, subst, ℕ, zero, suc, ◌<◌, ◌≤◌, ◌==◌, ◌&&◌, not, Bool, true, false, cond, List, []}
+use Rattle.session_laws.proofs.Common.{◌∷◌, filter_map, Option, Some, None, arith, take, cons_option, filter, option_to_list, In, Fact, Named, Row, HeldFacts}
+use Rattle.session_laws.proofs.Common.{facts_of, tag_of, from_list, Condition, Negated, Existing, Folded, Pattern, Rule, Step, is_candidate, HaveDistinctTags}
+use Rattle.session_laws.proofs.Common.{Holds, pattern_of, Reached, Snapshot, name_of, row_of, in_left, of_filter, one_fact, in_filter, IsOrdered, World}
+use Rattle.session_laws.proofs.Common.{snapshot, present, moved, step_fault, flagged, joins, held, rows_of, candidates_of, tuple_of_row, held_fact}
+use Rattle.session_laws.proofs.Common.{joins_of_tuple, version_in, made_facts, candidate_of, MovesSnapshot, shares_tag, CountsNone, is_forgotten, IsLawfulStep}
+use Rattle.session_laws.proofs.Common.{RowComes, there_same, forgotten_fact, tags_behind, only, same_kept, chosen, own_at, Memory, Setting, NeverFalls, Instant}
+use Rattle.session_laws.proofs.Common.{LeadsStep, facts_at, version_of, over, Contents, Runs, Standing, reached_of}
+use Rattle.fx_base.proofs.Sequences.{list_any-In, In-append}
+use Rattle.std.proofs.lemmas.Bool.{and_from, and_parts, eqb-true, false_from_ne_true}
 use Rattle.std.specs.Prelude.{is_some, slice_get}
 use Rattle.std.specs.FinMap as map
 use Rattle.rule_model.specs.declared.condition.Condition.TheVariants.{Plain}
 use Rattle.rule_world.specs.Worlds.{stepped}
-use Rattle.rule_lives.specs.Networks.{binds}
+use Rattle.rule_model.specs.Rows.{binds}
 use Rattle.condition_rows.proofs.Holding.{version_of as version_named}
 use Rattle.keeping.specs.Kept.{is_kept}
 use Rattle.keeping.proofs.Coming.{row_meets_kept}
@@ -12,6 +21,7 @@ use Rattle.session_laws.proofs.Leads.{leads_move}
 use Rattle.session_laws.proofs.Needing.{stored_present, distinct_here, of_world, world_rows, world_candidates}
 use Rattle.session_laws.proofs.Phases.{NotNeeded}
 use Rattle.session_laws.proofs.Reaching.{reaches_on}
+use Rattle.fx_base.proofs.Tests.{same_test}
 
 -- ---- what a map gives at some tags
 
@@ -86,7 +96,7 @@ module _ (s : Setting) (m : Memory) (k : Contents) (w : World) (st : Standing s 
   -- ---- a step
 
   module _ (step : Step) (none : step_fault s.program w step ≡ None) (behind : HeldFacts) (to : Instant) (both : HeldFacts) (gone : List ℕ) (come : Option Fact)
-      (leads : Leads s.program all k.clock behind to.clock both gone come)
+      (leads : LeadsStep s.program all k.clock behind to.clock both gone come)
       (at : (tag : ℕ) → map.get behind tag ≡ version_of (present s.program (moved s.program w step)) (tag_of tag)) (now : to.clock ≡ (moved s.program w step).clock) (reached : to.reached ≡ (moved s.program w step).reached)
       (stored : (tag : ℕ) → In tag gone → (f : Fact) × (map.get k.facts tag ≡ Some f)) (new : (f : Fact) → come ≡ Some f → k.next_tag ≤ f.tag.0) where
     abbrev after : Snapshot
@@ -101,13 +111,13 @@ module _ (s : Setting) (m : Memory) (k : Contents) (w : World) (st : Standing s 
     abbrev stays : Fact → Bool
     stays f = not (shares_tag out f)
 
-    goes_on : GoesOn (reached_of k) to.reached
+    goes_on : NeverFalls (reached_of k) to.reached
     unfolding stepped
     goes_on =
-        subst (λ (r : Reached). GoesOn r to.reached) (sym st.seen.whole.mirrors.reached)
-        (subst (GoesOn w.reached) (sym reached) (reaches_on s.program w step st.seen.whole.lawful none))
+        subst (λ (r : Reached). NeverFalls r to.reached) (sym st.seen.whole.mirrors.reached)
+        (subst (NeverFalls w.reached) (sym reached) (reaches_on s.program w step st.seen.whole.lawful none))
 
-    moves : Moves s.program before after out come
+    moves : MovesSnapshot s.program before after out come
     moves = leads_move s.program all behind both k.clock to.clock gone come leads (reached_of k) to.reached goes_on
 
     lawful_step : IsLawfulStep s.program s.lives w step
@@ -139,14 +149,14 @@ module _ (s : Setting) (m : Memory) (k : Contents) (w : World) (st : Standing s 
     -- what comes has a new tag
     none_comes : (f : Fact) → come ≡ Some f → forgotten (name_of f) ≡ false
     none_comes f e =
-        not_true (forgotten (name_of f)) (λ h.
+        false_from_ne_true (forgotten (name_of f)) (λ h.
         let below : f.tag.0 < k.next_tag = st.seen.are.below (name_of f) h in
         let above : k.next_tag ≤ f.tag.0 = new f e in
         absurd (omega (arith, below, above)))
 
     -- a forgotten fact that is there behind the step was there before it
     was_there : (f : Fact) → In f (facts_of behind) → forgotten (name_of f) ≡ true → In f (facts_of all)
-    was_there f i known = elim (of_append f (filter stays (facts_of all)) (option_to_list come) (subst (In f) moves.facts i)) [
+    was_there f i known = elim (In-append f (filter stays (facts_of all)) (option_to_list come) (subst (In f) moves.facts i)) [
       | inl j ↦ of_filter stays f (facts_of all) j
       | inr j ↦ by come refl j
     ]
@@ -159,12 +169,12 @@ module _ (s : Setting) (m : Memory) (k : Contents) (w : World) (st : Standing s 
     -- and what was there is there
     is_there : (f : Fact) → In f (facts_of all) → forgotten (name_of f) ≡ true → In f (facts_of behind)
     is_there f i known =
-        subst (In f) (sym moves.facts) (in_left f (filter stays (facts_of all)) (option_to_list come) (in_filter stays f (facts_of all) (ap not (not_true (shares_tag out f) apart)) i))
+        subst (In f) (sym moves.facts) (in_left f (filter stays (facts_of all)) (option_to_list come) (in_filter stays f (facts_of all) (ap not (false_from_ne_true (shares_tag out f) apart)) i))
       where
         apart : shares_tag out f ≡ true → ⊥
         apart e =
-            let g = passing_one (λ (g : Fact). g.tag.0 == f.tag.0) out e in
-            let tags : g.0.tag ≡ f.tag = ap tag_of (same_number g.0.tag.0 f.tag.0 g.2) in
+            let g = list_any-In (λ (g : Fact). g.tag.0 == f.tag.0) out e in
+            let tags : g.0.tag ≡ f.tag = ap tag_of (eqb-true g.0.tag.0 f.tag.0 g.2) in
             let same : g.0 ≡ f = one_fact (facts_of all) before_distinct g.0 f (moves.held g.0 g.1) i tags in
             absurd (let n : true ≡ false = sym known ∙ ap (λ (x : Fact). forgotten (name_of x)) (sym same) ∙ none_goes g.0 g.1 in cc)
 
@@ -199,7 +209,7 @@ module _ (s : Setting) (m : Memory) (k : Contents) (w : World) (st : Standing s 
             ∙ ap (candidates_of s.program (pattern_of c) before) f.2 ∙ e
 
         same_here : candidates_of s.program (pattern_of c) after who ≡ candidates_of s.program (pattern_of c) before who
-        same_here = same_truth (candidates_of s.program (pattern_of c) after who) (candidates_of s.program (pattern_of c) before who) was_candidate is_candidate_still
+        same_here = same_test (candidates_of s.program (pattern_of c) after who) (candidates_of s.program (pattern_of c) before who) was_candidate is_candidate_still
 
     same_candidates : (rule : Rule) → In rule s.program.rules → (c : Condition) → In c rule.conditions → (who : Named) → forgotten who ≡ true
         → candidates_of s.program (pattern_of c) after who ≡ candidates_of s.program (pattern_of c) before who
@@ -235,19 +245,19 @@ module _ (s : Setting) (m : Memory) (k : Contents) (w : World) (st : Standing s 
 
       meets_none : (who : Named) → forgotten who ≡ true → (candidates_of s.program q after who && joins q (held after) row who) ≡ true → ⊥
       meets_none who known e =
-          let parts = both_of (candidates_of s.program q after who) (joins q (held after) row who) e in
+          let parts = and_parts (candidates_of s.program q after who) (joins q (held after) row who) e in
           let f = candidate_of s.program after after_distinct q who parts.0 in
           let there = of_filter (is_candidate s.program q after) f.0 (facts_of behind) f.1 in
           let known_too : forgotten (name_of f.0) ≡ true = ap forgotten f.2 ∙ known in
           let lost : is_forgotten s.program s.lives w who ≡ true = ap (is_forgotten s.program s.lives w) (sym f.2) ∙ sym (lost_in_world f.0 (was_there f.0 there known_too)) ∙ known_too in
           let joined : joins q (held next) row who ≡ true =
           ap (joins q (held next) row) (sym f.2) ∙ joins_next f.0 there ∙ ap (joins q (held after) row) f.2 ∙ parts.1 in
-          let meets = and_both (candidates_of s.program q next who) (joins q (held next) row who) (sym (after_world q who) ∙ parts.0) joined in
+          let meets = and_from (candidates_of s.program q next who) (joins q (held next) row who) (sym (after_world q who) ∙ parts.0) joined in
           let none_met = row_meets_kept s.program s.lives w step lawful_step rule in_rules place c at_place side (held next) (λ tag g e known. e) row comes who lost in
           absurd (let n : true ≡ false = sym meets ∙ none_met in cc)
 
       counts_none : (who : Named) → forgotten who ≡ true → (candidates_of s.program q after who && joins q (held after) row who) ≡ false
-      counts_none who known = not_true (candidates_of s.program q after who && joins q (held after) row who) (meets_none who known)
+      counts_none who known = false_from_ne_true (candidates_of s.program q after who && joins q (held after) row who) (meets_none who known)
 
     none_counted : (rule : Rule) → In rule s.program.rules → (place : ℕ) (c : Condition) → slice_get rule.conditions place ≡ Some c
         → (row : Row) → rows_of s.program after (take place rule.conditions) row ≡ true → rows_of s.program before (take place rule.conditions) row ≡ false

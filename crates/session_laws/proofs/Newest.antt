@@ -1,14 +1,14 @@
 -- The fact of an id, as a session has it and as the world has it.
-use Rattle.session_laws.proofs.Common.{◌≡◌, ℕ, suc, zero, ◌<◌, ◌≤◌, ◌⊎◌, inl, inr, Bool, true, false, Option, Some, None, refl, sym, ◌∙◌, ap, subst, arith, nat_tests, Tag, Fact, HeldFacts, IsNewest, HoldsNone, is_id, Program, In, World, fact_of, below_of, found_in, one_id, IsNewestTag, IsSafe, newest, Contents}
+use Rattle.session_laws.proofs.Common.{◌≡◌, ℕ, suc, zero, ◌<◌, ◌≤◌, ◌⊎◌, inl, inr, Bool, true, false, Option, Some, None, refl, sym, ◌∙◌, ap, subst, arith}
+use Rattle.session_laws.proofs.Common.{nat_tests, Tag, Fact, HeldFacts, IsNewest, HoldsNone, is_held_with_id, Program, In, World, fact_of, below_of, found_in}
+use Rattle.session_laws.proofs.Common.{one_id, IsNewestTag, IsSafe, newest, Contents}
+use Rattle.std.proofs.lemmas.Bool.{eqb-true}
 use Rattle.std.specs.Prelude.{nat_eq, nat_lt, if◌then◌else◌}
 use Rattle.rule_world.proofs.Found.{fact_in}
 use Rattle.session_laws.specs.Places.{newest_below}
 use Rattle.session_laws.proofs.Exactly.{Exact}
 use Rattle.session_laws.proofs.Members.{Holds, of_versions}
 use Rattle.std.specs.FinMap as map
-
-same_id : (m n : ℕ) → nat_eq m n ≡ true → m ≡ n
-same_id m n e = grind (arith, nat_tests)
 
 other_id : (m n : ℕ) → m ≡ n → nat_eq m n ≡ false → ⊥
 other_id m n e h = grind (arith, nat_tests)
@@ -18,13 +18,13 @@ other_id m n e h = grind (arith, nat_tests)
 module _ (held : HeldFacts) (id : ℕ) where
   module _ (f : Fact) (is : IsNewest held id f) where
     below_more : (tag : ℕ) → (f.tag.0 < tag) ⊎ (f.tag.0 ≡ tag) → (f.tag.0 < tag → newest_below held id tag ≡ Some f) → (o : Option Fact) → map.get held tag ≡ o
-        → (if is_id id o then o else newest_below held id tag) ≡ Some f
+        → (if is_held_with_id id o then o else newest_below held id tag) ≡ Some f
     below_more tag (inl lt) rest None e = rest lt
     below_more tag (inr at) rest None e = absurd (let n : None ≡ Some f = sym e ∙ ap (map.get held) (sym at) ∙ is.found in cc)
     below_more tag at rest (Some g) e = by (nat_eq g.id.0 id) refl at
       where
         by : (b : Bool) → nat_eq g.id.0 id ≡ b → (f.tag.0 < tag) ⊎ (f.tag.0 ≡ tag) → (if b then Some g else newest_below held id tag) ≡ Some f
-        by true h (inl lt) = let le : tag ≤ f.tag.0 = is.greatest tag g e (same_id g.id.0 id h) in absurd (omega arith)
+        by true h (inl lt) = let le : tag ≤ f.tag.0 = is.greatest tag g e (eqb-true g.id.0 id h) in absurd (omega arith)
         by true h (inr here) = sym e ∙ ap (map.get held) (sym here) ∙ is.found
         by false h (inl lt) = rest lt
         by false h (inr here) =
@@ -36,7 +36,7 @@ module _ (held : HeldFacts) (id : ℕ) where
     lower tag lt = by (nat_eq f.tag.0 tag) refl
       where
         by : (b : Bool) → nat_eq f.tag.0 tag ≡ b → (f.tag.0 < tag) ⊎ (f.tag.0 ≡ tag)
-        by true e = inr (same_id f.tag.0 tag e)
+        by true e = inr (eqb-true f.tag.0 tag e)
         by false e = inl (grind (arith, nat_tests))
 
     pub newest_found : (tag : ℕ) → f.tag.0 < tag → newest_below held id tag ≡ Some f
@@ -44,12 +44,12 @@ module _ (held : HeldFacts) (id : ℕ) where
     newest_found zero lt = absurd (omega arith)
     newest_found (suc tag) lt = below_more tag (lower tag lt) (newest_found tag) (map.get held tag) refl
 
-  none_more : (tag : ℕ) → HoldsNone held id → newest_below held id tag ≡ None → (o : Option Fact) → map.get held tag ≡ o → (if is_id id o then o else newest_below held id tag) ≡ None
+  none_more : (tag : ℕ) → HoldsNone held id → newest_below held id tag ≡ None → (o : Option Fact) → map.get held tag ≡ o → (if is_held_with_id id o then o else newest_below held id tag) ≡ None
   none_more tag none rest None e = rest
   none_more tag none rest (Some g) e = by (nat_eq g.id.0 id) refl
     where
       by : (b : Bool) → nat_eq g.id.0 id ≡ b → (if b then Some g else newest_below held id tag) ≡ None
-      by true h = absurd (none tag g e (same_id g.id.0 id h))
+      by true h = absurd (none tag g e (eqb-true g.id.0 id h))
       by false h = rest
 
   pub newest_none : HoldsNone held id → (tag : ℕ) → newest_below held id tag ≡ None

@@ -1,27 +1,23 @@
 -- Old facts by their tags, in a set and in a list, and by their names.
-use Rattle.session_laws.proofs.Common.{◌≡◌, ◌∙◌, sym, ap, refl, subst, inl, inr, ℕ, Bool, true, false, ◌||◌, List, [], ◌∷◌, filter_map, option_map, nat_eq, Option, Some, None, arith, cons_option, list_any, eq_by_cmp, nat_cmp, nat_tests, tells_apart, In, Fact, HeldFacts, itself, tied, Named, name_of, or_left, or_split, has_name, has_tag, same_bool, HaveOwnTags}
+use Rattle.session_laws.proofs.Common.{◌≡◌, ◌∙◌, sym, ap, refl, subst, inl, inr, ℕ, Bool, true, false, ◌||◌, List, [], ◌∷◌, filter_map, option_map, nat_eq}
+use Rattle.session_laws.proofs.Common.{Option, Some, None, cons_option, list_any, eq_by_cmp, nat_cmp, tells_apart, In, Fact, HeldFacts, itself, tied, Named}
+use Rattle.session_laws.proofs.Common.{name_of, or_split, has_name, has_listed_tag, HaveOwnTags}
+use Rattle.std.proofs.lemmas.Bool.{eqb-false, eqb-true, or_left}
 use Rattle.row_delta.specs.NameOrder.{name_cmp, name_equiv, name_exact}
+use Rattle.fx_base.proofs.Orders.{eqb-self}
+use Rattle.fx_base.proofs.Tests.{same_test}
 use Rattle.std.specs.FinMap as map
-
-same_number : (m n : ℕ) → nat_eq m n ≡ true → m ≡ n
-same_number m n e = grind (arith, nat_tests)
-
-other_number : (m n : ℕ) → nat_eq m n ≡ false → m ≡ n → ⊥
-other_number m n e h = grind (arith, nat_tests)
-
-own_number : (n : ℕ) → nat_eq n n ≡ true
-own_number n = grind (arith, nat_tests)
 
 -- ---- tags
 
 same_tag : (a b : ℕ) → nat_eq a b ≡ eq_by_cmp nat_cmp a b
 same_tag a b =
-    same_bool (nat_eq a b) (eq_by_cmp nat_cmp a b)
-    (λ e. subst (λ n. eq_by_cmp nat_cmp a n ≡ true) (same_number a b e) (itself a))
-    (λ e. subst (λ n. nat_eq a n ≡ true) (tied a b e) (own_number a))
+    same_test (nat_eq a b) (eq_by_cmp nat_cmp a b)
+    (λ e. subst (λ n. eq_by_cmp nat_cmp a n ≡ true) (eqb-true a b e) (itself a))
+    (λ e. subst (λ n. nat_eq a n ≡ true) (tied a b e) (eqb-self a))
 
 -- the tags of a set in a list
-pub same_tags : (tag : ℕ) (tags : List ℕ) → list_any (nat_eq tag) tags ≡ has_tag tags tag
+pub same_tags : (tag : ℕ) (tags : List ℕ) → list_any (nat_eq tag) tags ≡ has_listed_tag tags tag
 same_tags tag [] = refl
 same_tags tag (t ∷ tags) = ap (λ b. b || list_any (nat_eq tag) tags) (same_tag tag t) ∙ ap (λ b. eq_by_cmp nat_cmp tag t || b) (same_tags tag tags)
 
@@ -53,7 +49,7 @@ module _ (store : HeldFacts) where
         by false e = refl
         by true e =
             let same : name_of f ≡ name_of g = tells_apart name_exact (name_of f) (name_of g) e in
-            absurd (other_number f.tag.0 tag apart (ap (λ (n : Named). n.tag.0) same ∙ own tag g is))
+            absurd (eqb-false f.tag.0 tag apart (ap (λ (n : Named). n.tag.0) same ∙ own tag g is))
 
     -- the name of a fact is one of those of some tags where its tag is one of them
     pub named_old : (tags : List ℕ) → has_name (filter_map named_at tags) (name_of f) ≡ list_any (nat_eq f.tag.0) tags
@@ -62,9 +58,9 @@ module _ (store : HeldFacts) where
       where
         by : (b : Bool) → nat_eq f.tag.0 tag ≡ b → (o : Option Fact) → map.get store tag ≡ o → has_name (filter_map named_at tags) (name_of f) ≡ list_any (nat_eq f.tag.0) tags
             → has_name (cons_option (option_map name_of o) (filter_map named_at tags)) (name_of f) ≡ (b || list_any (nat_eq f.tag.0) tags)
-        by true e None is rest = absurd (let n : None ≡ Some f = sym is ∙ ap (map.get store) (sym (same_number f.tag.0 tag e)) ∙ there in cc)
+        by true e None is rest = absurd (let n : None ≡ Some f = sym is ∙ ap (map.get store) (sym (eqb-true f.tag.0 tag e)) ∙ there in cc)
         by true e (Some g) is rest =
-            let s : Some f ≡ Some g = sym there ∙ ap (map.get store) (same_number f.tag.0 tag e) ∙ is in
+            let s : Some f ≡ Some g = sym there ∙ ap (map.get store) (eqb-true f.tag.0 tag e) ∙ is in
             let same : f ≡ g = cc in
             or_left (eq_by_cmp name_cmp (name_of f) (name_of g)) (has_name (filter_map named_at tags) (name_of f))
             (subst (λ (z : Fact). eq_by_cmp name_cmp (name_of f) (name_of z) ≡ true) same (name_equiv.refl (name_of f)))

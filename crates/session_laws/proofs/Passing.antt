@@ -1,5 +1,12 @@
 -- What a session has taken where its clock moves on.
-use Rattle.session_laws.proofs.Common.{◌≡◌, ◌∙◌, ◌≤ℤ◌, ◌||◌, inl, not, ℕ, ℤ, Bool, true, false, cond, nat_eq, List, Some, None, slice_get, if◌then◌else◌, refl, sym, ap, subst, arith, get-retain_keys, list_any, is_eq, nat_tests, In, Fact, Timers, TakesDue, has_come, HeldFacts, facts_of, tied, Named, Row, Program, Rule, Step, At, is_present, rows, IsLawful, World, at_clock, only_present, present, settled, step_fault, Marks, rows_of, cleaned, NetStands, clean_rows, Rete, has_clean, Covers, ends_by, ends_of, is_kept_fact, is_needed, only, HasLeft, brought, changed, comes, fact_at, goes, sight_of, expired_endless, endless_covers, some_in, own_at, Memory, Setting, Leads, LeadsOn, instant_of, over, IsRefreshed, Awaits, Contents, Mirrors, Runs, Standing, expiry_at, holding, with_facts, reached_of, left_at, Reached}
+use Rattle.session_laws.proofs.Common.{◌≡◌, ◌∙◌, ◌≤ℤ◌, ◌||◌, inl, not, ℕ, ℤ, Bool, true, false, cond, nat_eq, List, Some, None, slice_get, if◌then◌else◌, refl}
+use Rattle.session_laws.proofs.Common.{sym, ap, subst, get-retain_keys, list_any, is_eq, In, Fact, Timers, TakesDue, has_come, HeldFacts, facts_of, tied, Named}
+use Rattle.session_laws.proofs.Common.{Row, Program, Rule, Step, At, is_present, rows, IsLawful, World, world_at_clock, only_present, present, settled}
+use Rattle.session_laws.proofs.Common.{step_fault, Marks, rows_of, cleaned, NetStands, clean_rows, Rete, has_clean, Covers, ends_by, ends_of, is_kept_fact}
+use Rattle.session_laws.proofs.Common.{is_needed, only, HasLeft, brought, changed, comes, fact_at, goes, sight_of, expired_endless, endless_covers, some_in}
+use Rattle.session_laws.proofs.Common.{own_at, Memory, Setting, LeadsStep, LeadsOn, instant_of, over, IsRefreshed, Awaits, Contents, Mirrors, Runs, Standing}
+use Rattle.session_laws.proofs.Common.{expiry_at, holding, with_facts, reached_of, fact_left_at, Reached}
+use Rattle.std.proofs.lemmas.Bool.{not-true}
 use Rattle.std.specs.FinMap as map
 use Rattle.rule_world.specs.Worlds.{moved, stepped}
 use Rattle.session_laws.proofs.Exactly.{after_clock}
@@ -9,13 +16,14 @@ use Rattle.session_laws.proofs.Rules.{not_refreshed}
 use Rattle.session_laws.proofs.Stands.{clock_moves, contents}
 use Rattle.session_laws.proofs.Taken.{taken_awaits}
 use Rattle.session_laws.proofs.Timers.{come_is_absent}
+use Rattle.fx_base.proofs.Orders.{eqb-self}
 
 -- ---- the facts that are left
 
 abbrev pub remaining : HeldFacts → List ℕ → HeldFacts
 remaining facts gone = map.retain_keys facts (λ tag. not (list_any (nat_eq tag) gone))
 
-pub remaining_is : (facts : HeldFacts) (gone : List ℕ) (tag : ℕ) → map.get (remaining facts gone) tag ≡ left_at facts gone tag
+pub remaining_is : (facts : HeldFacts) (gone : List ℕ) (tag : ℕ) → map.get (remaining facts gone) tag ≡ fact_left_at facts gone tag
 remaining_is facts gone tag =
     get-retain_keys facts (λ key. not (list_any (nat_eq key) gone)) tag (λ x e. ap (λ key. not (list_any (nat_eq key) gone)) (sym (tied tag x (ap is_eq e))))
     ∙ by (list_any (nat_eq tag) gone)
@@ -24,22 +32,15 @@ remaining_is facts gone tag =
     by true = refl
     by false = refl
 
-its_own : (n : ℕ) → nat_eq n n ≡ true
-its_own n = grind (arith, nat_tests)
-
 absent_by : (b c : Bool) → b ≡ not c → b ≡ true → c ≡ false
 absent_by b true e h = absurd (let n : false ≡ true = sym e ∙ h in cc)
 absent_by b false e h = refl
-
-not_there : (c : Bool) → not c ≡ true → c ≡ false
-not_there true e = absurd (let n : false ≡ true = e in cc)
-not_there false e = refl
 
 -- ---- the clock
 
 module _ (s : Setting) (m : Memory) (k : Contents) (w : World) (st : Standing s m k w) (runs : Runs s) (clock : ℤ) (le : k.clock ≤ℤ clock) (none : step_fault s.program w (At clock) ≡ None)
     (lawful : IsLawful s.program (stepped s.program w (At clock))) (later : Timers) (due : List ℕ) (takes : TakesDue clock k.expiries later due) (others : HeldFacts)
-    (left : (tag : ℕ) → map.get others tag ≡ left_at k.facts due tag) (behind : HeldFacts) (out : (tag : ℕ) → map.get behind tag ≡ left_at st.seen.all due tag) (b : Marks) where
+    (left : (tag : ℕ) → map.get others tag ≡ fact_left_at k.facts due tag) (behind : HeldFacts) (out : (tag : ℕ) → map.get behind tag ≡ fact_left_at st.seen.all due tag) (b : Marks) where
   abbrev p : Program
   p = s.program
 
@@ -55,14 +56,14 @@ module _ (s : Setting) (m : Memory) (k : Contents) (w : World) (st : Standing s 
   passes : w.clock ≤ℤ clock
   passes = subst (λ z. z ≤ℤ clock) st.seen.whole.mirrors.clock le
 
-  kept_is : only_present p (stepped p w step) ≡ settled p (only_present p (at_clock (only_present p w) clock))
+  kept_is : only_present p (stepped p w step) ≡ settled p (only_present p (world_at_clock (only_present p w) clock))
   unfolding stepped moved
   kept_is = after_clock p w clock passes
 
   later_mirrors : Mirrors p (with_facts t behind) (only_present p (stepped p w step))
   later_mirrors = subst (Mirrors p (with_facts t behind)) (sym kept_is) (clock_moves p (with_facts k all) (only_present p w) clock (world_exact s m k w st) later due takes behind out b)
 
-  pub later_leads : Leads p all k.clock behind clock all due None
+  pub later_leads : LeadsStep p all k.clock behind clock all due None
   later_leads = lead_later p all k.expiries k.clock (world_ready s m k w st) clock later due takes behind out le
 
   -- what is due is not present any more
@@ -74,7 +75,7 @@ module _ (s : Setting) (m : Memory) (k : Contents) (w : World) (st : Standing s 
   due_there tag i =
       let there = later_leads.held tag i in
       let f = there.0 in
-      let absent : is_present p clock f ≡ false = absent_by (list_any (nat_eq tag) due) (is_present p clock f) (due_is tag f there.1) (some_in (nat_eq tag) tag due i (its_own tag)) in
+      let absent : is_present p clock f ≡ false = absent_by (list_any (nat_eq tag) due) (is_present p clock f) (due_is tag f there.1) (some_in (nat_eq tag) tag due i (eqb-self tag)) in
       let endless = expired_endless p s.lives clock f runs.table.safe absent in
       let r = (world_holds s m k w st).to tag f there.1 in
       let seen : fact_at (present p w) tag ≡ Some f = ap (fact_at (present p w)) (sym r.1) ∙ own_at (present p w) (world_exact s m k w st).lawful.ordered.tags f r.0 in
@@ -93,7 +94,7 @@ module _ (s : Setting) (m : Memory) (k : Contents) (w : World) (st : Standing s 
   later_covered =
       endless_covers (ends_by s.lives) None (goes p w step) clock (holding k m.retention) (holding t m.retention) (covered_at s m k w st clock passes)
       (λ tag f e. absurd (let n : None ≡ Some f = e in cc))
-      (λ tag f e h. expired_endless p s.lives clock f runs.table.safe (not_there (is_present p clock f) h)) later_store refl
+      (λ tag f e h. expired_endless p s.lives clock f runs.table.safe (not-true (is_present p clock f) h)) later_store refl
 
   pub later_awaits : (net : Rete) (gone : ℕ → Bool) → NetStands p net (over (facts_of behind) clock (reached_of k)) st.seen.forgotten
       → IsRefreshed p.rules (clean_rows p (over (facts_of all) k.clock (reached_of k)) st.seen.forgotten) (clean_rows p (over (facts_of behind) clock (reached_of k)) st.seen.forgotten) k.agenda b

@@ -1,5 +1,8 @@
 -- What the first phase of a step leaves, and what it asks of the facts that are forgotten.
-use Rattle.session_laws.proofs.Common.{◌≡◌, ◌≤◌, ◌⊎◌, ℕ, Bool, true, List, filter_map, Option, Some, None, In, Fact, HeldFacts, facts_of, tag_of, Step, World, present, stepped, step_fault, AreNotNeeded, NetStands, clean_rows, lingers, Covers, ends_by, ends_of, HasLeft, brought, changed, comes, goes, Memory, Setting, Instant, Leads, facts_at, version_of, over, IsRefreshed, Contents, AreForgotten, Awaits, Runs, Standing, Whole, with_facts, reached_of}
+use Rattle.session_laws.proofs.Common.{◌≡◌, ◌≤◌, ◌⊎◌, ℕ, Bool, true, List, filter_map, Option, Some, None, In, Fact, HeldFacts, facts_of, tag_of, Step, World}
+use Rattle.session_laws.proofs.Common.{present, stepped, step_fault, AreNotNeeded, NetStands, clean_rows, lingers, Covers, ends_by, ends_of, HasLeft, brought}
+use Rattle.session_laws.proofs.Common.{changed, comes, goes, Memory, Setting, Instant, LeadsStep, facts_at, version_of, over, IsRefreshed, Contents}
+use Rattle.session_laws.proofs.Common.{AreForgotten, Awaits, Runs, Standing, Whole, with_facts, reached_of}
 use Rattle.std.specs.FinMap as map
 
 -- the parts of a session behind the first phase of a step, which did not change what is forgotten
@@ -24,7 +27,7 @@ TakenAwaits = (s : Setting) (m : Memory) (k : Contents) (w : World) (st : Standi
 -- in a step of a world no rule needs a forgotten fact
 abbrev pub NotNeeded : Type 0
 NotNeeded = (s : Setting) (m : Memory) (k : Contents) (w : World) (st : Standing s m k w) (step : Step) → Runs s → step_fault s.program w step ≡ None
-    → (behind : HeldFacts) (to : Instant) (both : HeldFacts) (gone : List ℕ) (come : Option Fact) → Leads s.program st.seen.all k.clock behind to.clock both gone come
+    → (behind : HeldFacts) (to : Instant) (both : HeldFacts) (gone : List ℕ) (come : Option Fact) → LeadsStep s.program st.seen.all k.clock behind to.clock both gone come
     → ((tag : ℕ) → map.get behind tag ≡ version_of (present s.program (stepped s.program w step)) (tag_of tag)) → to.clock ≡ (stepped s.program w step).clock → to.reached ≡ (stepped s.program w step).reached
     → ((tag : ℕ) → In tag gone → (f : Fact) × (map.get k.facts tag ≡ Some f)) → ((f : Fact) → come ≡ Some f → k.next_tag ≤ f.tag.0)
     → AreNotNeeded s.program st.seen.forgotten (over (facts_of st.seen.all) k.clock (reached_of k)) (facts_at behind to) (filter_map (map.get both) gone) come

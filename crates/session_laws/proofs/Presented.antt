@@ -1,14 +1,17 @@
 -- What conditions count of forgotten facts among the present facts of a world, which a map has, is what they count in the world.
-use Rattle.session_laws.proofs.Common.{◌≡◌, ◌∙◌, ◌||◌, not, ℕ, ℤ, Bool, true, List, [], ◌∷◌, length, inl, inr, refl, sym, ap, subst, take, filter, list_any, In, EachOnce, Fact, Extra, Named, Row, HeldFacts, facts_of, tag_of, Condition, Negated, Existing, Folded, Pattern, Program, is_candidate, candidates, HaveDistinctTags, argument, pattern_of, rows, Reached, Snapshot, empty_tuple, name_of, of_filter, made_of, named_of, once_filter, Same, in_filter, passed, same_length, same_values, World, snapshot, present, joins, clean, held, rows_of, has_in, tuple_of_row, held_all, held_fact, joins_of_tuple, version_of, over}
+use Rattle.session_laws.proofs.Common.{◌≡◌, ◌∙◌, ◌||◌, not, ℕ, ℤ, Bool, true, List, [], ◌∷◌, length, inl, inr, refl, sym, ap, subst, take, filter, list_any, In}
+use Rattle.session_laws.proofs.Common.{EachOnce, Fact, Extra, Named, Row, HeldFacts, facts_of, tag_of, Condition, Negated, Existing, Folded, Pattern, Program}
+use Rattle.session_laws.proofs.Common.{is_candidate, candidates, HaveDistinctTags, argument, pattern_of, rows, Reached, Snapshot, empty_tuple, name_of}
+use Rattle.session_laws.proofs.Common.{of_filter, made_of, named_of, once_filter, Same, in_filter, passed, same_length, same_values, World, snapshot, present}
+use Rattle.session_laws.proofs.Common.{joins, clean, held, rows_of, has_in, tuple_of_row, held_all, held_fact, joins_of_tuple, version_of, over}
 use Rattle.std.proofs.Common.{map as list_map}
 use Rattle.std.specs.FinMap as map
 use Rattle.fold_fn.proofs.Rising.{rising_same}
 use Rattle.rule_model.specs.declared.condition.Condition.TheVariants.{Plain}
 use Rattle.rule_model.proofs.Grown.{tuples_grow}
 use Rattle.condition_rows.specs.Sets.{partners}
-use Rattle.condition_node.specs.Loading.{lost_partners, values_gathered}
-use Rattle.condition_node.proofs.Folding.{partners_once}
-use Rattle.image_laws.specs.Extras.{AreExtras, IsExtraIn}
+use Rattle.laden_rows.specs.Extras.{lost_partners, values_gathered, AreExtras, IsExtraIn}
+use Rattle.condition_rows.proofs.Partners.{partners_once}
 use Rattle.session_laws.proofs.Needing.{distinct_here, here_candidates, of_world, world_rows}
 
 any_same : (a b : Named → Bool) (names : List Named) → ((n : Named) → In n names → a n ≡ b n) → list_any a names ≡ list_any b names

@@ -1,5 +1,7 @@
 -- A session that has taken a promise awaits the second phase of the step.
-use Rattle.session_laws.proofs.Common.{◌≡◌, ◌≤◌, ◌∙◌, ℕ, ℤ, Bool, List, [], None, refl, sym, ap, subst, arith, fun_ext, EntryId, Program, Step, Promise, Reached, IsLawful, World, only_present, promise_with, step_fault, Marks, HasLeft, Memory, Setting, instant_of, Contents, Awaits, Mirrors, Runs, Standing, with_facts, Course, reached_by, moment_in}
+use Rattle.session_laws.proofs.Common.{◌≡◌, ◌≤◌, ◌∙◌, ℕ, ℤ, Bool, List, [], None, refl, sym, ap, subst, arith, fun_ext, EntryId, Program, Step, Promise}
+use Rattle.session_laws.proofs.Common.{Reached, IsLawful, World, only_present, promise_with, step_fault, Marks, HasLeft, Memory, Setting, instant_of, Contents}
+use Rattle.session_laws.proofs.Common.{Awaits, Mirrors, Runs, Standing, with_facts, Course, reached_by, moment_in}
 use Rattle.rule_world.specs.Worlds.{stepped, moved}
 use Rattle.session_laws.proofs.Exactly.{after_promise}
 use Rattle.session_laws.proofs.Stands.{contents}

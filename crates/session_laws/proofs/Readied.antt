@@ -1,12 +1,11 @@
 -- The contents of a session with all present facts of its world are ready for its network.
-use Rattle.session_laws.proofs.Common.{ℤ, ◌≤ℤ◌, sym, subst, arith, ints, In, Fact, Program, is_present, of_filter, passed, IsLawful, World, present, only_present, IsReady, Contents, Whole}
+use Rattle.session_laws.proofs.Common.{◌≤ℤ◌, sym, subst, In, Fact, Program, is_present, of_filter, passed, IsLawful, World, present, only_present, IsReady}
+use Rattle.session_laws.proofs.Common.{Contents, Whole}
 use Rattle.session_laws.proofs.Exactly.{exact}
 use Rattle.session_laws.proofs.Members.{Holds, own_tags}
 use Rattle.session_laws.proofs.Newest.{holds}
 use Rattle.session_laws.proofs.Ready.{IsFit, kept_of}
-
-between : (a b c : ℤ) → a ≤ℤ b → b ≤ℤ c → a ≤ℤ c
-between a b c ab bc = omega (arith, ints)
+use Rattle.fx_base.proofs.Orders.{≤ℤ_trans}
 
 -- a present fact of a lawful world is as the network wants it
 pub fit_present : (p : Program) (w : World) → IsLawful p w → (f : Fact) → In f (present p w) → IsFit p w.clock f
@@ -15,7 +14,7 @@ fit_present p w lawful f i =
     record {
       present = passed (is_present p w.clock) f w.facts i;
       low = λ e. (sound.timed e).from_zero;
-      high = λ e. between _ _ _ (sound.timed e).to_clock lawful.clock_high;
+      high = λ e. ≤ℤ_trans _ _ _ (sound.timed e).to_clock lawful.clock_high;
     }
 
 module _ (p : Program) (k : Contents) (w : World) (whole : Whole p k w) where

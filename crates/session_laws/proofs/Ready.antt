@@ -1,10 +1,16 @@
 -- A session stays ready for its network, and its steps are those that the network takes.
-use Rattle.session_laws.proofs.Common.{◌≡◌, ◌∙◌, ◌⊎◌, inl, inr, ℕ, ℤ, pos, ◌<◌, ◌≤◌, ◌≤ℤ◌, ◌-ℤ◌, ◌||◌, not, Bool, true, false, nat_eq, nat_lt, List, [], ◌∷◌, Option, Some, None, refl, sym, ap, subst, arith, get-empty, list_any, nat_cmp, nat_tests, ints, In, Fact, Timers, TakesDue, has_come, is_due, HeldFacts, from_list, from_map, tags_rise, Program, is_within, is_event, expiry_of, end_of_presence, most_millis, IsOrderly, IsReady, Leads, expiry_at, with_timer, without_timer, left_at, HaveOwnTags}
+use Rattle.session_laws.proofs.Common.{◌≡◌, ◌∙◌, ◌⊎◌, inl, inr, ℕ, ℤ, pos, ◌<◌, ◌≤◌, ◌≤ℤ◌, ◌-ℤ◌, ◌||◌, not, true, false, nat_eq, List, [], ◌∷◌, Option, Some}
+use Rattle.session_laws.proofs.Common.{None, refl, sym, ap, subst, list_any, In, Fact, Timers, TakesDue, has_come, is_due, HeldFacts, from_list, from_map}
+use Rattle.session_laws.proofs.Common.{tags_rise, Program, is_within, is_event, expiry_of, most_millis, IsOrderly, IsReady, LeadsStep, expiry_at, fact_left_at}
+use Rattle.session_laws.proofs.Common.{HaveOwnTags}
+use Rattle.std.specs.Int.Signed.{≤ℤ_refl}
+use Rattle.std.proofs.lemmas.Bool.{or_right}
 use Rattle.rule_model.specs.Candidates.{is_present}
-use Rattle.session_laws.specs.Following.{at_clock}
+use Rattle.session_laws.specs.Following.{facts_at_clock}
 use Rattle.session_laws.proofs.Leaving.{due_once, one_gone}
-use Rattle.session_laws.proofs.Members.{of_insert, of_remove, swapped}
-use Rattle.session_laws.proofs.Timers.{left_found, timed_left, timed_less, timed_new, timed_plain}
+use Rattle.session_laws.proofs.Members.{of_insert, of_remove}
+use Rattle.session_laws.proofs.Timers.{left_found}
+use Rattle.fx_base.proofs.Orders.{eqb-self}
 use Rattle.std.specs.FinMap as map
 
 -- a fact as the network wants it
@@ -14,7 +20,7 @@ pub record IsFit (p : Program) (clock : ℤ) (f : Fact) : Type 0 where
   pub high : is_event p f.ty.0 ≡ true → f.times.start ≤ℤ most_millis
 
 -- facts that are fit, each at its own tag
-pub kept_of : (p : Program) (held : HeldFacts) (clock : ℤ) → HaveOwnTags held → ((tag : ℕ) (f : Fact) → map.get held tag ≡ Some f → IsFit p clock f) → IsOrderly p (at_clock held clock)
+pub kept_of : (p : Program) (held : HeldFacts) (clock : ℤ) → HaveOwnTags held → ((tag : ℕ) (f : Fact) → map.get held tag ≡ Some f → IsFit p clock f) → IsOrderly p (facts_at_clock held clock)
 kept_of p held clock own fit = record {
   in_order = tags_rise held own;
   present = λ f i. let r = from_list held f i in (fit r.0 f r.1).present;
@@ -31,20 +37,10 @@ fit_plain p clock f plain = record {
   high = λ e. absurd (let n : false ≡ true = sym plain ∙ e in cc);
 }
 
-same_clock : (clock : ℤ) → clock ≤ℤ clock
-same_clock clock = grind (arith, ints)
-
-its_own : (n : ℕ) → nat_eq n n ≡ true
-its_own n = grind (arith, nat_tests)
-
-or_true : (a b : Bool) → b ≡ true → (a || b) ≡ true
-or_true true b e = refl
-or_true false b e = e
-
 in_any : (n : ℕ) (tags : List ℕ) → In n tags → list_any (nat_eq n) tags ≡ true
 in_any n [] i = absurd i
-in_any n (tag ∷ tags) (inl e) = ap (λ m. nat_eq n m || list_any (nat_eq n) tags) (sym e) ∙ ap (λ b. b || list_any (nat_eq n) tags) (its_own n)
-in_any n (tag ∷ tags) (inr i) = or_true (nat_eq n tag) (list_any (nat_eq n) tags) (in_any n tags i)
+in_any n (tag ∷ tags) (inl e) = ap (λ m. nat_eq n m || list_any (nat_eq n) tags) (sym e) ∙ ap (λ b. b || list_any (nat_eq n) tags) (eqb-self n)
+in_any n (tag ∷ tags) (inr i) = or_right (nat_eq n tag) (list_any (nat_eq n) tags) (in_any n tags i)
 
 module _ (p : Program) (facts : HeldFacts) (timers : Timers) (clock : ℤ) (r : IsReady p facts timers clock) where
   fit_of : (tag : ℕ) (f : Fact) → map.get facts tag ≡ Some f → IsFit p clock f
@@ -64,9 +60,9 @@ module _ (p : Program) (facts : HeldFacts) (timers : Timers) (clock : ℤ) (r : 
     fit_more : (tag : ℕ) (g : Fact) → map.get more tag ≡ Some g → IsFit p clock g
     fit_more tag g e = elim (of_more tag g e) [ inl q ↦ subst (IsFit p clock) (sym q.0) fit | inr h ↦ fit_of tag g h ]
 
-    pub lead_new : ((tag : ℕ) (g : Fact) → map.get facts tag ≡ Some g → tag < f.tag.0) → Leads p facts clock more clock more [] (Some f)
+    pub lead_new : ((tag : ℕ) (g : Fact) → map.get facts tag ≡ Some g → tag < f.tag.0) → LeadsStep p facts clock more clock more [] (Some f)
     lead_new above = record {
-      later = same_clock clock;
+      later = ≤ℤ_refl clock;
       kept_before = r.kept;
       kept_behind = kept_of p more clock own_more fit_more;
       own = own_more;
@@ -82,9 +78,9 @@ module _ (p : Program) (facts : HeldFacts) (timers : Timers) (clock : ℤ) (r : 
     was : (tag : ℕ) (g : Fact) → map.get less tag ≡ Some g → map.get facts tag ≡ Some g
     was tag g e = of_remove facts g out tag (ap (λ m. map.get m tag) (sym made) ∙ e)
 
-    pub lead_less : (f : Fact) → map.get facts out ≡ Some f → Leads p facts clock less clock facts (out ∷ []) None
+    pub lead_less : (f : Fact) → map.get facts out ≡ Some f → LeadsStep p facts clock less clock facts (out ∷ []) None
     lead_less f there = record {
-      later = same_clock clock;
+      later = ≤ℤ_refl clock;
       kept_before = r.kept;
       kept_behind = kept_of p less clock (λ tag g e. r.own tag g (was tag g e)) (λ tag g e. fit_of tag g (was tag g e));
       own = r.own;
@@ -104,12 +100,12 @@ module _ (p : Program) (facts : HeldFacts) (timers : Timers) (clock : ℤ) (r : 
     own_all : HaveOwnTags all
     own_all = own_more g (fit_plain p clock g plain) all made
 
-    kept_revised : IsOrderly p (at_clock behind clock)
+    kept_revised : IsOrderly p (facts_at_clock behind clock)
     kept_revised = kept_of p behind clock (λ tag x e. own_all tag x (of_behind tag x e)) (λ tag x e. fit_more g (fit_plain p clock g plain) all made tag x (of_behind tag x e))
 
-    pub lead_revised : ((tag : ℕ) (x : Fact) → map.get facts tag ≡ Some x → tag < g.tag.0) → Leads p facts clock behind clock all (out ∷ []) (Some g)
+    pub lead_revised : ((tag : ℕ) (x : Fact) → map.get facts tag ≡ Some x → tag < g.tag.0) → LeadsStep p facts clock behind clock all (out ∷ []) (Some g)
     lead_revised above = record {
-      later = same_clock clock;
+      later = ≤ℤ_refl clock;
       kept_before = r.kept;
       kept_behind = kept_revised;
       own = own_all;
@@ -121,14 +117,14 @@ module _ (p : Program) (facts : HeldFacts) (timers : Timers) (clock : ℤ) (r : 
 
   -- ---- a later clock
 
-  module _ (next : ℤ) (later : Timers) (gone : List ℕ) (takes : TakesDue next timers later gone) (fewer : HeldFacts) (left : (tag : ℕ) → map.get fewer tag ≡ left_at facts gone tag) where
+  module _ (next : ℤ) (later : Timers) (gone : List ℕ) (takes : TakesDue next timers later gone) (fewer : HeldFacts) (left : (tag : ℕ) → map.get fewer tag ≡ fact_left_at facts gone tag) where
     stays : (tag : ℕ) (g : Fact) → map.get fewer tag ≡ Some g → (map.get facts tag ≡ Some g) × (is_present p next g ≡ true)
     stays tag g e = left_found p facts timers r.waits next later gone takes tag g (sym (left tag) ∙ e)
 
     own_left : HaveOwnTags fewer
     own_left tag g e = r.own tag g (stays tag g e).0
 
-    kept_left : IsOrderly p (at_clock fewer next)
+    kept_left : IsOrderly p (facts_at_clock fewer next)
     kept_left = kept_of p fewer next own_left (λ tag g e. let s = stays tag g e in let fit = fit_of tag g s.0 in record { present = s.1; low = fit.low; high = fit.high })
 
     due_there : (tag : ℕ) → In tag gone → (f : Fact) × (map.get facts tag ≡ Some f)
@@ -141,7 +137,7 @@ module _ (p : Program) (facts : HeldFacts) (timers : Timers) (clock : ℤ) (r : 
         by None e = absurd (let n : false ≡ true = sym (ap (has_come next) (r.waits tag ∙ ap (expiry_at p) e)) ∙ due in cc)
         by (Some f) e = (f, e)
 
-    pub lead_later : clock ≤ℤ next → Leads p facts clock fewer next facts gone None
+    pub lead_later : clock ≤ℤ next → LeadsStep p facts clock fewer next facts gone None
     lead_later le = record {
       later = le;
       kept_before = r.kept;

@@ -1,5 +1,14 @@
 -- What asks the rows over the facts of an image that fits by plain tests, as it is told while a session is made from it.
-use Rattle.session_laws.proofs.Common.{◌≡◌, ◌∙◌, ◌&&◌, ◌||◌, ◌==◌, not, ℕ, zero, suc, ◌<◌, ℤ, pos, ◌+ℤ◌, Bool, true, false, inl, inr, List, [], ◌∷◌, length, Option, Some, None, refl, sym, ap, subst, arith, int_le, option_and_then, nat_tests, ints, tells_apart, slice_get_within, In, Fact, Extra, Named, Row, row_exact, FiredMatch, Image, has_come, HeldFacts, tag_of, Condition, Negated, Existing, Folded, Life, Plain, Explicit, Finite, Infinite, LifeTable, Match, Program, Rule, is_candidate, is_present, HaveDistinctTags, has_match, Snapshot, name_of, both, both_of, of_append, of_filter, one_fact, joins, joined, held, candidates_of, has_partner, candidate_of, is_alive, passing_one, some_passes, match_fired, has_fired, snapshot_of, laden_gives, laden_line, laden_with, extra_at, FitsPlainly, FitsByRows, Marks, names_tag, is_named, Ends, is_old, end_of_life, ends_by, ends_of, witness, IsThere, stored, AreMarked, laden_by, is_laden}
+use Rattle.session_laws.proofs.Common.{◌≡◌, ◌∙◌, ◌&&◌, ◌||◌, ◌==◌, not, ℕ, zero, suc, ◌<◌, ℤ, pos, ◌+ℤ◌, Bool, true, false, inl, inr, List, [], ◌∷◌, length}
+use Rattle.session_laws.proofs.Common.{Option, Some, None, refl, sym, ap, subst, arith, int_le, option_and_then, ints, tells_apart, slice_get_within, In, Fact}
+use Rattle.session_laws.proofs.Common.{Extra, Named, Row, row_exact, FiredMatch, Image, has_come, HeldFacts, tag_of, Condition, Negated, Existing, Folded, Life}
+use Rattle.session_laws.proofs.Common.{Plain, Explicit, Finite, Infinite, LifeTable, Match, Program, Rule, is_candidate, is_present, HaveDistinctTags}
+use Rattle.session_laws.proofs.Common.{has_match, Snapshot, name_of, of_filter, one_fact, joins, joined, held, candidates_of, has_partner, candidate_of}
+use Rattle.session_laws.proofs.Common.{is_alive, match_fired, has_fired, snapshot_of, laden_gives, laden_line, laden_with, extra_at, FitsPlainly, FitsByRows}
+use Rattle.session_laws.proofs.Common.{Marks, names_tag, is_named, Ends, is_old, end_of_life, ends_by, ends_of, witness, IsThere, stored, AreMarked, laden_by}
+use Rattle.session_laws.proofs.Common.{is_laden}
+use Rattle.fx_base.proofs.Sequences.{list_any-In, list_any-from, In-append}
+use Rattle.std.proofs.lemmas.Bool.{and_from, and_parts, eq-eqb, eqb-true, not-true}
 use Rattle.std.specs.Prelude.{slice_get}
 use Rattle.std.specs.FinMap as map_of
 use Rattle.std.specs.Option.{is_some}
@@ -7,21 +16,11 @@ use Rattle.rule_model.specs.declared.condition.Condition.TheVariants.{Plain as p
 use Rattle.pair_memory.proofs.Joining.{joined_with, joined_from}
 use Rattle.pair_memory.proofs.Valued.{valued_from}
 use Rattle.condition_rows.specs.Lines.{is_ripe, empty_row}
-use Rattle.image_laws.specs.Fitting.{IsLaden, IsLadenMatch, IsNeeded}
-use Rattle.image_laws.specs.Laden.{values_of, laden}
+use Rattle.image_laws.specs.Fitting.{IsLadenRow, IsLadenMatch, IsNeeded}
+use Rattle.laden_rows.specs.Laden.{extra_values_of, laden}
 use Rattle.forgetting.proofs.Naming.{found}
 use Rattle.session_laws.proofs.Members.{Holds}
 use Rattle.session_laws.proofs.Storing.{stored_holds}
-
-not_so : (b : Bool) → not b ≡ true → b ≡ false
-not_so true e = sym e
-not_so false e = refl
-
-number_of : (a b : ℕ) → (a == b) ≡ true → a ≡ b
-number_of a b e = grind (arith, nat_tests)
-
-is_number : (a b : ℕ) → a ≡ b → (a == b) ≡ true
-is_number a b e = grind (arith, nat_tests)
 
 -- ---- laden rows name facts of the snapshot
 
@@ -33,19 +32,19 @@ module _ (p : Program) (s : Snapshot) (d : HaveDistinctTags s.facts) where
   line_named beyond (plain_condition q) left h row e who i =
       let r = joined_from (joins q (held s)) left (candidates_of p q s) row e in
       let holds = sym (joined_with (joins q (held s)) left (candidates_of p q s) r.0 r.1) ∙ ap (joined (joins q (held s)) left (candidates_of p q s)) (sym r.2) ∙ e in
-      let a = both_of (left r.0) (candidates_of p q s r.1 && joins q (held s) r.0 r.1) holds in
-      let b = both_of (candidates_of p q s r.1) (joins q (held s) r.0 r.1) a.1 in
+      let a = and_parts (left r.0) (candidates_of p q s r.1 && joins q (held s) r.0 r.1) holds in
+      let b = and_parts (candidates_of p q s r.1) (joins q (held s) r.0 r.1) a.1 in
       let f = candidate_of p s d q r.1 b.0 in
-      elim (of_append who r.0.facts (r.1 ∷ []) (subst (λ (z : Row). In who z.facts) r.2 i)) [
+      elim (In-append who r.0.facts (r.1 ∷ []) (subst (λ (z : Row). In who z.facts) r.2 i)) [
         | inl j ↦ h r.0 a.0 who j
         | inr (inl same) ↦ (f.0, of_filter (is_candidate p q s) f.0 s.facts f.1, f.2 ∙ sym same)
         | inr (inr j) ↦ absurd j
       ]
-  line_named beyond (Negated q) left h row e who i = h row (both_of (left row) (not (has_partner p q s row || is_some (beyond row)) && is_ripe p q s row) e).0 who i
-  line_named beyond (Existing q) left h row e who i = h row (both_of (left row) (has_partner p q s row || is_some (beyond row)) e).0 who i
+  line_named beyond (Negated q) left h row e who i = h row (and_parts (left row) (not (has_partner p q s row || is_some (beyond row)) && is_ripe p q s row) e).0 who i
+  line_named beyond (Existing q) left h row e who i = h row (and_parts (left row) (has_partner p q s row || is_some (beyond row)) e).0 who i
   line_named beyond (Folded a) left h row e who i =
-      let r = valued_from (λ without v. left without && laden_gives p a s (values_of (beyond without)) without v) row e in
-      h r.0 (both_of (left r.0) (laden_gives p a s (values_of (beyond r.0)) r.0 r.1) r.3).0 who (subst (λ (z : Row). In who z.facts) r.2 i)
+      let r = valued_from (λ without v. left without && laden_gives p a s (extra_values_of (beyond without)) without v) row e in
+      h r.0 (and_parts (left r.0) (laden_gives p a s (extra_values_of (beyond r.0)) r.0 r.1) r.3).0 who (subst (λ (z : Row). In who z.facts) r.2 i)
 
   laden_named : (extras : List Extra) (owner : ℕ → ℕ) (conditions : List Condition) (n : ℕ) → NameFacts (laden p s extras owner conditions n)
   unfolding laden
@@ -72,9 +71,9 @@ module _ (p : Program) (table : LifeTable) (image : Image) (owners : ℕ → ℕ
   abbrev IsThereAs : Bool → Extra → Type 0
   IsThereAs so e = IsThere p (snapshot_of image) image.extras owners e so
 
-  extra_laden : (e : Extra) → In e image.extras → IsThereAs true e → IsLaden p image owners e.rule.0 e.row e.condition
+  extra_laden : (e : Extra) → In e image.extras → IsThereAs true e → IsLadenRow p image owners e.rule.0 e.row e.condition
   extra_laden e i there =
-      let x = plain.placed e i in
+      let x = (plain.placed e i).place in
       record {
         rule = x.rule;
         stands = x.stands;
@@ -131,14 +130,14 @@ module _ (p : Program) (table : LifeTable) (image : Image) (owners : ℕ → ℕ
   -- a laden match that names the tag of a fact names the fact
   own_name : (f : Fact) → In f image.facts → (m : Match) → IsLadenMatch p image owners m.rule.0 m.row → names_tag f.tag.0 m ≡ true → In (name_of f) m.row.facts
   own_name f i m laden_row names =
-      let n = passing_one (λ (k : Named). f.tag.0 == k.tag.0) m.row.facts names in
+      let n = list_any-In (λ (k : Named). f.tag.0 == k.tag.0) m.row.facts names in
       let g = laden_named p (snapshot_of image) plain.lawful.ordered.tags image.extras (owners m.rule.0) laden_row.0.conditions (length laden_row.0.conditions) m.row laden_row.2 n.0 n.1 in
-      let tags : g.0.tag.0 ≡ f.tag.0 = ap (λ (k : Named). k.tag.0) g.2 ∙ sym (number_of f.tag.0 n.0.tag.0 n.2) in
+      let tags : g.0.tag.0 ≡ f.tag.0 = ap (λ (k : Named). k.tag.0) g.2 ∙ sym (eqb-true f.tag.0 n.0.tag.0 n.2) in
       let same : g.0 ≡ f = one_fact image.facts plain.lawful.ordered.tags g.0 f g.1 i (ap tag_of tags) in
       subst (λ (k : Named). In k m.row.facts) (sym g.2 ∙ ap name_of same) n.1
 
   names_own : (f : Fact) (m : Match) → In (name_of f) m.row.facts → names_tag f.tag.0 m ≡ true
-  names_own f m i = some_passes (λ (k : Named). f.tag.0 == k.tag.0) (name_of f) m.row.facts i (is_number f.tag.0 f.tag.0 refl)
+  names_own f m i = list_any-from (λ (k : Named). f.tag.0 == k.tag.0) (name_of f) m.row.facts i (eq-eqb f.tag.0 f.tag.0 refl)
 
   module _ (marks : Marks) (are : AreMarked (is_laden p image owners) image.fired marks) where
     abbrev old : ℕ → Bool
@@ -151,9 +150,9 @@ module _ (p : Program) (table : LifeTable) (image : Image) (owners : ℕ → ℕ
         ap (λ o. has_come image.clock (option_and_then (ends_by table) o)) at ∙ dead_come f (slice_get table.lives f.ty.0) (plain.present f i) dead in
         let named : is_named marks f.tag.0 ≡ true = named_second (has_come image.clock (ends f.tag.0)) (is_named marks f.tag.0) come (none f.tag.0) in
         let m = witness (names_tag f.tag.0) marks.pending named in
-        let parts = both_of (is_laden p image owners m.0) (not (has_fired image m.0)) (sym (are.pending m.0) ∙ m.2) in
+        let parts = and_parts (is_laden p image owners m.0) (not (has_fired image m.0)) (sym (are.pending m.0) ∙ m.2) in
         let laden_row = laden_match m.0 parts.0 in
-        (m.0, laden_row, not_so (has_fired image m.0) parts.1, own_name f i m.0 laden_row m.1)
+        (m.0, laden_row, not-true (has_fired image m.0) parts.1, own_name f i m.0 laden_row m.1)
 
     -- all of it is so where no event is old
     pub rows_fit : ((e : Extra) → In e image.extras → IsThereAs true e) → ((m : FiredMatch) → In m image.fired → is_laden p image owners (match_fired m) ≡ true) → ((tag : ℕ) → old tag ≡ false)
@@ -166,7 +165,7 @@ module _ (p : Program) (table : LifeTable) (image : Image) (owners : ℕ → ℕ
 
     -- and where one is, a fact is there that is not kept
     pub old_unfit : (tag : ℕ) → old tag ≡ true → FitsByRows p table image owners → ⊥
-    old_unfit tag e fits = by (map_of.get store tag) refl (both_of (has_come image.clock (ends tag)) (not (is_named marks tag)) e)
+    old_unfit tag e fits = by (map_of.get store tag) refl (and_parts (has_come image.clock (ends tag)) (not (is_named marks tag)) e)
       where
         by : (o : Option Fact) → map_of.get store tag ≡ o → (has_come image.clock (ends tag) ≡ true) × (not (is_named marks tag) ≡ true) → ⊥
         by None at parts = absurd (let no : false ≡ true = sym (ap (λ o. has_come image.clock (option_and_then (ends_by table) o)) at) ∙ parts.0 in cc)
@@ -174,7 +173,7 @@ module _ (p : Program) (table : LifeTable) (image : Image) (owners : ℕ → ℕ
             let i = image_stored.to tag f at in
             let come = sym (ap (λ o. has_come image.clock (option_and_then (ends_by table) o)) at) ∙ parts.0 in
             let r = fits.needed f i.0 (come_dead f (slice_get table.lives f.ty.0) come) in
-            let pends : has_match marks.pending r.0 ≡ true = are.pending r.0 ∙ both (is_laden p image owners r.0) (not (has_fired image r.0)) (match_laden r.0 r.1) (ap not r.2) in
+            let pends : has_match marks.pending r.0 ≡ true = are.pending r.0 ∙ and_from (is_laden p image owners r.0) (not (has_fired image r.0)) (match_laden r.0 r.1) (ap not r.2) in
             let names : names_tag tag r.0 ≡ true = ap (λ t. names_tag t r.0) (sym i.1) ∙ names_own f r.0 r.3 in
             let named : is_named marks tag ≡ true = found (names_tag tag) r.0 marks.pending names pends in
-            absurd (let no : false ≡ true = sym (not_so (is_named marks tag) parts.1) ∙ named in cc)
+            absurd (let no : false ≡ true = sym (not-true (is_named marks tag) parts.1) ∙ named in cc)

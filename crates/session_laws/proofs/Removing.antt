@@ -1,22 +1,23 @@
 -- The fact of an id in the store is the one that the world has; and what a session has taken in its retraction.
-use Rattle.session_laws.proofs.Common.{◌≡◌, ◌∙◌, ◌<◌, ◌==◌, inl, inr, ◌&&◌, not, ℕ, Bool, true, false, nat_eq, [], ◌∷◌, Some, None, refl, sym, ap, subst, arith, without_fact, list_any, or-false, nat_tests, In, FactId, Tag, TypeId, Fact, Timers, HeldFacts, facts_of, Program, Step, Retract, IsLawful, World, found, is_of_type, only_present, present, settled, step_fault, below_of, one_id, Marks, NetStands, clean_rows, Rete, Retention, lingers, ends_by, HasLeft, brought, changed, comes, goes, retract_covers, Memory, Setting, Leads, LeadsOn, instant_of, IsNewestTag, newest, over, IsRefreshed, Awaits, Contents, Mirrors, Runs, Standing, holding, with_facts, reached_of, left_at, without_timer}
+use Rattle.session_laws.proofs.Common.{◌≡◌, ◌∙◌, ◌<◌, ◌==◌, inl, inr, ◌&&◌, not, ℕ, Bool, true, nat_eq, [], ◌∷◌, Some, None, refl, sym, ap, subst, arith}
+use Rattle.session_laws.proofs.Common.{without_fact, list_any, or-false, In, FactId, Tag, TypeId, Fact, Timers, HeldFacts, facts_of, Program, Step, Retract}
+use Rattle.session_laws.proofs.Common.{IsLawful, World, found, is_of_type, only_present, present, settled, step_fault, below_of, one_id, Marks, NetStands}
+use Rattle.session_laws.proofs.Common.{clean_rows, Rete, Retention, lingers, ends_by, HasLeft, brought, changed, comes, goes, retract_covers, Memory, Setting}
+use Rattle.session_laws.proofs.Common.{LeadsStep, LeadsOn, instant_of, IsNewestTag, newest, over, IsRefreshed, Awaits, Contents, Mirrors, Runs, Standing}
+use Rattle.session_laws.proofs.Common.{holding, with_facts, reached_of, fact_left_at, without_timer}
+use Rattle.std.proofs.lemmas.Bool.{eqb-true}
 use Rattle.std.specs.FinMap as map
 use Rattle.rule_world.specs.Worlds.{moved, stepped}
 use Rattle.forgetting.proofs.WorldSteps.{retracts_one}
 use Rattle.session_laws.proofs.Exactly.{after_without}
 use Rattle.session_laws.proofs.Leaving.{one_gone}
-use Rattle.session_laws.proofs.Moving_on.{covered_at, hand_of, leads_on, left_changed, less_forgotten, of_left, on_time, store_seen, world_exact, world_holds, world_ready}
+use Rattle.session_laws.proofs.Moving_on.{covered_at, hand_of, leads_on, left_changed, less_forgotten, of_left, on_time, store_seen, world_exact, world_holds}
+use Rattle.session_laws.proofs.Moving_on.{world_ready}
 use Rattle.session_laws.proofs.Newest.{newest_found, tagged_found}
 use Rattle.session_laws.proofs.Ready.{lead_less}
 use Rattle.session_laws.proofs.Stands.{contents, retract_moves}
 use Rattle.session_laws.proofs.Taken.{taken_awaits}
-
-same_number : (m n : ℕ) → (m == n) ≡ true → m ≡ n
-same_number m n e = grind (arith, nat_tests)
-
-and_left : (a b : Bool) → (a && b) ≡ true → a ≡ true
-and_left true b e = refl
-and_left false b e = e
+use Rattle.fx_base.proofs.Tests.{and_first}
 
 module _ (s : Setting) (m : Memory) (k : Contents) (w : World) (st : Standing s m k w) (id : FactId) (tag : Tag) (is : IsNewestTag k.facts id.0 tag) where
   abbrev p : Program
@@ -91,7 +92,7 @@ module _ (s : Setting) (m : Memory) (k : Contents) (w : World) (st : Standing s 
     behind = map.remove all tag.0
 
     typed : f.ty.0 ≡ ty.0
-    typed = same_number f.ty.0 ty.0 (ap (is_of_type ty.0) (sym newest_is) ∙ of_type)
+    typed = eqb-true f.ty.0 ty.0 (ap (is_of_type ty.0) (sym newest_is) ∙ of_type)
 
     kept_is : only_present p (stepped p w step) ≡ settled p (without_fact (only_present p w) ty.0 id.0)
     unfolding stepped moved
@@ -102,7 +103,7 @@ module _ (s : Setting) (m : Memory) (k : Contents) (w : World) (st : Standing s 
         subst (Mirrors p (with_facts t behind)) (sym kept_is)
         (retract_moves p (with_facts k all) b (only_present p w) (world_exact s m k w st) id tag all_newest behind refl ty fewer untimed (ap (is_of_type ty.0) all_newest_is ∙ of_type))
 
-    retract_leads : Leads p all k.clock behind k.clock all (tag.0 ∷ []) None
+    retract_leads : LeadsStep p all k.clock behind k.clock all (tag.0 ∷ []) None
     retract_leads = lead_less p all k.expiries k.clock (world_ready s m k w st) behind tag.0 refl f all_at_tag
 
     pub retract_leads_on : LeadsOn p all (instant_of k) behind (instant_of t) all (tag.0 ∷ []) None st.seen.forgotten k.facts
@@ -114,7 +115,7 @@ module _ (s : Setting) (m : Memory) (k : Contents) (w : World) (st : Standing s 
     one_out : (u : ℕ) (g : Fact) → map.get k.facts u ≡ Some g → goes p w step g ≡ (u == tag.0)
     one_out u g e = retracts_one p w ty id f st.seen.whole.lawful.ordered found_is typed u g (store_seen s m k w st u g e) ∙ ap (λ (z : Tag). u == z.0) is.tagged
 
-    store_left : (u : ℕ) → map.get others u ≡ left_at k.facts (tag.0 ∷ []) u
+    store_left : (u : ℕ) → map.get others u ≡ fact_left_at k.facts (tag.0 ∷ []) u
     store_left = one_gone k.facts k.facts others [] tag.0 (λ u. refl) made
 
     retract_store : (u : ℕ) → map.get others u ≡ changed (brought (comes p w step) u) (goes p w step) (map.get k.facts u)
@@ -138,5 +139,5 @@ module _ (s : Setting) (m : Memory) (k : Contents) (w : World) (st : Standing s 
           store = retract_store;
           covered =
               retract_covers (ends_by s.lives) (goes p w step) tag.0 k.clock (holding k m.retention) (holding t retention) (covered_at s m k w st k.clock (on_time s m k w st)) one_out retract_store due lingering;
-          lingering = λ u e. and_left (lingers m.retention u) (not (u == tag.0)) (sym (lingering u) ∙ e);
+          lingering = λ u e. and_first (lingers m.retention u) (not (u == tag.0)) (sym (lingering u) ∙ e);
         })

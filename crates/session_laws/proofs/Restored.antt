@@ -1,5 +1,14 @@
 -- A session that is made from the image of a lawful world stands for that world.
-use Rattle.session_laws.proofs.Common.{◌≡◌, ◌∙◌, not, ℕ, ℤ, pos, ◌≤ℤ◌, ◌<◌, Bool, true, false, is_some, List, [], ◌∷◌, Option, Some, None, refl, sym, ap, subst, arith, AllByRecursion, nat_cmp, Less, ints, In, Fact, Named, Image, Timers, HeldFacts, facts_of, tag_of, from_list, from_map, Life, Plain, Explicit, Finite, Infinite, LifeTable, Moment, Program, is_present, fits, HaveDistinctTags, saliences, reached_in, pattern_of, Snapshot, name_of, is_event, floor_on, of_filter, in_filter, passed, in_place, end_by, IsLawful, IsRunnable, World, snapshot, present, only_present, below_of, distinct_filtered, empty_snapshot, HasAllOf, is_alive, is_forgotten, kept_inside, not_alive, forgotten_fact, lost, in_no_window, tag_cmp, snapshot_of, IsImageOf, IsKeptOf, AreOwners, image_kept, FitsPlainly, Marks, IsOrderly, Retention, is_among, is_named, Passes, only, chosen, own_at, Rete, AreOutsideOfTime, IsBehind, IsLoadable, Setting, version_of, over, stored, AreHeld, AreStorable, HasTimes, IsMatched, AreForgotten, Contents, Course, Mirrors, Runs, Standing, expiry_at, with_facts}
+use Rattle.session_laws.proofs.Common.{◌≡◌, ◌∙◌, not, ℕ, ℤ, pos, ◌≤ℤ◌, ◌<◌, Bool, true, false, is_some, List, [], ◌∷◌, Option, Some, None, refl, sym, ap, subst}
+use Rattle.session_laws.proofs.Common.{arith, AllByRecursion, nat_cmp, Less, ints, In, Fact, Named, Image, Timers, HeldFacts, facts_of, tag_of, from_list}
+use Rattle.session_laws.proofs.Common.{from_map, Life, Plain, Explicit, Finite, Infinite, LifeTable, Moment, Program, is_present, fits, HaveDistinctTags}
+use Rattle.session_laws.proofs.Common.{saliences, reached_in, pattern_of, Snapshot, name_of, is_event, floor_on, of_filter, in_filter, passed, in_place, end_by}
+use Rattle.session_laws.proofs.Common.{IsLawful, IsRunnable, World, snapshot, present, only_present, below_of, distinct_filtered, empty_snapshot, HasAllOf}
+use Rattle.session_laws.proofs.Common.{is_alive, is_forgotten, kept_inside, not_alive, forgotten_fact, lost, in_no_window, tag_cmp, snapshot_of, IsImageOf}
+use Rattle.session_laws.proofs.Common.{IsKeptOf, AreOwners, image_kept, FitsPlainly, Marks, IsOrderly, Retention, is_tag_among, is_named, PassesLives, only}
+use Rattle.session_laws.proofs.Common.{chosen, own_at, Rete, AreOutsideOfTime, IsBehind, IsLoadable, Setting, version_of, over, stored, AreHeld, AreStorable}
+use Rattle.session_laws.proofs.Common.{HasTimes, IsMatched, AreForgotten, Contents, Course, Mirrors, Runs, Standing, expiry_at, with_facts}
+use Rattle.std.proofs.lemmas.Bool.{not-true}
 use Rattle.std.proofs.Common.{map as list_map}
 use Rattle.std.specs.Prelude.{slice_get}
 use Rattle.std.specs.FinMap as map_of
@@ -11,23 +20,12 @@ use Rattle.keeping.specs.Kept.{is_kept}
 use Rattle.session_laws.proofs.Kept_parts.{holds_kept_parts, image_holds, store_is}
 use Rattle.session_laws.proofs.Forgotten.{same_version}
 use Rattle.session_laws.proofs.Members.{Holds, all_listed, listed, own_tags, version_found, versions}
-use Rattle.session_laws.proofs.Needing.{distinct_here}
 use Rattle.session_laws.proofs.Presented.{extras_here}
 use Rattle.session_laws.proofs.Ready.{IsFit, kept_of}
 use Rattle.session_laws.proofs.Rising.{rising_same}
 use Rattle.session_laws.proofs.Stands.{contents}
 use Rattle.session_laws.proofs.Storing.{stored_holds}
-
-not_so : (b : Bool) → not b ≡ false → b ≡ true
-not_so true e = refl
-not_so false e = sym e
-
-not_true : (b : Bool) → not b ≡ true → b ≡ false
-not_true true e = sym e
-not_true false e = refl
-
-same_clock : (a b : ℤ) → b ≡ a → a ≤ℤ b
-same_clock a b e = omega (arith, ints, e)
+use Rattle.fx_base.proofs.Orders.{≤ℤ_same}
 
 never_ends : (event : Bool) (start : ℤ) → end_by event None start ≡ None
 never_ends true start = refl
@@ -125,8 +123,7 @@ module _ (p : Program) (table : LifeTable) (image : Image) (plain : FitsPlainly 
     orderly = image_orderly;
     floors = λ entry. floor_on p empty_snapshot here entry plain.lawful.clock_low (plain.lawful.last_low entry) (plain.lawful.promise_low entry);
     at_hand = λ tag f e known. let i = held_there here tag.0 f e in ap (map_of.get (stored image.facts)) (sym i.1) ∙ image_held.from f i.0;
-    table = table;
-    placed = plain.placed;
+    placed = λ e i. (plain.placed e i).place;
     in_order = plain.extras_in_order;
   }
 
@@ -229,8 +226,8 @@ module _ (s : Setting) (runs : Runs s) (image : Image) (plain : FitsPlainly s.pr
   outside : AreOutsideOfTime p behind forgotten
   outside rule in_rules k c at_k span window f i e =
       let there = of_filter (is_present p w.clock) f w.facts (of_behind f i) in
-      let unkept : is_kept p s.lives w f ≡ false = not_true (is_kept p s.lives w f) (sym (forgotten_fact p s.lives w l.ordered.tags f there) ∙ e) in
-      in_no_window p s.lives w runs.table.safe l f there unkept rule in_rules c (in_place rule.conditions k c at_k) span window behind (same_clock w.clock image.clock is.clock)
+      let unkept : is_kept p s.lives w f ≡ false = not-true (is_kept p s.lives w f) (sym (forgotten_fact p s.lives w l.ordered.tags f there) ∙ e) in
+      in_no_window p s.lives w runs.table.safe l f there unkept rule in_rules c (in_place rule.conditions k c at_k) span window behind (≤ℤ_same w.clock image.clock is.clock)
 
   at_hand : HasAllOf (λ tag. map_of.get store tag.0) behind forgotten
   at_hand tag f e known =
@@ -311,7 +308,7 @@ module _ (s : Setting) (runs : Runs s) (image : Image) (plain : FitsPlainly s.pr
 
   pub restored_stands : (owners : ℕ → ℕ → ℕ) → AreOwners p owners → (net : Rete) (marks : Marks) → IsMatched p image net marks
       → (expiries : Timers) (before after : Retention) (old : ℕ → Bool) → AreHeld p s.lives store expiries before
-      → Passes image.clock (is_among []) (is_named marks) before after old → ((tag : ℕ) → old tag ≡ false)
+      → PassesLives image.clock (is_tag_among []) (is_named marks) before after old → ((tag : ℕ) → old tag ≡ false)
       → Standing s (record { net = net; retention = after }) (k expiries marks) w
   restored_stands owners own net marks are expiries before after old are_held passes none = record {
     seen = record {

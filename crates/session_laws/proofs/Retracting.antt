@@ -1,5 +1,14 @@
 -- A retraction of an event that a session does not have: the world has none that is present, or it is forgotten.
-use Rattle.session_laws.proofs.Common.{◌≡◌, ◌∙◌, ◌<◌, ◌==◌, ◌&&◌, ◌≤ℤ◌, not, ℕ, ℤ, Bool, true, false, cond, nat_eq, List, Option, Some, None, inl, refl, sym, ap, subst, arith, filter, nat_tests, ints, In, Fact, FactId, TypeId, HeldFacts, IsNewest, facts_of, from_list, from_map, tags_rise, Row, has, Life, Plain, Explicit, Finite, Infinite, Program, Rule, Step, Retract, is_present, HaveDistinctTags, HaveDistinctIds, has_match, pattern_of, Snapshot, name_of, is_event, is_observed, expiry_of, AllOf, of_filter, in_filter, passed, in_place, end_by, IsLawful, World, found, has_id, is_of_type, only_present, present, retract_fault, found_in, and_parts, and_both, below_of, has_number, one_id, not_true, same_number, number_same, candidate_named, is_alive, lost_event, not_alive, in_no_window, Covers, IsUnmissed, less_fact, NetStands, clean_rows, ends_by, ends_of, only, brought, changed, sight_of, comes, goes, same_kept, later_covers, own_at, Memory, Setting, IsNewestTag, newest, over, AreForgotten, Awaits, Contents, Mirrors, Runs, Standing, expiry_at, holding, with_facts, reached_of, HaveOwnTags, without_timer}
+use Rattle.session_laws.proofs.Common.{◌≡◌, ◌∙◌, ◌<◌, ◌==◌, ◌&&◌, ◌≤ℤ◌, not, ℕ, ℤ, Bool, true, false, cond, nat_eq, List, Option, Some, None, inl, refl, sym}
+use Rattle.session_laws.proofs.Common.{ap, subst, arith, filter, nat_tests, ints, In, Fact, FactId, TypeId, HeldFacts, IsNewest, facts_of, from_list, from_map}
+use Rattle.session_laws.proofs.Common.{tags_rise, Row, has, Life, Plain, Explicit, Finite, Infinite, Program, Rule, Step, Retract, is_present, HaveDistinctTags}
+use Rattle.session_laws.proofs.Common.{HaveDistinctIds, has_match, pattern_of, Snapshot, name_of, is_event, is_observed, expiry_of, AllOf, of_filter, in_filter}
+use Rattle.session_laws.proofs.Common.{passed, in_place, end_by, IsLawful, World, found, has_id, is_of_type, only_present, present, retract_fault, found_in}
+use Rattle.session_laws.proofs.Common.{below_of, has_number, one_id, candidate_named, is_alive, lost_event, not_alive, in_no_window, Covers, IsUnmissed}
+use Rattle.session_laws.proofs.Common.{snapshot_without, NetStands, clean_rows, ends_by, ends_of, only, brought, changed, sight_of, comes, goes, same_kept}
+use Rattle.session_laws.proofs.Common.{later_covers, own_at, Memory, Setting, IsNewestTag, newest, over, AreForgotten, Awaits, Contents, Mirrors, Runs}
+use Rattle.session_laws.proofs.Common.{Standing, expiry_at, holding, with_facts, reached_of, HaveOwnTags, without_timer}
+use Rattle.std.proofs.lemmas.Bool.{and_from, and_parts, eq-eqb, eqb-true, false_from_ne_true}
 use Rattle.rule_lives.proofs.Moves.{retracted_is_not_observed}
 use Rattle.std.specs.Prelude.{is_some, slice_get}
 use Rattle.std.specs.FinMap as map
@@ -16,6 +25,7 @@ use Rattle.session_laws.proofs.Rising.{rising_filter, rising_same}
 use Rattle.session_laws.proofs.Rules.{not_refreshed}
 use Rattle.session_laws.proofs.Stands.{retract_moves}
 use Rattle.session_laws.proofs.Taken.{taken_awaits}
+use Rattle.fx_base.proofs.Tests.{both_ways_absurd}
 
 -- a fact of a map is the newest of its id where the ids of the map's facts differ
 newest_in : (held : HeldFacts) (facts : List Fact) → HaveDistinctIds facts → ((tag : ℕ) (g : Fact) → map.get held tag ≡ Some g → In g facts × (g.tag.0 ≡ tag))
@@ -32,11 +42,6 @@ newest_in held facts ids inside id f i own at = record {
 
 not_after : (a b : ℤ) → a ≡ b → b ≤ℤ a
 not_after a b e = omega (arith, ints)
-
--- a test does not give both answers
-two_ways : {X : Type 0} (b : Bool) → b ≡ true → b ≡ false → X
-two_ways true e h = absurd (let n : true ≡ false = h in cc)
-two_ways false e h = absurd (let n : false ≡ true = e in cc)
 
 not_chosen : (b : Bool) (f : Fact) → None ≡ cond b (Some f) None → b ≡ false
 not_chosen true f e = absurd cc
@@ -81,7 +86,7 @@ module _ (s : Setting) (m : Memory) (k : Contents) (w : World) (st : Standing s 
   -- ---- the session has nothing that goes out
 
   stays : (tag : ℕ) (g : Fact) → map.get k.facts tag ≡ Some g → goes p w step g ≡ false
-  stays tag g e = not_true (goes p w step g) (λ h.
+  stays tag g e = false_from_ne_true (goes p w step g) (λ h.
       let parts = and_parts (g.ty.0 == ty.0) (has_id id.0 g) h in
       let i = held_there tag g e in
       let is : IsNewest k.facts id.0 g =
@@ -114,7 +119,7 @@ module _ (s : Setting) (m : Memory) (k : Contents) (w : World) (st : Standing s 
     later = λ tag f e. inl (was tag f e);
     stands = stands;
     refreshed = not_refreshed p.rules (clean_rows p (over (facts_of all) k.clock (reached_of k)) st.seen.forgotten) (clean_rows p (over (facts_of next) k.clock (reached_of k)) st.seen.forgotten) same k.agenda;
-    has_left = λ q tag was_pending is_not named. two_ways (has_match k.agenda.pending q) was_pending is_not;
+    has_left = λ q tag was_pending is_not named. both_ways_absurd (has_match k.agenda.pending q) was_pending is_not;
     store = same_store;
     covered = covered;
     lingering = λ tag e. e;
@@ -149,8 +154,8 @@ module _ (s : Setting) (m : Memory) (k : Contents) (w : World) (st : Standing s 
         by (Some g) e =
             let both : Some g ≡ Some f = sym (st.seen.are.held f.tag.0 g e) ∙ at_tag in
             let same : g ≡ f = cc in
-            let out : goes p w step g ≡ true = ap (goes p w step) same ∙ and_both (f.ty.0 == ty.0) (has_id id.0 f) typed (number_same f.id.0 id.0 here.1) in
-            two_ways (goes p w step g) out (stays f.tag.0 g e)
+            let out : goes p w step g ≡ true = ap (goes p w step) same ∙ and_from (f.ty.0 == ty.0) (has_id id.0 f) typed (eq-eqb f.id.0 id.0 here.1) in
+            both_ways_absurd (goes p w step g) out (stays f.tag.0 g e)
 
     known : st.seen.forgotten (name_of f) ≡ true
     known = st.seen.are.known f.tag.0 f at_tag ∙ ap (λ o. not (is_some o)) free
@@ -173,7 +178,7 @@ module _ (s : Setting) (m : Memory) (k : Contents) (w : World) (st : Standing s 
         by : (life : Option Life) → slice_get s.lives.lives f.ty.0 ≡ life → is_alive p life w.clock f ≡ false → expiry_of p f.ty.0 ≡ None
         by None at e = absurd (let n : true ≡ false = e in cc)
         by (Some Plain) at e = absurd (let n : true ≡ false = e in cc)
-        by (Some (Explicit expiry)) at e = two_ways (is_present p w.clock f) (passed (is_present p w.clock) f w.facts here.0) e
+        by (Some (Explicit expiry)) at e = both_ways_absurd (is_present p w.clock f) (passed (is_present p w.clock) f w.facts here.0) e
         by (Some (Finite n)) at e = (runs.table.safe.each f.ty.0 (Finite n) at).1.unexpired
         by (Some Infinite) at e = absurd (let n : true ≡ false = e in cc)
 
@@ -183,7 +188,7 @@ module _ (s : Setting) (m : Memory) (k : Contents) (w : World) (st : Standing s 
 
     unobserved : is_observed_in p.rules f.ty.0 ≡ false
     unobserved =
-        let same : f.ty.0 ≡ ty.0 = same_number f.ty.0 ty.0 typed in
+        let same : f.ty.0 ≡ ty.0 = eqb-true f.ty.0 ty.0 typed in
         let unseen : is_observed p f.ty.0 ≡ false =
         ap (is_observed p) same ∙ retracted_is_not_observed p ty.0 (found p w id.0) no_fault (ap (is_event p) (sym same) ∙ event) in
         other_part (is_event p f.ty.0) (is_observed_in p.rules f.ty.0) event (sym unseen ∙ runs.runnable.observed f.ty.0)
@@ -238,7 +243,7 @@ module _ (s : Setting) (m : Memory) (k : Contents) (w : World) (st : Standing s 
     same_list : filter (is_other f) (facts_of all) ≡ facts_of next
     same_list = rising_same (filter (is_other f) (facts_of all)) (facts_of next) (rising_filter (is_other f) (facts_of all) (tags_rise all own)) (tags_rise next own_next) to_next of_next
 
-    same_less : less_fact was f ≡ over (facts_of next) k.clock (reached_of k)
+    same_less : snapshot_without was f ≡ over (facts_of next) k.clock (reached_of k)
     same_less = ap (λ (facts : List Fact). over facts k.clock (reached_of k)) same_list
 
     same_timers : (other : ℕ) → map.get k.expiries other ≡ without_timer k.expiries f.tag.0 other
@@ -246,7 +251,7 @@ module _ (s : Setting) (m : Memory) (k : Contents) (w : World) (st : Standing s 
       where
         by : (b : Bool) → nat_eq f.tag.0 other ≡ b → map.get k.expiries other ≡ cond b None (map.get k.expiries other)
         by true e =
-            ap (map.get k.expiries) (sym (same_number f.tag.0 other e)) ∙ whole.mirrors.waits f.tag.0 ∙ ap (expiry_at p) at_tag
+            ap (map.get k.expiries) (sym (eqb-true f.tag.0 other e)) ∙ whole.mirrors.waits f.tag.0 ∙ ap (expiry_at p) at_tag
             ∙ ap (λ b. end_by b (expiry_of p f.ty.0) f.times.start) event ∙ ap (λ o. end_by true o f.times.start) lasting
         by false e = refl
 

@@ -1,21 +1,24 @@
 -- What a session has taken in a modification.
-use Rattle.session_laws.proofs.Common.{◌≡◌, ◌∙◌, ◌+◌, ◌<◌, ◌≤◌, ◌==◌, ◌⊎◌, inl, inr, ℕ, Bool, true, false, cond, nat_eq, List, [], ◌∷◌, Option, Some, None, option_map, if◌then◌else◌, refl, sym, ap, subst, arith, list_any, or-false, nat_tests, In, FactId, Tag, Value, Fact, HeldFacts, facts_of, Program, Step, Modify, is_event, is_reference, IsLawful, World, has_id, only_present, modify_fault, revised, settled, step_fault, with_revised, Marks, NetStands, clean_rows, Rete, Covers, ends_by, ends_of, HasLeft, brought, changed, comes, goes, modify_endless, endless_covers, same_bool, Memory, Setting, Leads, LeadsOn, instant_of, IsNewestTag, newest, over, IsRefreshed, AreForgotten, Awaits, Contents, Mirrors, Runs, Standing, holding, with_facts, reached_of, left_at}
+use Rattle.session_laws.proofs.Common.{◌≡◌, ◌∙◌, ◌+◌, ◌<◌, ◌≤◌, ◌==◌, ◌⊎◌, inl, inr, ℕ, Bool, true, false, cond, nat_eq, List, [], ◌∷◌, Option, Some, None}
+use Rattle.session_laws.proofs.Common.{option_map, if◌then◌else◌, refl, sym, ap, subst, arith, list_any, or-false, nat_tests, In, FactId, Tag, Value, Fact}
+use Rattle.session_laws.proofs.Common.{HeldFacts, facts_of, Program, Step, Modify, is_event, is_reference, IsLawful, World, has_id, only_present, modify_fault}
+use Rattle.session_laws.proofs.Common.{revised, settled, step_fault, with_revised, Marks, NetStands, clean_rows, Rete, Covers, ends_by, ends_of, HasLeft}
+use Rattle.session_laws.proofs.Common.{brought, changed, comes, goes, modify_endless, endless_covers, Memory, Setting, LeadsStep, LeadsOn, instant_of}
+use Rattle.session_laws.proofs.Common.{IsNewestTag, newest, over, IsRefreshed, AreForgotten, Awaits, Contents, Mirrors, Runs, Standing, holding, with_facts}
+use Rattle.session_laws.proofs.Common.{reached_of, fact_left_at}
+use Rattle.std.proofs.lemmas.Bool.{eq-eqb, eqb-true}
 use Rattle.std.specs.FinMap as map
 use Rattle.rule_world.specs.Worlds.{moved, stepped}
 use Rattle.session_laws.proofs.Exactly.{after_revised}
 use Rattle.session_laws.proofs.Leaving.{one_gone}
 use Rattle.session_laws.proofs.Members.{got_new, got_old, not_out, of_insert}
-use Rattle.session_laws.proofs.Moving_on.{all_below, covered_at, hand_of, leads_on, left_changed, less_forgotten, more_forgotten, of_left, on_time, world_exact, world_holds, world_ready, store_seen}
+use Rattle.session_laws.proofs.Moving_on.{all_below, covered_at, hand_of, leads_on, left_changed, less_forgotten, more_forgotten, of_left, on_time, world_exact}
+use Rattle.session_laws.proofs.Moving_on.{world_holds, world_ready, store_seen}
 use Rattle.session_laws.proofs.Ready.{lead_revised}
 use Rattle.session_laws.proofs.Removing.{all_at_tag, all_newest, all_newest_is, at_tag, found_is, newest_is, only_one}
 use Rattle.session_laws.proofs.Stands.{contents, modify_moves, plain_by}
 use Rattle.session_laws.proofs.Taken.{taken_awaits}
-
-same_number : (m n : ℕ) → (m == n) ≡ true → m ≡ n
-same_number m n e = grind (arith, nat_tests)
-
-is_same : (m n : ℕ) → m ≡ n → (m == n) ≡ true
-is_same m n e = grind (arith, nat_tests)
+use Rattle.fx_base.proofs.Tests.{same_test}
 
 other_number : (m n : ℕ) → (m == n) ≡ false → n ≡ m → ⊥
 other_number m n e h = grind (arith, nat_tests)
@@ -34,14 +37,14 @@ module _ (s : Setting) (m : Memory) (k : Contents) (w : World) (st : Standing s 
   one_out : (u : ℕ) (g : Fact) → map.get k.facts u ≡ Some g → has_id id.0 g ≡ (u == tag.0)
   one_out u g e =
       let there = st.seen.are.held u g e in
-      same_bool (has_id id.0 g) (u == tag.0)
+      same_test (has_id id.0 g) (u == tag.0)
       (λ h.
-      let same : g ≡ f = only_one s m k w st id tag is u g there (same_number g.id.0 id.0 h) in
-      is_same u tag.0 (sym ((world_holds s m k w st).to u g there).1 ∙ ap (λ (z : Fact). z.tag.0) same ∙ ap (λ (z : Tag). z.0) is.tagged))
+      let same : g ≡ f = only_one s m k w st id tag is u g there (eqb-true g.id.0 id.0 h) in
+      eq-eqb u tag.0 (sym ((world_holds s m k w st).to u g there).1 ∙ ap (λ (z : Fact). z.tag.0) same ∙ ap (λ (z : Tag). z.0) is.tagged))
       (λ h.
-      let same : Some g ≡ Some f = sym e ∙ ap (map.get k.facts) (same_number u tag.0 h) ∙ at_tag s m k w st id tag is in
+      let same : Some g ≡ Some f = sym e ∙ ap (map.get k.facts) (eqb-true u tag.0 h) ∙ at_tag s m k w st id tag is in
       let own : g ≡ f = cc in
-      is_same g.id.0 id.0 (ap (λ (z : Fact). z.id.0) own ∙ is.is_newest.own))
+      eq-eqb g.id.0 id.0 (ap (λ (z : Fact). z.id.0) own ∙ is.is_newest.own))
 
   module _ (runs : Runs s) (sets : List (ℕ × Value)) (plain : modify_fault p (newest k id.0) ≡ None) (none : step_fault p w (Modify id sets) ≡ None) (lawful : IsLawful p (stepped p w (Modify id sets)))
       (before after : Fact) (taken : Some before ≡ map.get k.facts tag.0) (after_is : after ≡ revised k.next_tag sets before) (more : HeldFacts) (put : more ≡ map.insert k.facts after.tag.0 after)
@@ -89,7 +92,7 @@ module _ (s : Setting) (m : Memory) (k : Contents) (w : World) (st : Standing s 
         (modify_moves p (with_facts k all) b (only_present p w) (world_exact s m k w st) id tag (all_newest s m k w st id tag is) sets before after both behind (sym before_there)
         (ap (modify_fault p) (all_newest_is s m k w st id tag is) ∙ plain) after_is refl refl)
 
-    modify_leads : Leads p all k.clock behind k.clock both (tag.0 ∷ []) (Some after)
+    modify_leads : LeadsStep p all k.clock behind k.clock both (tag.0 ∷ []) (Some after)
     modify_leads = lead_revised p all k.expiries k.clock (world_ready s m k w st) tag.0 before after both behind before_there plain_after refl refl above
 
     are_more : AreForgotten (t more) both st.seen.forgotten
@@ -118,7 +121,7 @@ module _ (s : Setting) (m : Memory) (k : Contents) (w : World) (st : Standing s 
         leads_on s m k w st step runs none (t others) behind both (tag.0 ∷ []) (Some after) more modify_leads modify_mirrors one_going new_tag
         (hand_of (t more) both (tag.0 ∷ []) st.seen.forgotten are_more more_going)
 
-    store_left : (u : ℕ) → map.get others u ≡ left_at more (tag.0 ∷ []) u
+    store_left : (u : ℕ) → map.get others u ≡ fact_left_at more (tag.0 ∷ []) u
     store_left = one_gone more more others [] tag.0 (λ u. refl) out
 
     comes_is : comes p w step ≡ Some after
@@ -128,7 +131,7 @@ module _ (s : Setting) (m : Memory) (k : Contents) (w : World) (st : Standing s 
 
     store_by : (u : ℕ) (c : Bool) → (after.tag.0 == u) ≡ c → map.get others u ≡ changed (cond c (Some after) None) (has_id id.0) (map.get k.facts u)
     store_by u true e =
-        let same : after.tag.0 ≡ u = same_number after.tag.0 u e in
+        let same : after.tag.0 ≡ u = eqb-true after.tag.0 u e in
         ap (λ z. map.get z u) out ∙ not_out more tag.0 u (λ (h : u ≡ tag.0). absurd (omega (arith, h, same, out_below)))
         ∙ ap (λ z. map.get z u) put ∙ ap (map.get (map.insert k.facts after.tag.0 after)) (sym same) ∙ got_new k.facts after
     store_by u false e =
@@ -151,7 +154,7 @@ module _ (s : Setting) (m : Memory) (k : Contents) (w : World) (st : Standing s 
       where
         fresh : (u : ℕ) (g : Fact) → ((x : Fact) → comes p w step ≡ Some x → ends_by s.lives x ≡ None) → (c : Bool) → (after.tag.0 == u) ≡ c → cond c (Some after) None ≡ Some g
             → (map.get k.facts u ≡ None) × (ends_by s.lives g ≡ None)
-        fresh u g endless true h e = (next_free u (sym (same_number after.tag.0 u h)) (map.get k.facts u) refl, endless g (comes_is ∙ e))
+        fresh u g endless true h e = (next_free u (sym (eqb-true after.tag.0 u h)) (map.get k.facts u) refl, endless g (comes_is ∙ e))
         fresh u g endless false h e = absurd (let n : None ≡ Some g = e in cc)
 
     new_later : (u : ℕ) (g : Fact) → map.get behind u ≡ Some g → (map.get all u ≡ Some g) ⊎ (k.next_tag ≤ u)

@@ -1,6 +1,9 @@
 -- Facts in the order of their tags.
-use Rattle.session_laws.proofs.Common.{◌≡◌, ◌∙◌, inl, inr, sym, ap, refl, subst, ℕ, ◌<◌, List, [], ◌∷◌, ◌++◌, map, Bool, true, false, cond, arith, Less, AllByRecursion, filter, nat_cmp, nat_tests, In, Fact, Tag, HaveDistinctTags, of_append, of_map, AllOf, of_filter}
+use Rattle.session_laws.proofs.Common.{◌≡◌, ◌∙◌, inl, inr, sym, ap, refl, subst, ℕ, ◌<◌, List, [], ◌∷◌, ◌++◌, map, Bool, true, false, cond, arith, Less}
+use Rattle.session_laws.proofs.Common.{AllByRecursion, filter, nat_cmp, In, Fact, Tag, HaveDistinctTags, of_map, AllOf, of_filter}
 use Rattle.std.specs.List.Sorted.{IsStrictlySortedBy}
+use Rattle.fx_base.proofs.Orders.{lt-nat_cmp, nat_cmp-Less}
+use Rattle.fx_base.proofs.Sequences.{In-append}
 
 abbrev pub Rise : List Fact → Type 0
 Rise facts = IsStrictlySortedBy nat_cmp (map (λ (f : Fact). f.tag.0) facts)
@@ -9,20 +12,14 @@ Rise facts = IsStrictlySortedBy nat_cmp (map (λ (f : Fact). f.tag.0) facts)
 abbrev IsBelow : ℕ → List Fact → Type 0
 IsBelow tag facts = AllByRecursion (λ n. nat_cmp tag n ≡ Less) (map (λ (f : Fact). f.tag.0) facts)
 
-is_less : (m n : ℕ) → nat_cmp m n ≡ Less → m < n
-is_less m n e = grind (arith, nat_tests)
-
-less_is : (m n : ℕ) → m < n → nat_cmp m n ≡ Less
-less_is m n lt = grind (arith, nat_tests)
-
 below_each : (tag : ℕ) (facts : List Fact) → IsBelow tag facts → (f : Fact) → In f facts → tag < f.tag.0
 below_each tag [] b f i = absurd i
-below_each tag (x ∷ facts) b f (inl e) = subst (λ (z : Fact). tag < z.tag.0) (sym e) (is_less tag x.tag.0 b.0)
+below_each tag (x ∷ facts) b f (inl e) = subst (λ (z : Fact). tag < z.tag.0) (sym e) (nat_cmp-Less tag x.tag.0 b.0)
 below_each tag (x ∷ facts) b f (inr i) = below_each tag facts b.1 f i
 
 each_below : (tag : ℕ) (facts : List Fact) → ((f : Fact) → In f facts → tag < f.tag.0) → IsBelow tag facts
 each_below tag [] h = tt
-each_below tag (x ∷ facts) h = (less_is tag x.tag.0 (h x (inl refl)), each_below tag facts (λ f i. h f (inr i)))
+each_below tag (x ∷ facts) h = (lt-nat_cmp tag x.tag.0 (h x (inl refl)), each_below tag facts (λ f i. h f (inr i)))
 
 -- their tags differ
 pub rising_distinct : (facts : List Fact) → Rise facts → HaveDistinctTags facts
@@ -54,7 +51,7 @@ rising_more [] f rise above = (tt, tt)
 rising_more (x ∷ facts) f rise above = (each_below x.tag.0 (facts ++ f ∷ []) after, rising_more facts f rise.1 (λ g i. above g (inr i)))
   where
     after : (g : Fact) → In g (facts ++ f ∷ []) → x.tag.0 < g.tag.0
-    after g i = elim (of_append g facts (f ∷ []) i) [
+    after g i = elim (In-append g facts (f ∷ []) i) [
       | inl j ↦ below_each x.tag.0 facts rise.0 g j
       | inr (inl e) ↦ subst (λ (z : Fact). x.tag.0 < z.tag.0) (sym e) (above x (inl refl))
       | inr (inr k) ↦ absurd k

@@ -1,5 +1,10 @@
 -- Matches, rule by rule, and what the changes of rules do to an agenda.
-use Rattle.session_laws.proofs.Common.{◌≡◌, ◌⊎◌, inl, inr, ℕ, ◌+◌, ◌<◌, ◌≤◌, zero, suc, ◌==◌, ◌&&◌, ◌||◌, not, Bool, true, false, cond, List, [], ◌∷◌, ◌++◌, length, map, slice_get, Option, Some, None, refl, sym, ◌∙◌, ap, subst, append_assoc, arith, Less, AllByRecursion, list_any, eq_by_cmp, nat_cmp, and-true, and-not_self, or-false, nat_tests, append-nil, list_any-append, tells_apart, In, Delta, Named, Row, row_exact, row_cmp, has, or_left, or_right, or_split, Match, Program, Rule, match_of, match_cmp, has_match, match_parts, RuleChange, change_of, IsChange, AreBetween, Marks, IsChanged, HasLeft, matches_by, only_in, IsRefreshed, AreOfRules}
+use Rattle.session_laws.proofs.Common.{◌≡◌, ◌⊎◌, inl, inr, ℕ, ◌+◌, ◌<◌, ◌≤◌, zero, suc, ◌==◌, ◌&&◌, ◌||◌, not, Bool, true, false, cond, List, [], ◌∷◌, ◌++◌}
+use Rattle.session_laws.proofs.Common.{map, slice_get, Option, Some, None, refl, sym, ◌∙◌, ap, subst, append_assoc, arith, Less, AllByRecursion, list_any}
+use Rattle.session_laws.proofs.Common.{eq_by_cmp, nat_cmp, and-true, and-not_self, or-false, nat_tests, append-nil, list_any-append, tells_apart, In, Delta}
+use Rattle.session_laws.proofs.Common.{Named, Row, row_exact, row_cmp, has, or_split, Match, Program, Rule, match_of, match_cmp, has_match, match_parts}
+use Rattle.session_laws.proofs.Common.{RuleChange, change_of, IsChange, AreBetween, Marks, IsChanged, HasLeft, matches_by, only_in, IsRefreshed, AreOfRules}
+use Rattle.std.proofs.lemmas.Bool.{eqb-true, or_from, or_left, or_right}
 use Rattle.std.specs.List.Sorted.{IsStrictlySortedBy}
 use Rattle.rule_model.specs.Matches.{matches_from}
 
@@ -26,10 +31,6 @@ unchanged_mark a b = ap (λ z. a && not z) (and-not_self b) ∙ and-true a
 
 -- ---- the first rules have no match of a later one
 
-or_no : (a b : Bool) → a ≡ false → b ≡ false → (a || b) ≡ false
-or_no true b e h = cc
-or_no false b e h = h
-
 other_number : (j n : ℕ) → j + 1 ≤ n → (j == n) ≡ false
 other_number j n le = grind (arith, nat_tests)
 
@@ -45,7 +46,7 @@ unfolding matches_from
 past_rule found j [] m lt = refl
 past_rule found j (rule ∷ rules) m lt =
     list_any-append (eq_by_cmp match_cmp m) (map (match_of j) (found rule)) (matches_from (j + 1) (map found rules))
-    ∙ or_no _ _ (with_rule j (found rule) m false (past_number j m.rule.0 lt)) (past_rule found (j + 1) rules m (omega arith))
+    ∙ or_from _ _ (with_rule j (found rule) m false (past_number j m.rule.0 lt)) (past_rule found (j + 1) rules m (omega arith))
   where
     past_number : (j n : ℕ) → n < j → (j == n) ≡ false
     past_number j n lt = grind (arith, nat_tests)
@@ -228,9 +229,6 @@ was_or_comes true x k y e = inl refl
 was_or_comes false x true y e = inr refl
 was_or_comes false x false y e = absurd (let no : false ≡ true = e in cc)
 
-same_number : (m n : ℕ) → (m == n) ≡ true → m ≡ n
-same_number m n e = grind (arith, nat_tests)
-
 -- where the changes ahead are of so many rules, and the pending matches are, it is so behind the first of them
 pub rules_turn : (ahead rest : List RuleChange) (c : RuleChange) (b d : Marks) (rules : ℕ) → ahead ≡ c ∷ rest → IsChanged c.rule.0 c.delta b d
     → ((x : RuleChange) → In x ahead → x.rule.0 < rules) → AreOfRules rules b.pending → ((x : RuleChange) → In x rest → x.rule.0 < rules) × AreOfRules rules d.pending
@@ -240,7 +238,7 @@ rules_turn ahead rest c b d rules parts ch within pending = (λ x i. within x (s
     later q e =
         elim (was_or_comes (has_match b.pending q) (not (c.rule.0 == q.rule.0 && has c.delta.gone q.row)) (c.rule.0 == q.rule.0) (has c.delta.come q.row) (sym (ch.pending q) ∙ e)) [
           | inl was ↦ pending q was
-          | inr comes ↦ subst (λ (n : ℕ). n < rules) (same_number c.rule.0 q.rule.0 comes) (within c (subst (In c) (sym parts) (inl refl)))
+          | inr comes ↦ subst (λ (n : ℕ). n < rules) (eqb-true c.rule.0 q.rule.0 comes) (within c (subst (In c) (sym parts) (inl refl)))
         ]
 
 -- ---- the changes between the rows of rules
@@ -328,8 +326,3 @@ left_turn a b d rule delta left more so_far ch added m tag was free names = adde
         let t = rule == m.rule.0 in
         let out = went_out t (has delta.gone m.row) (t && has delta.come m.row) (sym (ap (λ z. (z && not (t && has delta.gone m.row)) || (t && has delta.come m.row)) e) ∙ sym (ch.pending m) ∙ free) in
         or_right (left tag) (names_in delta.gone tag) (row_names delta.gone m.row tag out names)
-
--- an iterator that is at its end has nothing ahead
-pub nothing_left : {A : Type 0} (xs : List A) (n : ℕ) → n ≡ length xs → n ≡ 0 → xs ≡ []
-nothing_left [] n e z = refl
-nothing_left (x ∷ xs) n e z = absurd (omega arith)

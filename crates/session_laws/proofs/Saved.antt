@@ -1,15 +1,20 @@
 -- What a session saves is the image of each world for which it stands.
-use Rattle.session_laws.proofs.Common.{◌≡◌, ◌∙◌, ◌≤◌, ℕ, zero, suc, ℤ, pos, Bool, true, false, nat_lt, List, [], ◌∷◌, length, refl, sym, ap, subst, arith, slice_index_or, Less, AllByRecursion, nat_cmp, nat_tests, In, Fact, Image, facts_of, from_list, from_map, tags_rise, has_match, match_cmp, moment_in, Reached, World, IsKept, clean, is_forgotten, kept_facts, kept_listed, AreMoments, tag_cmp, match_fired, IsImageOf, ends_by, is_kept, each_tag, sight_of, Memory, Setting, over, Contents, ReachesNoMore, Runs, Standing, reached_of}
+use Rattle.session_laws.proofs.Common.{◌≡◌, ◌∙◌, ◌≤◌, ℕ, zero, suc, ℤ, pos, Bool, true, false, nat_lt, List, [], ◌∷◌, length, refl, sym, ap, subst, arith}
+use Rattle.session_laws.proofs.Common.{slice_index_or, Less, AllByRecursion, nat_cmp, nat_tests, In, Fact, Image, facts_of, from_list, from_map, tags_rise}
+use Rattle.session_laws.proofs.Common.{has_match, match_cmp, moment_in, Reached, World, IsKept, clean, is_forgotten, kept_facts, kept_listed, AreMoments}
+use Rattle.session_laws.proofs.Common.{tag_cmp, match_fired, IsImageOf, ends_by, is_kept_tag, each_tag, sight_of, Memory, Setting, over, Contents}
+use Rattle.session_laws.proofs.Common.{ReachesNoMore, Runs, Standing, reached_of}
 use Rattle.std.proofs.Common.{map as list_map}
 use Rattle.std.specs.declared.cmp.Ordering.{Ordering}
 use Rattle.std.specs.List.Sorted.{IsStrictlySortedBy}
-use Rattle.session_laws.specs.Saving.{ArePadded, IsSaved}
-use Rattle.session_laws.proofs.Kept_parts.{fired_bits, kept_each}
+use Rattle.session_laws.specs.Saving.{ArePadded, IsSessionSaved}
+use Rattle.session_laws.proofs.Kept_parts.{kept_each}
 use Rattle.session_laws.proofs.Forgotten.{has_all}
 use Rattle.session_laws.proofs.Members.{Holds, own_tags}
 use Rattle.session_laws.proofs.Needs.{lost_in_world}
 use Rattle.session_laws.proofs.Presented.{extras_there}
 use Rattle.session_laws.proofs.Tallied.{holds_kept}
+use Rattle.fx_base.proofs.Tests.{and_where}
 
 -- ---- lists in order
 
@@ -50,7 +55,7 @@ moments_are kept first many of are same none = record {
 
 -- ---- the image
 
-module _ (s : Setting) (m : Memory) (k : Contents) (w : World) (st : Standing s m k w) (runs : Runs s) (more : ReachesNoMore s.program (reached_of k)) (image : Image) (saved : IsSaved k (length s.program.entries) m.net image) where
+module _ (s : Setting) (m : Memory) (k : Contents) (w : World) (st : Standing s m k w) (runs : Runs s) (more : ReachesNoMore s.program (reached_of k)) (image : Image) (saved : IsSessionSaved k (length s.program.entries) m.net image) where
   reached_is : (entry : ℕ) → (moment_in k.course.last_starts entry ≡ w.reached.last_start entry) × (moment_in k.course.promises entry ≡ w.reached.promise entry)
   reached_is entry = (
     ap (λ (r : Reached). r.last_start entry) st.seen.whole.mirrors.reached,
@@ -83,7 +88,7 @@ module _ (s : Setting) (m : Memory) (k : Contents) (w : World) (st : Standing s 
     fired_in_order = unmapped match_cmp match_fired image.fired saved.fired_in_order;
     fired = λ q.
         ap (λ ms. has_match ms q) saved.fired ∙ st.holds.fired q
-        ∙ sym (fired_bits (has_match w.fired q) (clean (is_forgotten s.program s.lives w) q.row) (each_tag (is_kept (ends_by s.lives) (sight_of s.program w)) q)
+        ∙ sym (and_where (has_match w.fired q) (clean (is_forgotten s.program s.lives w) q.row) (each_tag (is_kept_tag (ends_by s.lives) (sight_of s.program w)) q)
         (λ f. kept_each s.program s.lives w runs.table.safe st.seen.whole.lawful q (st.seen.whole.lawful.ordered.fired q f)));
     extras =
         extras_there s.program w st.seen.whole.lawful.ordered.tags st.seen.all k.clock st.seen.whole.mirrors.clock (reached_of k) st.seen.whole.mirrors.reached st.seen.whole.mirrors.facts st.seen.forgotten

@@ -1,5 +1,10 @@
 -- What a session answers in the worlds for which it stands, and the session that stands for the empty world.
-use Rattle.session_laws.proofs.Common.{◌≡◌, ℕ, ℤ, pos, ◌&&◌, inl, refl, not, true, false, slice_get, List, [], ◌∷◌, Option, Some, None, is_some, option_map, Result, sym, ◌∙◌, ap, subst, get-empty, nat_cmp, In, Fact, Timers, HeldFacts, facts_of, from_list, Match, Rule, Step, has_match, saliences, Code, World, empty_world, found, empty_lawful, has_pending, Marks, no_names, empty_snapshot, NetStands, lingers, ends_by, sight_of, start_law, Change, change_step, OutLine, No, Yes, FiringAnswers, Memory, Setting, does, Fits, StandsAfter, WritesFor, newest, rows_at, no_rows, matches_by, over, IsRefreshed, Contents, Runs, Standing, expiry_at, holding, Course, nothing_reached}
+use Rattle.session_laws.proofs.Common.{◌≡◌, ℕ, ℤ, pos, ◌&&◌, inl, refl, not, true, false, slice_get, List, [], ◌∷◌, Option, Some, None, is_some, Result, sym}
+use Rattle.session_laws.proofs.Common.{◌∙◌, ap, subst, get-empty, nat_cmp, In, Fact, Timers, HeldFacts, facts_of, from_list, Match, Rule, Step, has_match}
+use Rattle.session_laws.proofs.Common.{saliences, Code, World, empty_world, found, empty_lawful, has_pending, Marks, no_names, empty_snapshot, NetStands}
+use Rattle.session_laws.proofs.Common.{lingers, ends_by, sight_of, start_law, Change, change_step, OutLine, No, Yes, FiringAnswers, Memory, Setting, does}
+use Rattle.session_laws.proofs.Common.{FitsWorld, StandsAfter, WritesFor, newest, rows_at, no_rule_rows, matches_by, over, IsRefreshed, Contents, Runs}
+use Rattle.session_laws.proofs.Common.{Standing, expiry_at, holding, Course, nothing_reached}
 use Rattle.session_laws.specs.Gives.{version_of, fires, gives}
 use Rattle.session_laws.proofs.Asking.{change_fits, same_asked}
 use Rattle.session_laws.proofs.Firings.{FiresInto, WritesFiring, top_of, plan_of, due_fires, no_fire, yes_fire}
@@ -9,10 +14,10 @@ use Rattle.std.specs.FinMap as map_of
 
 -- ---- over no facts
 
-no_match : (rules : List Rule) (m : Match) → has_match (matches_by no_rows rules) m ≡ false
-no_match rules m = is_found no_rows rules m ∙ by (slice_get rules m.rule.0)
+no_match : (rules : List Rule) (m : Match) → has_match (matches_by no_rule_rows rules) m ≡ false
+no_match rules m = is_found no_rule_rows rules m ∙ by (slice_get rules m.rule.0)
   where
-    by : (o : Option Rule) → found_at no_rows o m.row ≡ false
+    by : (o : Option Rule) → found_at no_rule_rows o m.row ≡ false
     by None = refl
     by (Some rule) = refl
 
@@ -36,7 +41,7 @@ abbrev pub blank : List Rule → Marks
 blank rules = record { saliences = saliences rules; pending = []; fired = [] }
 
 -- A session that has nothing, with the network of its program over no facts, stands for the empty world.
-module _ (s : Setting) (m : Memory) (b : Marks) (net : NetStands s.program m.net empty_snapshot no_names) (r : IsRefreshed s.program.rules no_rows (rows_at s.program [] (pos 0) nothing_reached) (blank s.program.rules) b)
+module _ (s : Setting) (m : Memory) (b : Marks) (net : NetStands s.program m.net empty_snapshot no_names) (r : IsRefreshed s.program.rules no_rule_rows (rows_at s.program [] (pos 0) nothing_reached) (blank s.program.rules) b)
     (due : m.retention.due ≡ map_of.empty) (lingering : (tag : ℕ) → lingers m.retention tag ≡ false) where
   start_stands : Standing s m (start b) empty_world
   unfolding version_of
@@ -72,12 +77,12 @@ module _ (s : Setting) (m : Memory) (b : Marks) (net : NetStands s.program m.net
   }
 
 pub empty_stands : (s x : Setting) (m : Memory) (k : Contents) (a b : Marks) → x ≡ s → a ≡ blank s.program.rules → NetStands s.program m.net empty_snapshot no_names
-    → IsRefreshed s.program.rules no_rows (rows_at s.program [] (pos 0) nothing_reached) a b → m.retention.due ≡ map_of.empty → ((tag : ℕ) → lingers m.retention tag ≡ false) → k ≡ start b
+    → IsRefreshed s.program.rules no_rule_rows (rows_at s.program [] (pos 0) nothing_reached) a b → m.retention.due ≡ map_of.empty → ((tag : ℕ) → lingers m.retention tag ≡ false) → k ≡ start b
     → Standing x m k empty_world
 empty_stands s x m k a b same is net r due lingering e =
     subst (λ (z : Setting). Standing z m k empty_world) (sym same)
     (subst (λ (z : Contents). Standing s m z empty_world) (sym e)
-    (start_stands s m b net (subst (λ (z : Marks). IsRefreshed s.program.rules no_rows (rows_at s.program [] (pos 0) nothing_reached) z b) is r) due lingering))
+    (start_stands s m b net (subst (λ (z : Marks). IsRefreshed s.program.rules no_rule_rows (rows_at s.program [] (pos 0) nothing_reached) z b) is r) due lingering))
 
 pub from_parts : (k : Contents) (facts : HeldFacts) (expiries : Timers) (clock : ℤ) (course : Course) (a : Marks) (id tag : ℕ) → k.facts ≡ facts → k.expiries ≡ expiries → k.clock ≡ clock → k.course ≡ course → k.agenda ≡ a → k.next_id ≡ id → k.next_tag ≡ tag
     → k ≡ contents facts expiries clock course a id tag
@@ -86,10 +91,6 @@ from_parts k facts expiries clock course a id tag f e c s h i t =
     ∙ ap (λ z. contents facts expiries z k.course k.agenda k.next_id k.next_tag) c
     ∙ ap (λ z. contents facts expiries clock z k.agenda k.next_id k.next_tag) s ∙ ap (λ z. contents facts expiries clock course z k.next_id k.next_tag) h
     ∙ ap (λ z. contents facts expiries clock course a z k.next_tag) i ∙ ap (contents facts expiries clock course a id) t
-
-pub some_mapped : {A B : Type 0} (f : A → B) (o : Option A) → is_some o ≡ is_some (option_map f o)
-some_mapped f None = refl
-some_mapped f (Some x) = refl
 
 -- ---- answers
 
@@ -103,11 +104,11 @@ module _ (s : Setting) (m : Memory) (k : Contents) where
     given = ap (does s.program w) asked_is
 
     pub change_lines : (lines : List OutLine) → WritesFor s m k asked [] lines → lines ≡ (gives s.program w change).0
-    change_lines lines h = h w st (subst (Fits s.program w) (sym asked_is) (change_fits s.program w change runs.runnable st.seen.whole.lawful.ordered)) ∙ ap (λ z. z.0) given
+    change_lines lines h = h w st (subst (FitsWorld s.program w) (sym asked_is) (change_fits s.program w change runs.runnable st.seen.whole.lawful.ordered)) ∙ ap (λ z. z.0) given
 
     pub change_stands : (n : Memory) (t : Contents) → StandsAfter s m k asked n t → Standing s n t (gives s.program w change).1
     change_stands n t h =
-        subst (λ z. Standing s n t z.1) given (h w st (subst (Fits s.program w) (sym asked_is) (change_fits s.program w change runs.runnable st.seen.whole.lawful.ordered)))
+        subst (λ z. Standing s n t z.1) given (h w st (subst (FitsWorld s.program w) (sym asked_is) (change_fits s.program w change runs.runnable st.seen.whole.lawful.ordered)))
 
   module _ (w : World) (st : Standing s m k w) where
     pub is_due : is_some (top_of k.agenda) ≡ is_some (fires s.program w)

@@ -1,5 +1,11 @@
 -- The facts, the clock and the numbers of a session, of which none is forgotten, are those of the world after a step.
-use Rattle.session_laws.proofs.Common.{filter, ◌≡◌, ℕ, ℤ, ◌+◌, ◌<◌, if◌then◌else◌, ◌==◌, ◌||◌, Bool, true, false, List, [], ◌∷◌, ◌++◌, Option, Some, None, refl, sym, ◌∙◌, ap, subst, arith, In, FactId, Tag, TypeId, Value, Fact, Timers, TakesDue, HeldFacts, Program, Modify, is_present, HaveDistinctTags, is_event, is_reference, of_filter, in_filter, passed, Code, EventFixed, ReferenceFixed, end_of_presence, World, at_clock, only_present, modify_fault, is_of_type, last_start_with, revised, revised_in, settled, with_new, with_revised, AllBelow, below_of, distinct_more, distinct_filtered, with_numbers, without, without_fact, others, Marks, IsNewestTag, newest, with_timer, without_timer, left_at, Contents, Mirrors, expiry_at, Course, reached_by, fun_ext, Reached, moment_in}
+use Rattle.session_laws.proofs.Common.{filter, ◌≡◌, ℕ, ℤ, ◌+◌, ◌<◌, if◌then◌else◌, ◌==◌, ◌||◌, Bool, true, false, List, [], ◌∷◌, ◌++◌, Option, Some, None, refl}
+use Rattle.session_laws.proofs.Common.{sym, ◌∙◌, ap, subst, arith, In, FactId, Tag, TypeId, Value, Fact, Timers, TakesDue, HeldFacts, Program, Modify}
+use Rattle.session_laws.proofs.Common.{is_present, HaveDistinctTags, is_event, is_reference, of_filter, in_filter, passed, Code, EventFixed, ReferenceFixed}
+use Rattle.session_laws.proofs.Common.{end_of_presence, World, world_at_clock, only_present, modify_fault, is_of_type, last_start_with, revised, revised_in}
+use Rattle.session_laws.proofs.Common.{settled, with_new, with_revised, AllBelow, below_of, distinct_more, distinct_filtered, with_numbers, without}
+use Rattle.session_laws.proofs.Common.{without_fact, others, Marks, IsNewestTag, newest, with_timer, without_timer, fact_left_at, Contents, Mirrors, expiry_at}
+use Rattle.session_laws.proofs.Common.{Course, reached_by, fun_ext, Reached, moment_in}
 use Rattle.rule_world.specs.Worlds.{moved}
 use Rattle.rule_world.proofs.Steps.{move_numbered, numbered}
 use Rattle.session_laws.proofs.Exactly.{Exact}
@@ -191,7 +197,7 @@ numbers_move p k course b f w st last =
 
 -- what is left are the facts that are present at the new clock
 module _ (p : Program) (k : Contents) (w : World) (clock : ℤ) (st : Exact p k w) (later : Timers) (gone : List ℕ) (takes : TakesDue clock k.expiries later gone) (fewer : HeldFacts)
-    (left : (tag : ℕ) → map.get fewer tag ≡ left_at k.facts gone tag) where
+    (left : (tag : ℕ) → map.get fewer tag ≡ fact_left_at k.facts gone tag) where
   abbrev still_there : List Fact
   still_there = filter (is_present p clock) w.facts
 
@@ -212,7 +218,7 @@ module _ (p : Program) (k : Contents) (w : World) (clock : ℤ) (st : Exact p k 
   distinct_after : HaveDistinctTags still_there
   distinct_after = distinct_filtered (is_present p clock) w.facts st.lawful.ordered.tags
 
-  pub clock_moves : (b : Marks) → Mirrors p (contents fewer later clock k.course b k.next_id k.next_tag) (settled p (only_present p (at_clock w clock)))
+  pub clock_moves : (b : Marks) → Mirrors p (contents fewer later clock k.course b k.next_id k.next_tag) (settled p (only_present p (world_at_clock w clock)))
   clock_moves b =
       let m = st.mirrors in
       record {

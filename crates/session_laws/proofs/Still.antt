@@ -1,5 +1,9 @@
 -- A session whose facts a step leaves as they are, but not the floors of entry points.
-use Rattle.session_laws.proofs.Common.{◌≡◌, ◌≤◌, ◌≤ℤ◌, ℕ, suc, ℤ, Bool, false, List, [], Option, Some, None, refl, sym, ◌∙◌, ap, subst, inl, arith, ints, fun_ext, Fact, HeldFacts, Named, Program, Step, IsLawful, World, only_present, step_fault, stepped, Marks, Rete, NetStands, clean_rows, lingers, Covers, ends_by, ends_of, HasLeft, brought, changed, comes, goes, Memory, Setting, Instant, Leads, LeadsOn, facts_at, instant_of, IsRefreshed, Contents, Awaits, Mirrors, Runs, Standing, with_facts, Course}
+use Rattle.session_laws.proofs.Common.{◌≡◌, ◌≤◌, ◌≤ℤ◌, ℕ, suc, Bool, false, List, [], Option, Some, None, refl, sym, ◌∙◌, ap, subst, inl, arith, fun_ext, Fact}
+use Rattle.session_laws.proofs.Common.{HeldFacts, Named, Program, Step, IsLawful, World, only_present, step_fault, stepped, Marks, Rete, NetStands, clean_rows}
+use Rattle.session_laws.proofs.Common.{lingers, Covers, ends_by, ends_of, HasLeft, brought, changed, comes, goes, Memory, Setting, Instant, LeadsStep, LeadsOn}
+use Rattle.session_laws.proofs.Common.{facts_at, instant_of, IsRefreshed, Contents, Awaits, Mirrors, Runs, Standing, with_facts, Course}
+use Rattle.std.specs.Int.Signed.{≤ℤ_refl}
 use Rattle.session_laws.proofs.Moving_on.{covered_at, hand_of, leads_on, on_time, world_ready}
 use Rattle.session_laws.proofs.Stands.{contents}
 use Rattle.session_laws.proofs.Taken.{taken_awaits}
@@ -27,9 +31,6 @@ pub none_out : (o : Option Fact) → changed None (λ g. false) o ≡ o
 none_out None = refl
 none_out (Some g) = refl
 
-standstill : (clock : ℤ) → clock ≤ℤ clock
-standstill clock = omega (arith, ints)
-
 later_below : (a b c : ℕ) → suc a ≤ b → b ≤ c → suc a ≤ c
 later_below a b c h k = omega arith
 
@@ -46,9 +47,9 @@ module _ (s : Setting) (m : Memory) (k : Contents) (w : World) (st : Standing s 
 
   module _ (mirrors : Mirrors p (with_facts t all) (only_present p (stepped p w step))) (tags : k.next_tag ≤ tag) (none_comes : comes p w step ≡ None) (none_goes : (f : Fact) → goes p w step f ≡ false)
       (kept : n.retention ≡ m.retention) where
-    leads : Leads p all k.clock all k.clock all [] None
+    leads : LeadsStep p all k.clock all k.clock all [] None
     leads = record {
-      later = standstill k.clock;
+      later = ≤ℤ_refl k.clock;
       kept_before = (world_ready s m k w st).kept;
       kept_behind = (world_ready s m k w st).kept;
       own = (world_ready s m k w st).own;

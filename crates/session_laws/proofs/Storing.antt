@@ -1,5 +1,9 @@
 -- Facts that are put under their tags, and what waits for each.
-use Rattle.session_laws.proofs.Common.{◌≡◌, ◌∙◌, ◌⊎◌, inl, inr, ℕ, ℤ, ◌==◌, ◌&&◌, not, Bool, true, false, cond, is_some, List, [], ◌∷◌, Option, Some, None, refl, sym, ap, subst, arith, get-empty, option_and_then, nat_cmp, nat_tests, In, Tag, Fact, Timers, HeldFacts, tag_of, LifeTable, Program, HaveDistinctTags, in_map, end_of_presence, Retention, lingers, ends_by, all_held, stored, AreHeld, AreStorable, expiry_at, with_timer}
+use Rattle.session_laws.proofs.Common.{◌≡◌, ◌∙◌, ◌⊎◌, inl, inr, ℕ, ℤ, ◌==◌, ◌&&◌, not, Bool, true, false, cond, is_some, List, [], ◌∷◌, Option, Some, None}
+use Rattle.session_laws.proofs.Common.{refl, sym, ap, subst, get-empty, option_and_then, nat_cmp, In, Tag, Fact, Timers, HeldFacts, tag_of, LifeTable, Program}
+use Rattle.session_laws.proofs.Common.{HaveDistinctTags, in_map, end_of_presence, Retention, lingers, ends_by, all_held, stored, AreHeld, AreStorable}
+use Rattle.session_laws.proofs.Common.{expiry_at, with_timer}
+use Rattle.std.proofs.lemmas.Bool.{and_left, eqb-false, eqb-true}
 use Rattle.std.proofs.Common.{map as list_map}
 use Rattle.std.specs.FinMap as map
 use Rattle.session_laws.proofs.Members.{Holds, got_new, got_old, of_insert}
@@ -39,19 +43,9 @@ stored_holds facts d = record {
 
 -- ---- one fact more, with what waits for it
 
-number_of : (a b : ℕ) → (a == b) ≡ true → a ≡ b
-number_of a b e = grind (arith, nat_tests)
-
-two_ways : (a b : ℕ) → (a == b) ≡ false → a ≡ b → ⊥
-two_ways a b e h = grind (arith, nat_tests)
-
 no_timer : (o past : Option ℤ) → o ≡ None → cond (is_some past) past o ≡ past
 no_timer o None e = e
 no_timer o (Some at) e = refl
-
-stays_none : (b c : Bool) → b ≡ false → (b && c) ≡ false
-stays_none true c e = absurd cc
-stays_none false c e = refl
 
 pub none_waits : (p : Program) (table : LifeTable) (facts : HeldFacts) (expiries : Timers) (retention : Retention) → facts ≡ map.empty → expiries ≡ map.empty → retention.due ≡ map.empty
     → ((tag : ℕ) → lingers retention tag ≡ false) → AreHeld p table facts expiries retention
@@ -74,17 +68,17 @@ module _ (p : Program) (table : LifeTable) (facts more : HeldFacts) (expiries la
 
   end_at : (t : ℕ) (b : Bool) → (t == f.tag.0) ≡ b → cond (b && is_some past) past (map.get before.due t) ≡ end_in (map.get more t)
   end_at t true e =
-      let same : t ≡ f.tag.0 = number_of t f.tag.0 e in
+      let same : t ≡ f.tag.0 = eqb-true t f.tag.0 e in
       no_timer (map.get before.due t) past (held.ends t ∙ ap (λ n. end_in (map.get facts n)) same ∙ ap end_in new)
       ∙ ends
       ∙ sym (ap end_in (ap (λ m. map.get m t) made ∙ ap (map.get (map.insert facts f.tag.0 f)) same ∙ got_new facts f))
-  end_at t false e = held.ends t ∙ sym (ap end_in (ap (λ m. map.get m t) made ∙ got_old facts f t (two_ways t f.tag.0 e)))
+  end_at t false e = held.ends t ∙ sym (ap end_in (ap (λ m. map.get m t) made ∙ got_old facts f t (eqb-false t f.tag.0 e)))
 
   pub one_more_held : AreHeld p table more later after
   one_more_held = record {
     waits = λ t. ap (λ timers. map.get timers t) timed ∙ timed_new p facts expiries held.waits f new t ∙ ap (λ h. expiry_at p (map.get h t)) (sym made);
     ends = λ t. due t ∙ end_at t (t == f.tag.0) refl;
-    none = λ t. lingering t ∙ stays_none (lingers before t) (not (t == f.tag.0 && is_some past)) (held.none t);
+    none = λ t. lingering t ∙ and_left (lingers before t) (not (t == f.tag.0 && is_some past)) (held.none t);
   }
 
 -- ---- a list of facts, one after the other

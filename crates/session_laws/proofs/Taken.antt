@@ -1,12 +1,13 @@
 -- A step whose first phase is done awaits the second.
-use Rattle.session_laws.proofs.Common.{◌≡◌, ◌∙◌, sym, ap, refl, subst, ℕ, ◌&&◌, not, Bool, true, false, List, None, facts_of, Row, Match, Rule, Step, matches, has_match, World, snapshot, stepped, step_fault, and_both, and_parts, clean_rows, Covers, clean, flagged, IsLawfulStep, Lives, Sight, ends_by, ends_of, each_tag, is_kept, is_clean, Takes, sight_of, comes, goes, world_step_kept, Memory, Setting, over, matches_by, only_in, Contents, Runs, Seen, Standing, holding, with_facts, reached_of}
+use Rattle.session_laws.proofs.Common.{◌≡◌, ◌∙◌, sym, ap, refl, subst, ℕ, ◌&&◌, not, Bool, true, false, List, None, facts_of, Row, Match, Rule, Step, matches}
+use Rattle.session_laws.proofs.Common.{has_match, World, snapshot, stepped, step_fault, clean_rows, Covers, clean, flagged, IsLawfulStep, Lives, TagWorld}
+use Rattle.session_laws.proofs.Common.{ends_by, ends_of, each_tag, is_kept_tag, is_clean, TakesChanges, sight_of, comes, goes, world_step_kept, Memory, Setting}
+use Rattle.session_laws.proofs.Common.{over, matches_by, only_in, Contents, Runs, Seen, Standing, holding, with_facts, reached_of}
+use Rattle.std.proofs.lemmas.Bool.{and_from, and_parts}
 use Rattle.session_laws.proofs.Clean.{clean_matches, clean_kept, clean_next, clean_was, whole_matches}
 use Rattle.session_laws.proofs.Phases.{IsTaken, TakenAwaits}
+use Rattle.fx_base.proofs.Tests.{and_where}
 use Rattle.std.specs.FinMap as map
-
-same_if : (a b c : Bool) → (a ≡ true → b ≡ c) → (a && b) ≡ (a && c)
-same_if true b c h = h refl
-same_if false b c h = refl
 
 stays : (a b : Bool) → a ≡ true → not (a && not b) ≡ true → b ≡ true
 stays true true e h = refl
@@ -21,7 +22,7 @@ module _ (s : Setting) (m : Memory) (k : Contents) (w : World) (st : Standing s 
   abbrev lives : Lives
   lives = ends_by s.lives
 
-  abbrev sight : Sight
+  abbrev sight : TagWorld
   sight = sight_of s.program w
 
   -- the rows by which the agenda went on
@@ -39,16 +40,16 @@ module _ (s : Setting) (m : Memory) (k : Contents) (w : World) (st : Standing s 
   was_match q =
       clean_matches s.program (over (facts_of st.seen.all) k.clock (reached_of k)) st.seen.forgotten q
       ∙ ap (λ b. b && clean st.seen.forgotten q.row) (whole_matches s.program (with_facts k st.seen.all) w st.seen.whole q)
-      ∙ same_if (has_match (matches s.program (snapshot w)) q) (clean st.seen.forgotten q.row) (is_clean lives sight q) (λ is. sym (clean_was s m k w st q is))
+      ∙ and_where (has_match (matches s.program (snapshot w)) q) (clean st.seen.forgotten q.row) (is_clean lives sight q) (λ is. sym (clean_was s m k w st q is))
 
   next_match : (q : Match) → has_match (matches_by new s.program.rules) q ≡ (has_match (matches s.program (snapshot next)) q && is_clean lives sight q)
   next_match q =
       clean_matches s.program (over (facts_of taken.all) t.clock (reached_of t)) st.seen.forgotten q
       ∙ ap (λ b. b && clean st.seen.forgotten q.row) (whole_matches s.program (with_facts t taken.all) next taken.whole q)
-      ∙ same_if (has_match (matches s.program (snapshot next)) q) (clean st.seen.forgotten q.row) (is_clean lives sight q)
+      ∙ and_where (has_match (matches s.program (snapshot next)) q) (clean st.seen.forgotten q.row) (is_clean lives sight q)
       (λ is. sym (clean_next s m k w st next (with_facts t taken.all) taken.whole taken.later q is))
 
-  takes : Takes lives (comes s.program w step) (goes s.program w step) sight (sight_of s.program next) (holding k m.retention) (holding t n.retention) (only_in s.program.rules old new)
+  takes : TakesChanges lives (comes s.program w step) (goes s.program w step) sight (sight_of s.program next) (holding k m.retention) (holding t n.retention) (only_in s.program.rules old new)
       (only_in s.program.rules new old)
   takes = record {
     store = taken.store;
@@ -64,10 +65,10 @@ module _ (s : Setting) (m : Memory) (k : Contents) (w : World) (st : Standing s 
   still_fired : (q : Match) → has_match t.agenda.fired q ≡ true → (has_match (matches s.program (snapshot next)) q ≡ true) × (clean st.seen.forgotten q.row ≡ true)
   still_fired q e =
       let stood = and_parts (has_match k.agenda.fired q) (not (only_in s.program.rules old new q)) (sym (taken.refreshed.fired q) ∙ e) in
-      let marked = and_parts (has_match w.fired q) (each_tag (is_kept lives sight) q) (sym (st.holds.fired q) ∙ stood.0) in
+      let marked = and_parts (has_match w.fired q) (each_tag (is_kept_tag lives sight) q) (sym (st.holds.fired q) ∙ stood.0) in
       let matched = st.seen.whole.lawful.ordered.fired q marked.0 in
       let pure = clean_kept s m k w st q matched ∙ marked.1 in
-      let was = was_match q ∙ and_both (has_match (matches s.program (snapshot w)) q) (is_clean lives sight q) matched pure in
+      let was = was_match q ∙ and_from (has_match (matches s.program (snapshot w)) q) (is_clean lives sight q) matched pure in
       let is = stays (has_match (matches_by old s.program.rules) q) (has_match (matches_by new s.program.rules) q) was stood.1 in
       ((and_parts (has_match (matches s.program (snapshot next)) q) (is_clean lives sight q) (sym (next_match q) ∙ is)).0, sym (clean_was s m k w st q matched) ∙ pure)
 

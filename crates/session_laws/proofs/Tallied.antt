@@ -1,28 +1,33 @@
 -- What a store counts by types is what is kept of each world for which the session stands.
-use Rattle.session_laws.proofs.Common.{◌≡◌, ◌∙◌, sym, ap, refl, ℕ, ◌==◌, ◌&&◌, ◌||◌, inl, inr, List, [], ◌∷◌, map, length, Bool, true, false, cond, Option, Some, None, arith, subst, event_types, HaveDistinctIds, in_map, FactId, list_any, AllByRecursion, filter, nat_tests, length-map, exact_unsigned_eq, In, Fact, TypeId, HeldFacts, CountsType, is_of, Program, of_filter, in_filter, passed, World, ids_filtered, id_of, kept_facts, only, fact_at, same_kept, at_filter, fact_in, own_at, Memory, Setting, AreCounts, facts_of_type, Contents, Runs, Standing}
+use Rattle.session_laws.proofs.Common.{◌≡◌, ◌∙◌, sym, ap, refl, ℕ, ◌==◌, ◌&&◌, ◌||◌, inl, inr, List, [], ◌∷◌, map, length, Bool, true, false, cond, Option}
+use Rattle.session_laws.proofs.Common.{Some, None, arith, subst, event_types, HaveDistinctIds, in_map, FactId, list_any, AllByRecursion, filter, length-map}
+use Rattle.session_laws.proofs.Common.{exact_unsigned_eq, In, Fact, TypeId, HeldFacts, CountsType, is_of, Program, of_filter, in_filter, passed, World}
+use Rattle.session_laws.proofs.Common.{ids_filtered, id_of, kept_facts, only, fact_at, same_kept, at_filter, fact_in, own_at, Memory, Setting, AreCounts}
+use Rattle.session_laws.proofs.Common.{facts_of_type, Contents, Runs, Standing}
+use Rattle.std.proofs.lemmas.Bool.{and_parts, ne_eqb}
+use Rattle.std.proofs.Math.Bool.{or-true}
 use Rattle.std.specs.Prelude.{nat_eq}
 use Rattle.std.specs.List.{IsDistinct}
 use Rattle.std.specs.FinMap as map_of
 use Rattle.std.proofs.lemmas.Map.Made.{length-from_same_keys}
 use Rattle.fact_store.specs.Ids.{AreIds}
-use Rattle.fact_store.proofs.Counting.{torn, eq_self, both_true, or_true, nat_equiv}
+use Rattle.fact_store.proofs.Counting.{nat_equiv}
 use Rattle.keeping.specs.Kept.{is_kept}
 use Rattle.engine.specs.Counts.{HasEach}
 use Rattle.session_laws.specs.Counts.{held_counts}
 use Rattle.session_laws.proofs.Members.{Holds}
+use Rattle.fx_base.proofs.Orders.{eqb-self}
+use Rattle.fx_base.proofs.Tests.{both_ways_absurd, same_test as alike}
 
 -- ---- the ids of facts
 
 abbrev ids_of : List Fact → List ℕ
 ids_of facts = map (λ (f : Fact). f.id.0) facts
 
-differ : (m n : ℕ) → (m ≡ n → ⊥) → nat_eq m n ≡ false
-differ m n other = grind (arith, nat_tests)
-
 -- an id that no fact has is apart from theirs
 apart_from : (id : ℕ) (facts : List Fact) → ((f : Fact) → In f facts → id ≡ f.id.0 → ⊥) → AllByRecursion (λ y. nat_eq id y ≡ false) (ids_of facts)
 apart_from id [] other = tt
-apart_from id (f ∷ facts) other = (differ id f.id.0 (other f (inl refl)), apart_from id facts (λ g i. other g (inr i)))
+apart_from id (f ∷ facts) other = (ne_eqb id f.id.0 (other f (inl refl)), apart_from id facts (λ g i. other g (inr i)))
 
 abbrev numbered : ℕ → FactId
 numbered id = record { 0 = id }
@@ -38,7 +43,7 @@ once_each (f ∷ facts) d = (
 
 -- an id among those of facts is that of one of them
 one_has : (id : ℕ) (facts : List Fact) → list_any (nat_eq id) (ids_of facts) ≡ true → (f : Fact) × In f facts × (f.id.0 ≡ id)
-one_has id [] e = torn false e refl
+one_has id [] e = both_ways_absurd false e refl
 one_has id (x ∷ facts) e = by (nat_eq id x.id.0) refl e (one_has id facts)
   where
     by : (b : Bool) → nat_eq id x.id.0 ≡ b → (b || list_any (nat_eq id) (ids_of facts)) ≡ true
@@ -49,15 +54,10 @@ one_has id (x ∷ facts) e = by (nat_eq id x.id.0) refl e (one_has id facts)
 -- and that of each fact is among them
 has_one : (f : Fact) (facts : List Fact) → In f facts → list_any (nat_eq f.id.0) (ids_of facts) ≡ true
 has_one f [] i = absurd i
-has_one f (x ∷ facts) (inl e) = ap (λ b. b || list_any (nat_eq f.id.0) (ids_of facts)) (ap (λ (z : Fact). nat_eq f.id.0 z.id.0) (sym e) ∙ eq_self f.id.0)
-has_one f (x ∷ facts) (inr i) = ap (λ b. nat_eq f.id.0 x.id.0 || b) (has_one f facts i) ∙ or_true (nat_eq f.id.0 x.id.0)
+has_one f (x ∷ facts) (inl e) = ap (λ b. b || list_any (nat_eq f.id.0) (ids_of facts)) (ap (λ (z : Fact). nat_eq f.id.0 z.id.0) (sym e) ∙ eqb-self f.id.0)
+has_one f (x ∷ facts) (inr i) = ap (λ b. nat_eq f.id.0 x.id.0 || b) (has_one f facts i) ∙ or-true (nat_eq f.id.0 x.id.0)
 
 -- ---- counts
-
-alike : (a b : Bool) → (a ≡ true → b ≡ true) → (b ≡ true → a ≡ true) → a ≡ b
-alike true b to from = sym (to refl)
-alike false true to from = from refl
-alike false false to from = refl
 
 -- two lists of the ids that are held have the same length
 same_length : (held : ℕ → ℕ → Bool) (xs ys : List ℕ) → AreIds held xs → AreIds held ys → length xs ≡ length ys
@@ -73,15 +73,15 @@ module _ (held : HeldFacts) (facts : List Fact) (h : Holds held facts) (ids : Ha
         let f = one_has id (facts_of_type ty facts) e in (
           f.0.tag.0,
           ap (is_of ty id) (h.from f.0 (of_filter (λ (g : Fact). g.ty.0 == ty) f.0 facts f.1))
-              ∙ ap (λ b. b && nat_eq f.0.id.0 id) (passed (λ (g : Fact). g.ty.0 == ty) f.0 facts f.1) ∙ ap (λ n. nat_eq n id) f.2 ∙ eq_self id,
+              ∙ ap (λ b. b && nat_eq f.0.id.0 id) (passed (λ (g : Fact). g.ty.0 == ty) f.0 facts f.1) ∙ ap (λ n. nat_eq n id) f.2 ∙ eqb-self id,
         );
     all = λ id tag e. there id tag (map_of.get held tag) refl e;
   }
     where
       there : (id tag : ℕ) (o : Option Fact) → map_of.get held tag ≡ o → is_of ty id o ≡ true → list_any (nat_eq id) (ids_of (facts_of_type ty facts)) ≡ true
-      there id tag None at e = torn false e refl
+      there id tag None at e = both_ways_absurd false e refl
       there id tag (Some f) at e =
-          let both = both_true (nat_eq f.ty.0 ty) (nat_eq f.id.0 id) e in
+          let both = and_parts (nat_eq f.ty.0 ty) (nat_eq f.id.0 id) e in
           ap (λ n. list_any (nat_eq n) (ids_of (facts_of_type ty facts))) (sym (exact_unsigned_eq f.id.0 id both.1))
           ∙ has_one f (facts_of_type ty facts) (in_filter (λ (g : Fact). g.ty.0 == ty) f facts both.0 (h.to tag f at).0)
 

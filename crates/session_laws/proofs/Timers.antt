@@ -1,22 +1,18 @@
 -- What the facts of a session wait for, where facts come and go.
-use Rattle.session_laws.proofs.Common.{◌≡◌, ℕ, ℤ, ◌-ℤ◌, ◌+ℤ◌, ◌||◌, not, Bool, true, false, cond, int_lt, nat_eq, is_some, List, Option, Some, None, if◌then◌else◌, refl, sym, ◌∙◌, ap, arith, int_le, nat_cmp_total, get-insert, get-remove, get-retain_keys, list_any, nat_cmp, eq_by_cmp, is_eq, Equal, nat_tests, ints, Fact, Timers, has_come, is_due, TakesDue, HeldFacts, tied, itself, Program, is_within, is_event, expiry_of, end_by, end_of_presence, expiry_at, with_timer, without_timer, left_at}
+use Rattle.session_laws.proofs.Common.{◌≡◌, ℕ, ℤ, ◌-ℤ◌, ◌+ℤ◌, ◌||◌, not, Bool, true, false, cond, int_lt, nat_eq, is_some, List, Option, Some, None}
+use Rattle.session_laws.proofs.Common.{if◌then◌else◌, refl, sym, ◌∙◌, ap, arith, int_le, nat_cmp_total, get-insert, get-remove, get-retain_keys, list_any}
+use Rattle.session_laws.proofs.Common.{nat_cmp, eq_by_cmp, is_eq, Equal, ints, Fact, Timers, has_come, is_due, TakesDue, HeldFacts, tied, itself, Program}
+use Rattle.session_laws.proofs.Common.{is_within, is_event, expiry_of, end_by, end_of_presence, expiry_at, with_timer, without_timer, fact_left_at}
+use Rattle.std.proofs.lemmas.Bool.{eqb-false, eqb-true}
 use Rattle.std.specs.Bool.{OnTrue, OnFalse}
 use Rattle.rule_model.specs.Candidates.{is_present}
 use Rattle.session_laws.proofs.Members.{got_new, got_old, is_out, not_out}
+use Rattle.fx_base.proofs.Orders.{eq_by_nat_cmp-turned}
 use Rattle.std.specs.FinMap as map
 
 -- what each fact of a map waits for stands among these timers
 abbrev pub AreTimed : Program → HeldFacts → Timers → Type 0
 AreTimed p held timers = (tag : ℕ) → map.get timers tag ≡ expiry_at p (map.get held tag)
-
-same_number : (m n : ℕ) → nat_eq m n ≡ true → m ≡ n
-same_number m n e = grind (arith, nat_tests)
-
-other_number : (m n : ℕ) → nat_eq m n ≡ false → m ≡ n → ⊥
-other_number m n e h = grind (arith, nat_tests)
-
-its_own : (n : ℕ) → nat_eq n n ≡ true
-its_own n = grind (arith, nat_tests)
 
 -- a timer is taken out, if it is there
 is_there : (timers : Timers) (tag : ℕ) → map.contains_key timers tag ≡ is_some (map.get timers tag)
@@ -26,25 +22,14 @@ none_there : (o : Option ℤ) → false ≡ is_some o → o ≡ None
 none_there None e = refl
 none_there (Some at) e = absurd (let n : false ≡ true = e in cc)
 
-same_test : (other tag : ℕ) → eq_by_cmp nat_cmp other tag ≡ nat_eq tag other
-same_test other tag = by (nat_eq tag other) refl
-  where
-    by : (b : Bool) → nat_eq tag other ≡ b → eq_by_cmp nat_cmp other tag ≡ nat_eq tag other
-    by true e = ap (λ t. eq_by_cmp nat_cmp other t) (same_number tag other e) ∙ itself other ∙ sym e
-    by false e = apart (eq_by_cmp nat_cmp other tag) refl ∙ sym e
-      where
-        apart : (b : Bool) → eq_by_cmp nat_cmp other tag ≡ b → eq_by_cmp nat_cmp other tag ≡ false
-        apart true t = absurd (other_number tag other e (sym (tied other tag t)))
-        apart false t = t
-
 pub cancelled : (timers left : Timers) (tag : ℕ) (found : Bool) → found ≡ map.contains_key timers tag → OnTrue found (left ≡ map.remove timers tag) → OnFalse found (left ≡ timers)
     → (other : ℕ) → map.get left other ≡ without_timer timers tag other
 cancelled timers left tag true e removed unchanged other =
-    ap (λ m. map.get m other) removed ∙ get-remove nat_cmp_total timers tag other ∙ ap (λ b. cond b None (map.get timers other)) (same_test other tag)
+    ap (λ m. map.get m other) removed ∙ get-remove nat_cmp_total timers tag other ∙ ap (λ b. cond b None (map.get timers other)) (eq_by_nat_cmp-turned other tag)
 cancelled timers left tag false e removed unchanged other = ap (λ m. map.get m other) unchanged ∙ by (nat_eq tag other) refl
   where
     by : (b : Bool) → nat_eq tag other ≡ b → map.get timers other ≡ (if b then None else map.get timers other)
-    by true h = ap (map.get timers) (sym (same_number tag other h)) ∙ none_there (map.get timers tag) (e ∙ is_there timers tag)
+    by true h = ap (map.get timers) (sym (eqb-true tag other h)) ∙ none_there (map.get timers tag) (e ∙ is_there timers tag)
     by false h = refl
 
 module _ (p : Program) (held : HeldFacts) (timers : Timers) (timed : AreTimed p held timers) where
@@ -76,8 +61,8 @@ module _ (p : Program) (held : HeldFacts) (timers : Timers) (timed : AreTimed p 
   -- ---- one less
 
   less_by : (out tag : ℕ) (b : Bool) → nat_eq out tag ≡ b → (if b then None else map.get timers tag) ≡ expiry_at p (map.get (map.remove held out) tag)
-  less_by out tag true e = sym (ap (λ t. expiry_at p (map.get (map.remove held out) t)) (sym (same_number out tag e)) ∙ ap (expiry_at p) (is_out held out))
-  less_by out tag false e = timed tag ∙ ap (expiry_at p) (sym (not_out held out tag (λ same. other_number out tag e (sym same))))
+  less_by out tag true e = sym (ap (λ t. expiry_at p (map.get (map.remove held out) t)) (sym (eqb-true out tag e)) ∙ ap (expiry_at p) (is_out held out))
+  less_by out tag false e = timed tag ∙ ap (expiry_at p) (sym (not_out held out tag (λ same. eqb-false out tag e (sym same))))
 
   pub timed_less : (out : ℕ) (fewer : Timers) → ((tag : ℕ) → map.get fewer tag ≡ without_timer timers out tag) → AreTimed p (map.remove held out) fewer
   timed_less out fewer h tag = h tag ∙ less_by out tag (nat_eq out tag) refl
@@ -90,10 +75,10 @@ module _ (p : Program) (held : HeldFacts) (timers : Timers) (timed : AreTimed p 
     where
       out_by : (b : Bool) → nat_eq out tag ≡ b → map.get timers tag ≡ expiry_at p (map.get (map.remove held out) tag)
       out_by true e =
-          let same : out ≡ tag = same_number out tag e in
+          let same : out ≡ tag = eqb-true out tag e in
           timed tag ∙ ap (λ t. expiry_at p (map.get held t)) (sym same) ∙ ap (expiry_at p) there ∙ ap (λ b. end_by b (expiry_of p f.ty.0) f.times.start) plain
           ∙ ap (expiry_at p) (sym (is_out held out)) ∙ ap (λ t. expiry_at p (map.get (map.remove held out) t)) same
-      out_by false e = timed tag ∙ ap (expiry_at p) (sym (not_out held out tag (λ same. other_number out tag e (sym same))))
+      out_by false e = timed tag ∙ ap (expiry_at p) (sym (not_out held out tag (λ same. eqb-false out tag e (sym same))))
 
       in_by : (b : Bool) → eq_by_cmp nat_cmp tag g.tag.0 ≡ b → map.get timers tag ≡ expiry_at p (map.get (map.insert (map.remove held out) g.tag.0 g) tag)
       in_by true e =
@@ -133,10 +118,10 @@ module _ (p : Program) (held : HeldFacts) (timers : Timers) (timed : AreTimed p 
         turned true = refl
         turned false = refl
 
-    pub left_present : (tag : ℕ) (f : Fact) → map.get held tag ≡ Some f → left_at held gone tag ≡ (if is_present p clock f then Some f else None)
+    pub left_present : (tag : ℕ) (f : Fact) → map.get held tag ≡ Some f → fact_left_at held gone tag ≡ (if is_present p clock f then Some f else None)
     left_present tag f is = left_by (map.get held tag) (list_any (nat_eq tag) gone) (is_gone tag) f is
 
-    pub left_none : (tag : ℕ) → map.get held tag ≡ None → left_at held gone tag ≡ None
+    pub left_none : (tag : ℕ) → map.get held tag ≡ None → fact_left_at held gone tag ≡ None
     left_none tag is = by (list_any (nat_eq tag) gone)
       where
         by : (b : Bool) → (if b then None else map.get held tag) ≡ None
@@ -144,7 +129,7 @@ module _ (p : Program) (held : HeldFacts) (timers : Timers) (timed : AreTimed p 
         by false = is
 
     -- what is left was there, and is present
-    pub left_found : (tag : ℕ) (g : Fact) → left_at held gone tag ≡ Some g → (map.get held tag ≡ Some g) × (is_present p clock g ≡ true)
+    pub left_found : (tag : ℕ) (g : Fact) → fact_left_at held gone tag ≡ Some g → (map.get held tag ≡ Some g) × (is_present p clock g ≡ true)
     left_found tag g is = by (map.get held tag) refl
       where
         some_if : (b : Bool) (f : Fact) → is_present p clock f ≡ b → map.get held tag ≡ Some f → (if b then Some f else None) ≡ Some g → (map.get held tag ≡ Some g) × (is_present p clock g ≡ true)
@@ -159,7 +144,7 @@ module _ (p : Program) (held : HeldFacts) (timers : Timers) (timed : AreTimed p 
     kept_by tag true e f = refl
     kept_by tag false e f = timed tag
 
-    pub timed_left : (fewer : HeldFacts) → ((tag : ℕ) → map.get fewer tag ≡ left_at held gone tag) → AreTimed p fewer later
+    pub timed_left : (fewer : HeldFacts) → ((tag : ℕ) → map.get fewer tag ≡ fact_left_at held gone tag) → AreTimed p fewer later
     timed_left fewer h tag =
         ap (λ m. map.get m tag) takes.rest
         ∙ get-retain_keys timers (λ key. not (is_due clock timers key)) tag (λ x e. ap (λ key. not (is_due clock timers key)) (sym (tied_to tag x e)))

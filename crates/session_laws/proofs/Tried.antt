@@ -1,7 +1,10 @@
 -- Steps that are possible, or refused, one after the other.
-use Rattle.session_laws.proofs.Common.{◌≡◌, inr, ℕ, List, [], ◌∷◌, ◌++◌, length, Some, None, Result, Ok, Err, refl, sym, ◌∙◌, ap, subst, append_assoc, arith, OnOk, append-nil, Code, Program, Step, IsOrdered, World, step_fault, stepped, step_lawful, Stays, same_stays, stays_on, OutLine, Fault, Memory, Setting, does, refused, step_lines, tries, tries_with, AllFit, StandsAfter, Suits, Tries, Writes, WritesFor, Contents, Standing}
+use Rattle.session_laws.proofs.Common.{◌≡◌, inr, List, [], ◌∷◌, ◌++◌, Some, None, Result, Ok, Err, refl, sym, ◌∙◌, ap, subst, append_assoc, OnOk, append-nil}
+use Rattle.session_laws.proofs.Common.{Code, Program, Step, IsOrdered, World, step_fault, stepped, step_lawful, Stays, same_stays, stays_on, OutLine, Fault}
+use Rattle.session_laws.proofs.Common.{Memory, Setting, does, refused, step_lines, tries, tries_with, AllFit, StandsAfter, Suits, Tries, Writes, WritesFor}
+use Rattle.session_laws.proofs.Common.{Contents, Standing}
 use Rattle.session_laws.specs.Gives.{does_all}
-use Rattle.session_laws.specs.Leading.{Moves}
+use Rattle.session_laws.specs.Leading.{MovesSession}
 use Rattle.session_laws.proofs.Doing.{does_stays, next_fits}
 
 -- a step without a fault is done, and one with a fault is refused
@@ -19,7 +22,7 @@ module _ (s : Setting) (m : Memory) (k : Contents) (step : Step) where
   abbrev pub HasFault : Code → Type 0
   HasFault code = (w : World) → Standing s m k w → Suits s.program w step → step_fault s.program w step ≡ Some code
 
-  pub tried_done : (n : Memory) (t : Contents) → IsFaultless → Moves s m k step n t → Tries s m k step n t
+  pub tried_done : (n : Memory) (t : Contents) → IsFaultless → MovesSession s m k step n t → Tries s m k step n t
   tried_done n t faultless moves w st suits =
       let none : step_fault s.program w step ≡ None = faultless w st suits in
       subst (λ (z : List OutLine × World). Standing s n t z.1) (sym (is_done s.program w step none))
@@ -63,10 +66,6 @@ on_ok_weaker (Err e) f p = tt
 pub on_ok : {T E P : Type 0} (r : Result T E) → P → OnOk r P
 on_ok (Ok x) p = p
 on_ok (Err e) p = tt
-
-pub nothing_left : {A : Type 0} (xs : List A) (n : ℕ) → n ≡ length xs → n ≡ 0 → xs ≡ []
-nothing_left [] n e z = refl
-nothing_left (x ∷ xs) n e z = absurd (omega arith)
 
 -- ---- steps one after the other
 

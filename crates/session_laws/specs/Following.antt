@@ -11,42 +11,42 @@ use Rattle.row_delta.specs.declared.row.Named.{Named}
 use Rattle.rule_model.specs.Tuples.{name_of}
 use Rattle.rete_net.specs.Forgetting.{AreNotNeeded}
 use Rattle.session_laws.specs.Standing.{expiry_at, Contents, reached_of}
-use Rattle.session_laws.specs.Waiting.{left_at, HaveOwnTags}
+use Rattle.session_laws.specs.Waiting.{fact_left_at, HaveOwnTags}
 use Rattle.std.specs.FinMap as map
 use Rattle.rule_model.specs.Snapshots.{Reached, nothing_reached, Snapshot}
 use Rattle.rule_model.specs.declared.moment.Moment.{Moment}
 use Rattle.rule_model.specs.Moments.{reached_in}
 
 -- Facts at a clock, where only these matter.
-abbrev pub at_clock : HeldFacts → ℤ → Snapshot
-at_clock held clock = over (facts_of held) clock nothing_reached
+abbrev pub facts_at_clock : HeldFacts → ℤ → Snapshot
+facts_at_clock held clock = over (facts_of held) clock nothing_reached
 
 -- Each fact stands at its own tag and waits for the moment from which it is not present, and all of them are present at the clock.
 pub record IsReady (p : Program) (facts : HeldFacts) (expiries : Timers) (clock : ℤ) : Type 0 where
   pub own : HaveOwnTags facts
   pub waits : (tag : ℕ) → map.get expiries tag ≡ expiry_at p (map.get facts tag)
-  pub kept : IsOrderly p (at_clock facts clock)
+  pub kept : IsOrderly p (facts_at_clock facts clock)
 
 -- ---- a step of the network
 
 -- the one that comes, if one does, has the greatest tag
-abbrev pub Comes : HeldFacts → HeldFacts → Option Fact → Type 0
-Comes before all None = all ≡ before
-Comes before all (Some f) = (all ≡ map.insert before f.tag.0 f) × ((tag : ℕ) (g : Fact) → map.get before tag ≡ Some g → tag < f.tag.0)
+abbrev pub ComesLast : HeldFacts → HeldFacts → Option Fact → Type 0
+ComesLast before all None = all ≡ before
+ComesLast before all (Some f) = (all ≡ map.insert before f.tag.0 f) × ((tag : ℕ) (g : Fact) → map.get before tag ≡ Some g → tag < f.tag.0)
 
 -- Some facts go, by their tags, one may come, and the clock moves on or stands. `all` has the facts before and the one that comes.
-pub record Leads (p : Program) (before : HeldFacts) (from : ℤ) (behind : HeldFacts) (to : ℤ) (all : HeldFacts) (gone : List ℕ) (come : Option Fact) : Type 0 where
+pub record LeadsStep (p : Program) (before : HeldFacts) (from : ℤ) (behind : HeldFacts) (to : ℤ) (all : HeldFacts) (gone : List ℕ) (come : Option Fact) : Type 0 where
   pub later : from ≤ℤ to
-  pub kept_before : IsOrderly p (at_clock before from)
-  pub kept_behind : IsOrderly p (at_clock behind to)
+  pub kept_before : IsOrderly p (facts_at_clock before from)
+  pub kept_behind : IsOrderly p (facts_at_clock behind to)
   pub own : HaveOwnTags all
-  pub comes : Comes before all come
+  pub comes : ComesLast before all come
   pub once : EachOnce gone
   pub held : (tag : ℕ) → In tag gone → (f : Fact) × (map.get before tag ≡ Some f)
-  pub left : (tag : ℕ) → map.get behind tag ≡ left_at all gone tag
+  pub left : (tag : ℕ) → map.get behind tag ≡ fact_left_at all gone tag
 
 -- what entry points have reached does not fall
-pub record GoesOn (was now : Reached) : Type 0 where
+pub record NeverFalls (was now : Reached) : Type 0 where
   pub last_start : (entry : ℕ) → was.last_start entry ≤ℤ now.last_start entry
   pub promise : (entry : ℕ) → was.promise entry ≤ℤ now.promise entry
 
@@ -73,7 +73,7 @@ facts_at held at = over (facts_of held) at.clock at.reached
 
 -- the same where some facts are forgotten, and no rule needs one of them
 pub record LeadsOn (p : Program) (before : HeldFacts) (from : Instant) (behind : HeldFacts) (to : Instant) (all : HeldFacts) (gone : List ℕ) (come : Option Fact) (forgotten : Named → Bool) (facts : HeldFacts) : Type 0 where
-  pub leads : Leads p before from.clock behind to.clock all gone come
-  pub goes_on : GoesOn from.reached to.reached
+  pub leads : LeadsStep p before from.clock behind to.clock all gone come
+  pub goes_on : NeverFalls from.reached to.reached
   pub unneeded : AreNotNeeded p forgotten (facts_at before from) (facts_at behind to) (filter_map (map.get all) gone) come
   pub at_hand : HasAtHand all facts gone forgotten

@@ -20,8 +20,8 @@ use Rattle.session_laws.specs.Standing.{Contents, Standing}
 -- ---- steps that are done
 
 -- of each world for which the first contents stand, the second ones stand for the world behind the step, where that has no fault
-abbrev pub Moves : Setting → Memory → Contents → Step → Memory → Contents → Type 0
-Moves s m k step n t =
+abbrev pub MovesSession : Setting → Memory → Contents → Step → Memory → Contents → Type 0
+MovesSession s m k step n t =
     (w : World) → Standing s m k w → step_fault s.program w step ≡ None → IsLawful s.program (stepped s.program w step) → Standing s n t (stepped s.program w step)
 
 -- ---- steps that are tried
@@ -52,16 +52,16 @@ Writes s m k step before after = (w : World) → Standing s m k w → Suits s.pr
 -- ---- what is wanted
 
 -- what is wanted suits the world, where it is a step
-abbrev pub Fits : Program → World → Result Step Code → Type 0
-Fits p w wanted = (step : Step) → wanted ≡ Ok step → Suits p w step
+abbrev pub FitsWorld : Program → World → Result Step Code → Type 0
+FitsWorld p w wanted = (step : Step) → wanted ≡ Ok step → Suits p w step
 
 -- of each world for which the first contents stand, and which what is wanted fits, the second ones stand for the next
 abbrev pub StandsAfter : Setting → Memory → Contents → Result Step Code → Memory → Contents → Type 0
-StandsAfter s m k wanted n t = (w : World) → Standing s m k w → Fits s.program w wanted → Standing s n t (does s.program w wanted).1
+StandsAfter s m k wanted n t = (w : World) → Standing s m k w → FitsWorld s.program w wanted → Standing s n t (does s.program w wanted).1
 
 -- and its lines are written
 abbrev pub WritesFor : Setting → Memory → Contents → Result Step Code → List OutLine → List OutLine → Type 0
-WritesFor s m k wanted before after = (w : World) → Standing s m k w → Fits s.program w wanted → after ≡ before ++ (does s.program w wanted).0
+WritesFor s m k wanted before after = (w : World) → Standing s m k w → FitsWorld s.program w wanted → after ≡ before ++ (does s.program w wanted).0
 
 -- ---- a plan
 

@@ -4,7 +4,7 @@ use Rattle.fx_base.specs.declared.ids.Tag.{Tag}
 use Rattle.fx_base.specs.declared.fact.Fact.{Fact}
 use Rattle.fx_base.specs.declared.value.Value.{Value}
 use Rattle.due_queue.specs.Timers.{Timers}
-use Rattle.fact_store.specs.Held.{HeldFacts, IsNewest, is_id}
+use Rattle.fact_store.specs.Held.{HeldFacts, IsNewest, is_held_with_id}
 use Rattle.row_delta.specs.declared.row.Row.{Row}
 use Rattle.rule_model.specs.declared.action.Action.{Action}
 use Rattle.rule_world.specs.declared.code.Code.{Code}
@@ -25,7 +25,7 @@ use Rattle.std.specs.FinMap as map
 -- of the facts with an id that stand below a tag, the one that stands at the greatest
 unfoldable pub newest_below : HeldFacts → ℕ → ℕ → Option Fact
 newest_below held id zero = None
-newest_below held id (suc tag) = if is_id id (map.get held tag) then map.get held tag else newest_below held id tag
+newest_below held id (suc tag) = if is_held_with_id id (map.get held tag) then map.get held tag else newest_below held id tag
 
 -- the fact of an id
 abbrev pub newest : Contents → ℕ → Option Fact

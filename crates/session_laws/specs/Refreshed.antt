@@ -20,8 +20,8 @@ over facts clock reached = record { facts = facts; clock = clock; reached = reac
 abbrev pub rows_at : Program → List Fact → ℤ → Reached → Rule → List Row
 rows_at p facts clock reached rule = rows p (over facts clock reached) rule.conditions
 
-abbrev pub no_rows : Rule → List Row
-no_rows rule = []
+abbrev pub no_rule_rows : Rule → List Row
+no_rule_rows rule = []
 
 -- the rows of these rules as matches, the first rule having the place 0
 abbrev pub matches_by : (Rule → List Row) → List Rule → List Match

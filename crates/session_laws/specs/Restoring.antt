@@ -1,5 +1,6 @@
 -- What a session is made of from an image.
-use Rattle.std.specs.Prelude.{◌≡◌, ◌≤ℤ◌, ◌-ℤ◌, ◌+ℤ◌, ◌==◌, ◌&&◌, ◌||◌, not, ℕ, ℤ, pos, Bool, true, false, List, [], ◌∷◌, map as list_map, length, Option, Some, None, slice_get}
+use Rattle.std.specs.Prelude.{◌≡◌, ◌≤ℤ◌, ◌-ℤ◌, ◌+ℤ◌, ◌==◌, ◌&&◌, ◌||◌, not, ℕ, ℤ, pos, Bool, true, false, List, [], ◌∷◌, map as list_map, length, Option, Some}
+use Rattle.std.specs.Prelude.{None, slice_get}
 use Rattle.std.specs.FinMap as map
 use Rattle.std.specs.List.{list_any}
 use Rattle.fx_base.specs.Lists.{In}
@@ -23,7 +24,7 @@ use Rattle.rule_world.specs.Lawful.{IsLawful}
 use Rattle.rule_world.specs.Worlds.{World}
 use Rattle.agenda.specs.Agendas.{Marks}
 use Rattle.image_laws.specs.Images.{match_fired, snapshot_of, IsImageOf}
-use Rattle.image_laws.specs.Laden.{AreOwners, laden}
+use Rattle.laden_rows.specs.Laden.{AreOwners, laden}
 use Rattle.image_fitting.specs.Plain.{FitsByRows}
 use Rattle.retention.specs.declared.retention.Retention.{Retention}
 use Rattle.retention.specs.Retentions.{lingers}

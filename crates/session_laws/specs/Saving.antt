@@ -10,7 +10,7 @@ use Rattle.rule_model.specs.Matches.{match_cmp}
 use Rattle.rule_model.specs.Moments.{moment_in}
 use Rattle.rule_model.specs.Snapshots.{Snapshot}
 use Rattle.condition_rows.specs.Looks.{HasAllOf}
-use Rattle.image_laws.specs.Extras.{AreExtras}
+use Rattle.laden_rows.specs.Extras.{AreExtras}
 use Rattle.image_laws.specs.Images.{match_fired}
 use Rattle.rete_net.specs.declared.net.Rete.{Rete}
 use Rattle.rete_net.specs.Nets.{NetStands}
@@ -23,7 +23,7 @@ pub record ArePadded (moments : List ℤ) (many : ℕ) (first : List ℤ) : Type
 
 -- An image has what a session has: what so many entry points have reached, its facts and fired matches in their order, and what its network
 -- counts beyond the facts.
-pub record IsSaved (k : Contents) (many : ℕ) (net : Rete) (image : Image) : Type 0 where
+pub record IsSessionSaved (k : Contents) (many : ℕ) (net : Rete) (image : Image) : Type 0 where
   pub clock : image.clock ≡ k.clock
   pub begun : image.begun ≡ k.course.begun
   pub last_starts : ArePadded k.course.last_starts many image.last_starts

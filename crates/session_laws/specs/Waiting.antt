@@ -16,8 +16,8 @@ abbrev pub without_timer : Timers → ℕ → ℕ → Option ℤ
 without_timer timers tag other = if nat_eq tag other then None else map.get timers other
 
 -- the fact at a tag where those of some tags are gone
-abbrev pub left_at : HeldFacts → List ℕ → ℕ → Option Fact
-left_at held gone tag = if list_any (nat_eq tag) gone then None else map.get held tag
+abbrev pub fact_left_at : HeldFacts → List ℕ → ℕ → Option Fact
+fact_left_at held gone tag = if list_any (nat_eq tag) gone then None else map.get held tag
 
 -- each fact stands at its own tag
 abbrev pub HaveOwnTags : HeldFacts → Type 0

@@ -1,14 +1,19 @@
 -- Sizes of ways are those of the ways that are written out.
-use Rattle.subrules.proofs.Common.{◌≡◌, ◌<◌, ◌≤◌, ◌+◌, ◌-◌, ◌*◌, ◌||◌, ℕ, zero, suc, nat_lt, nat_eq, min, max, Bool, true, false, List, [], ◌∷◌, ◌++◌, length, map, take, Option, Some, None, slice_get, option_map, cond, refl, sym, ap, ◌∙◌, arith, filter, list_any, length-append, Piece, WrittenType, Alternatives, Walk, first_names, has_subtypes, is_below, kinds_of, Way, times, over_type, choices, all_ways, asks, closed_in, taken, at_begin, at_no_piece, length-map, map-append, take-map, slice_get-map, longest, sized, size_of, nothing, free_size, begun_size, size_times, size_plus, size_of_choices, all_size, asks_size, closed_size, measured, size_of_all, size_of_walk, passes_limits, are_too_many}
+use Rattle.subrules.proofs.Common.{◌≡◌, ◌<◌, ◌≤◌, ◌+◌, ◌-◌, ◌*◌, ◌||◌, ℕ, zero, suc, nat_lt, nat_eq, min, max, Bool, true, false, List, [], ◌∷◌, ◌++◌, length}
+use Rattle.subrules.proofs.Common.{map, take, Option, Some, None, slice_get, option_map, cond, refl, sym, ap, ◌∙◌, arith, filter, list_any, length-append}
+use Rattle.subrules.proofs.Common.{length-map, map-append, take-map, Piece, WrittenType, Alternatives, Walk, first_names, has_subtypes, is_subtype, kinds_of}
+use Rattle.subrules.proofs.Common.{Way, times, over_type, choices, all_ways, asks, closed_in, taken, at_begin, at_no_piece, longest, sized, size_of, nothing}
+use Rattle.subrules.proofs.Common.{free_size, begun_size, size_times, size_plus, size_of_choices, all_size, asks_size, closed_size, measured, size_of_all}
+use Rattle.subrules.proofs.Common.{size_of_walk, passes_limits, slice_get-map, are_too_many, CondTree}
+use Rattle.subrules.specs.Ways.{each_behind, walked, ways_of}
+use Rattle.subrules.specs.Sizes.{all_measured}
 use Rattle.std.proofs.Math.Nat.{mul_comm}
-use Rattle.drl_grammar.specs.declared.condition.CondTree.{CondTree}
-use Rattle.drl_grammar.specs.declared.condition.CondTree.TheVariants as condition
-use Rattle.drl_grammar.specs.declared.written.Piece.TheVariants as piece
+use Rattle.drl_grammar.specs.declared.condition.SourceTree.{SourceTree}
 use Rattle.subrules.specs.declared.sizes.Size.{Size}
 use Rattle.subrules.specs.declared.sizes.SizeOfAlternatives.{SizeOfAlternatives}
 use Rattle.subrules.specs.declared.sizes.SizeWalk.{SizeWalk}
-use Rattle.subrules.specs.Ways.{each_behind, walked, ways_of}
-use Rattle.subrules.specs.Sizes.{all_measured}
+use Rattle.drl_grammar.specs.declared.condition.CondTree.TheVariants as condition
+use Rattle.drl_grammar.specs.declared.written.Piece.TheVariants as piece
 
 -- ---- lists of ways
 
@@ -118,7 +123,7 @@ size_of_condition : (types : List WrittenType) (c : CondTree) → size_of (choic
 size_of_condition types (condition.Plain s) =
     let one = λ (name : List ℕ). condition.Plain (over_type s name) in
     ap (λ n. sized n (longest (choices types (condition.Plain s)))) (length-map (kinds_of types s.ty) (λ name. one name ∷ []))
-    ∙ ap (sized (length (kinds_of types s.ty))) (longest_single one s.ty (cond (has_subtypes types s.ty) (filter (is_below types s.ty) (first_names types)) []))
+    ∙ ap (sized (length (kinds_of types s.ty))) (longest_single one s.ty (cond (has_subtypes types s.ty) (filter (is_subtype types s.ty) (first_names types)) []))
 size_of_condition types (condition.Negated s) =
     let long = length-map (kinds_of types s.ty) (λ name. condition.Negated (over_type s name)) in ap (sized 1) (ap (λ n. max n 0) long ∙ max_zero (length (kinds_of types s.ty)))
   where
@@ -126,6 +131,25 @@ size_of_condition types (condition.Negated s) =
     max_zero n = Prim.grind arith
 size_of_condition types (condition.Existing s) = refl
 size_of_condition types (condition.Folded result s kind arg tests) = refl
+
+-- ---- numbers that stand still
+
+count_still : (here : Size) (k : ℕ) → here.count ≡ 257 → 1 ≤ k → size_times here (sized 1 1) ≡ size_times here (sized k 1)
+count_still here k e some = rw e (rw (some_is k some) (ap (λ (n : ℕ). record { count = n; longest = min 9 (here.longest + 1) }) (sym (full 257 (min 257 k) (Prim.grind arith) (Prim.grind arith)))))
+
+longest_still : (here : Size) (k : ℕ) → here.longest ≡ 9 → 1 ≤ k → size_times here (sized 1 1) ≡ size_times here (sized 1 k)
+longest_still here k e some = ap (λ (n : ℕ). cond (nat_eq here.count 0 || false) nothing (record { count = min 257 (here.count * 1); longest = n })) (still here.longest k e some)
+  where
+    still : (l k : ℕ) → l ≡ 9 → 1 ≤ k → min 9 (l + 1) ≡ min 9 (l + min 9 k)
+    still l k e some = Prim.grind arith
+
+pub plain_still : (types : List WrittenType) (here : Size) (s : SourceTree) → here.count ≡ 257
+    → size_times here (sized 1 1) ≡ size_times here (size_of_choices types (condition.Plain s))
+plain_still types here s e = count_still here (length (kinds_of types s.ty)) e (Prim.grind arith)
+
+pub negated_still : (types : List WrittenType) (here : Size) (s : SourceTree) → here.longest ≡ 9
+    → size_times here (sized 1 1) ≡ size_times here (size_of_choices types (condition.Negated s))
+negated_still types here s e = longest_still here (length (kinds_of types s.ty)) e (Prim.grind arith)
 
 -- ---- walks
 

@@ -2,7 +2,7 @@
 use Rattle.std.specs.Prelude.{ℕ, ◌+◌, not, Bool, List, [], ◌∷◌, ◌++◌, map, Option, Some, None, option_to_list, codes}
 use Rattle.std.specs.Fmt.{decimal}
 use Rattle.std.specs.List.{filter, flat_map}
-use Rattle.drl_sight.specs.Names.{is_among}
+use Rattle.drl_expr.specs.Words.{is_among}
 use Rattle.drl_grammar.specs.declared.file.Body.{Body}
 use Rattle.drl_grammar.specs.declared.file.Body.TheVariants as plain
 use Rattle.drl_grammar.specs.declared.file.Item.{Item}
@@ -15,7 +15,7 @@ use Rattle.drl_grammar.specs.declared.written.WrittenBody.TheVariants as body
 use Rattle.drl_grammar.specs.declared.written.WrittenItem.{WrittenItem}
 use Rattle.drl_grammar.specs.declared.written.WrittenRule.{WrittenRule}
 use Rattle.drl_grammar.specs.declared.written.WrittenType.{WrittenType}
-use Rattle.subrules.specs.Hierarchy.{types_of, above}
+use Rattle.subrules.specs.Hierarchy.{written_types_of, above}
 use Rattle.subrules.specs.Ways.{Way, ways_of}
 
 -- ---- types
@@ -44,6 +44,10 @@ inherited_fields fields (u ∷ types) = inherited_fields (u.fields ++ fields) ty
 -- a type with all that it inherits
 abbrev pub plain_type : List WrittenType → WrittenType → TypeTree
 plain_type types t = record { name = t.name; metas = inherited_metas t.metas (above types t); fields = inherited_fields t.fields (above types t) }
+
+-- the same, of a type that extends one with all that this one inherits
+abbrev pub type_behind : TypeTree → WrittenType → TypeTree
+type_behind above t = record { name = t.name; metas = t.metas ++ filter (λ (m : Meta). not (has_word t.metas m)) above.metas; fields = above.fields ++ t.fields }
 
 -- ---- rules
 
@@ -94,7 +98,7 @@ plain_items types item = map (at_line item.line) (plain_bodies types item.body)
 
 -- all items written out, each in its place
 abbrev pub expanded : List WrittenItem → List Item
-expanded items = flat_map (plain_items (types_of items)) items
+expanded items = flat_map (plain_items (written_types_of items)) items
 
 -- the name of a rule, so often as the rule is written out
 abbrev pub titles_in : List WrittenType → WrittenBody → List (List ℕ)
@@ -107,7 +111,7 @@ titles_in types (body.Entry name lateness) = []
 
 -- for each written-out rule the name of the rule that it comes from
 abbrev pub titles : List WrittenItem → List (List ℕ)
-titles items = flat_map (λ (item : WrittenItem). titles_in (types_of items) item.body) items
+titles items = flat_map (λ (item : WrittenItem). titles_in (written_types_of items) item.body) items
 
 -- for each written-out item the number of the item that it comes from, this one standing first
 unfoldable pub origins_from : List WrittenType → ℕ → List WrittenItem → List ℕ
@@ -116,4 +120,4 @@ origins_from types k (item ∷ items) = map (λ (b : Body). k) (plain_bodies typ
 
 -- counted from 1
 abbrev pub origins : List WrittenItem → List ℕ
-origins items = origins_from (types_of items) 1 items
+origins items = origins_from (written_types_of items) 1 items

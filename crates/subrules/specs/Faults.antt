@@ -1,12 +1,12 @@
 -- Which item cannot be written out.
-use Rattle.std.specs.Prelude.{ℕ, ◌+◌, ◌&&◌, ◌||◌, not, nat_lt, Bool, true, false, is_some, if◌then◌else◌, List, [], ◌∷◌, length, Option, Some, None, option_to_list}
+use Rattle.std.specs.Prelude.{ℕ, ◌+◌, ◌&&◌, ◌||◌, not, nat_lt, Bool, true, false, is_some, if◌then◌else◌, List, [], ◌∷◌, length, Option, Some, None}
+use Rattle.std.specs.Prelude.{option_to_list}
 use Rattle.std.specs.List.{list_any}
 use Rattle.drl_sight.specs.EntryPoints.{source_of}
-use Rattle.drl_sight.specs.Names.{is_among}
+use Rattle.drl_sight.specs.Observed.{is_of_length}
+use Rattle.drl_expr.specs.Words.{is_among}
 use Rattle.drl_grammar.specs.declared.condition.CondTree.{CondTree}
 use Rattle.drl_grammar.specs.declared.condition.CondTree.TheVariants as condition
-use Rattle.drl_grammar.specs.declared.condition.WindowTree.{WindowTree}
-use Rattle.drl_grammar.specs.declared.condition.WindowTree.TheVariants as window
 use Rattle.drl_grammar.specs.declared.written.Piece.{Piece}
 use Rattle.drl_grammar.specs.declared.written.Piece.TheVariants as piece
 use Rattle.drl_grammar.specs.declared.written.WrittenBody.{WrittenBody}
@@ -17,19 +17,19 @@ use Rattle.drl_grammar.specs.declared.written.WrittenType.{WrittenType}
 use Rattle.subrules.specs.declared.fault.ExpandCode.{ExpandCode}
 use Rattle.subrules.specs.declared.fault.ExpandCode.TheVariants.{UnknownType, BadExtends, HasSubtypes, LimitPassed}
 use Rattle.subrules.specs.declared.fault.Obstacle.{Obstacle}
-use Rattle.subrules.specs.Hierarchy.{type_names, types_of, above, goes_round, has_subtypes}
+use Rattle.subrules.specs.Hierarchy.{written_type_names, written_types_of, above, goes_round, has_subtypes}
 use Rattle.subrules.specs.Ways.{Way, ways_of}
 use Rattle.subrules.specs.Expanded.{inherited_fields}
 
 -- ---- types
 
 abbrev pub lacks_parent : List WrittenType → WrittenType → Bool
-lacks_parent types t = list_any (λ name. not (is_among (type_names types) name)) (option_to_list t.parent)
+lacks_parent types t = list_any (λ name. not (is_among (written_type_names types) name)) (option_to_list t.parent)
 
 -- how many fields types have
-abbrev pub fields_in : List WrittenType → ℕ
-fields_in [] = 0
-fields_in (t ∷ types) = length t.fields + fields_in types
+abbrev pub number_of_fields : List WrittenType → ℕ
+number_of_fields [] = 0
+number_of_fields (t ∷ types) = length t.fields + number_of_fields types
 
 -- more than 32 fields with those that it inherits
 abbrev pub has_many_fields : List WrittenType → WrittenType → Bool
@@ -44,15 +44,10 @@ fault_of_type types t =
 
 -- ---- rules
 
-abbrev pub is_length : Option WindowTree → Bool
-is_length None = false
-is_length (Some (window.Time span)) = false
-is_length (Some (window.Length events)) = true
-
 -- what looks at several facts of one type: an `exists`, an accumulate, a window of length
 abbrev pub looks_at_many : CondTree → Bool
-looks_at_many (condition.Plain s) = is_length s.window
-looks_at_many (condition.Negated s) = is_length s.window
+looks_at_many (condition.Plain s) = is_of_length s.window
+looks_at_many (condition.Negated s) = is_of_length s.window
 looks_at_many (condition.Existing s) = true
 looks_at_many (condition.Folded result s kind arg tests) = true
 
@@ -106,4 +101,4 @@ obstacle_from types k (item ∷ items) = or_later k item (fault_of types item.bo
 
 -- counted from 1
 abbrev pub obstacle : List WrittenItem → Option Obstacle
-obstacle items = obstacle_from (types_of items) 1 items
+obstacle items = obstacle_from (written_types_of items) 1 items

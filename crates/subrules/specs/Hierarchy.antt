@@ -1,43 +1,45 @@
 -- Which types extend which. A name that is declared twice means its first declaration.
-use Rattle.std.specs.Prelude.{◌≡◌, ℕ, zero, suc, cond, Bool, true, false, List, [], ◌∷◌, map, length, Option, Some, None, slice_get, option_and_then, option_to_list}
+use Rattle.std.specs.Prelude.{◌≡◌, ℕ, zero, suc, cond, not, ◌&&◌, Bool, true, false, List, [], ◌∷◌, map, length, Option, Some, None, slice_get, option_and_then}
+use Rattle.std.specs.Prelude.{option_to_list}
 use Rattle.std.specs.List.{filter, flat_map, list_any}
 use Rattle.std.specs.Str.{bytes_eq}
 use Rattle.drl_sight.specs.EntryPoints.{with_names}
-use Rattle.drl_sight.specs.Names.{is_among, place_of}
+use Rattle.drl_sight.specs.Names.{place_of_name}
+use Rattle.drl_expr.specs.Words.{is_among}
 use Rattle.drl_grammar.specs.declared.written.WrittenBody.{WrittenBody}
 use Rattle.drl_grammar.specs.declared.written.WrittenBody.TheVariants as body
 use Rattle.drl_grammar.specs.declared.written.WrittenItem.{WrittenItem}
 use Rattle.drl_grammar.specs.declared.written.WrittenType.{WrittenType}
 
-abbrev pub type_in : WrittenBody → List WrittenType
-type_in (body.Declare t) = t ∷ []
-type_in (body.Package path) = []
-type_in (body.Import path star) = []
-type_in (body.Dialect text) = []
-type_in (body.Entry name lateness) = []
-type_in (body.Rule r) = []
+abbrev pub written_type_in : WrittenBody → List WrittenType
+written_type_in (body.Declare t) = t ∷ []
+written_type_in (body.Package path) = []
+written_type_in (body.Import path star) = []
+written_type_in (body.Dialect text) = []
+written_type_in (body.Entry name lateness) = []
+written_type_in (body.Rule r) = []
 
 -- the declared types, in the order of the file
-abbrev pub types_of : List WrittenItem → List WrittenType
-types_of items = flat_map (λ (item : WrittenItem). type_in item.body) items
+abbrev pub written_types_of : List WrittenItem → List WrittenType
+written_types_of items = flat_map (λ (item : WrittenItem). written_type_in item.body) items
 
-abbrev pub type_names : List WrittenType → List (List ℕ)
-type_names types = map (λ (t : WrittenType). t.name) types
+abbrev pub written_type_names : List WrittenType → List (List ℕ)
+written_type_names types = map (λ (t : WrittenType). t.name) types
 
 -- their names, each once
 abbrev pub first_names : List WrittenType → List (List ℕ)
-first_names types = with_names [] (type_names types)
+first_names types = with_names [] (written_type_names types)
 
 -- the type of a name
-abbrev pub type_named : List WrittenType → List ℕ → Option WrittenType
-type_named types name = option_and_then (λ k. slice_get types k) (place_of (type_names types) name)
+abbrev pub written_type_named : List WrittenType → List ℕ → Option WrittenType
+written_type_named types name = option_and_then (λ k. slice_get types k) (place_of_name (written_type_names types) name)
 
-abbrev pub is_named : List ℕ → WrittenType → Bool
-is_named name t = bytes_eq t.name name
+abbrev pub is_type_of_name : List ℕ → WrittenType → Bool
+is_type_of_name name t = bytes_eq t.name name
 
 -- the type that a type extends
 abbrev pub parent_of : List WrittenType → WrittenType → Option WrittenType
-parent_of types t = option_and_then (type_named types) t.parent
+parent_of types t = option_and_then (written_type_named types) t.parent
 
 -- the types above a type: its parent, and of each type above it the parent
 pub data IsAbove (types : List WrittenType) : WrittenType → WrittenType → Type 0 where
@@ -68,13 +70,17 @@ goes_round types t = goes_on types (length types) (parent_of types t)
 
 -- whether the type of one name stands below that of another
 abbrev pub is_below : List WrittenType → List ℕ → List ℕ → Bool
-is_below types over name = list_any (is_named over) (ancestors types (length types) (option_and_then (parent_of types) (type_named types name)))
+is_below types over name = list_any (is_type_of_name over) (ancestors types (length types) (option_and_then (parent_of types) (written_type_named types name)))
 
--- the name that the type of a name extends
+-- whether a name is another one
+abbrev pub is_other : List ℕ → List ℕ → Bool
+is_other name other = not (bytes_eq other name)
+
+-- the name of the other type that the type of a name extends
 abbrev pub extended_by : List WrittenType → List ℕ → List (List ℕ)
-extended_by types name = option_to_list (option_and_then (λ (t : WrittenType). t.parent) (type_named types name))
+extended_by types name = filter (is_other name) (option_to_list (option_and_then (λ (t : WrittenType). t.parent) (written_type_named types name)))
 
--- the names that types extend
+-- the names that other types extend
 abbrev pub extended : List WrittenType → List (List ℕ)
 extended types = flat_map (extended_by types) (first_names types)
 
@@ -82,6 +88,10 @@ extended types = flat_map (extended_by types) (first_names types)
 abbrev pub has_subtypes : List WrittenType → List ℕ → Bool
 has_subtypes types name = is_among (extended types) name
 
--- the name of a type, and, where others extend it, those of the types below it in the order of the file
+-- whether the type of a second name is another one, and stands below the type of the first
+abbrev pub is_subtype : List WrittenType → List ℕ → List ℕ → Bool
+is_subtype types name other = is_other name other && is_below types name other
+
+-- the name of a type, and, where others extend it, those of the other types below it in the order of the file
 abbrev pub kinds_of : List WrittenType → List ℕ → List (List ℕ)
-kinds_of types name = name ∷ cond (has_subtypes types name) (filter (is_below types name) (first_names types)) []
+kinds_of types name = name ∷ cond (has_subtypes types name) (filter (is_subtype types name) (first_names types)) []

@@ -1,5 +1,6 @@
 pub mod Hierarchy
 pub mod Indexed
+pub mod Known
 pub mod Ways
 pub mod Nesting
 pub mod Sizes

@@ -67,3 +67,10 @@ at_begin = record { inner = begun; outer = [] }
 -- The ways of a rule, by one walk over its pieces. By the nesting of its alternatives: `AllHave` in `Nesting.antt`.
 unfoldable pub ways_of : List WrittenType → List Piece → List Way
 ways_of types pieces = all_ways (walked types at_begin pieces).inner
+
+-- the conditions of a piece
+abbrev pub conditions_of : Piece → List CondTree
+conditions_of (piece.One c) = c ∷ []
+conditions_of piece.Open = []
+conditions_of piece.Or = []
+conditions_of piece.Close = []

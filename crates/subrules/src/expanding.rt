@@ -2,15 +2,15 @@ ghost use Rattle.std.specs.Prelude.{◌≡◌, ◌++◌, map, IfOk, IfErr, OnOk}
 ghost use Rattle.std.specs.List.{flat_map};
 ghost use Rattle.drl_grammar.specs.declared.file.Body.TheVariants.{Rule as RuleBody};
 ghost use Rattle.subrules.specs.Expanded.{at_line, body_of, plain_bodies, plain_items, titles_in, origins_from};
+ghost use Rattle.subrules.specs.Known.{AreKnown, IsHeir};
 ghost use Rattle.subrules.specs.Outcomes.{IsExpanded, IsRefusal};
 
-use crate::copying::Copied;
 use crate::fault::ExpandFault;
 use crate::faults::first_obstacle;
+use crate::heirs::{heirs, whole};
 use crate::hierarchy::Hierarchy;
 use crate::rules::plain_rules;
-use crate::types::plain;
-use drl_grammar::{Body, File, Item, RuleTree, Written, WrittenBody, WrittenItem};
+use drl_grammar::{Body, File, Item, RuleTree, TypeTree, Written, WrittenBody, WrittenItem};
 use fx_base::{Copies, NoMemory, Seq, Text};
 use std::alloc::Global;
 
@@ -37,18 +37,20 @@ struct Made {
 fn plain_body(
     alloc: Global,
     types: &Hierarchy,
+    known: &[Option<TypeTree>],
     body: &WrittenBody,
 ) -> Result<Option<Body>, NoMemory>
+    requires { AreKnown (IsHeir types.now) types.now known.now }
     ensures { IfOk result (λ made. made ≡ body_of types.now body.now) }
 {
     match body {
-        WrittenBody::Package(path) => Ok(Some(Body::Package(path.copied(alloc)?))),
+        WrittenBody::Package(path) => Ok(Some(Body::Package(path.copy(alloc)?))),
         WrittenBody::Import { path, star } => {
-            let path = path.copied(alloc)?;
+            let path = path.copy(alloc)?;
             Ok(Some(Body::Import { path, star: *star }))
         }
         WrittenBody::Dialect(text) => Ok(Some(Body::Dialect(text.copy(alloc)?))),
-        WrittenBody::Declare(tree) => Ok(Some(Body::Declare(plain(alloc, types, tree)?))),
+        WrittenBody::Declare(tree) => Ok(Some(Body::Declare(whole(alloc, types, known, tree)?))),
         WrittenBody::Entry { name, lateness } => {
             let name = name.copy(alloc)?;
             Ok(Some(Body::Entry {
@@ -88,10 +90,12 @@ fn add_rules(
 fn add_item(
     alloc: Global,
     types: &Hierarchy,
+    known: &[Option<TypeTree>],
     made: &mut Made,
     number: u64,
     item: &WrittenItem,
 ) -> Result<(), NoMemory>
+    requires { AreKnown (IsHeir types.now) types.now known.now }
     ensures items { OnOk result (made.new.items.items ≡ made.old.items.items ++ plain_items types.now item.now) }
     ensures origins { OnOk result (made.new.origins.items ≡ made.old.origins.items ++ map (λ b. number) (plain_bodies types.now item.now.body)) }
     ensures titles { OnOk result (made.new.titles.items ≡ made.old.titles.items ++ titles_in types.now item.now.body) }
@@ -101,7 +105,7 @@ fn add_item(
             let rules = plain_rules(alloc, types, rule)?;
             add_rules(alloc, made, number, item, &rule.name, rules)
         }
-        _ => match plain_body(alloc, types, &item.body)? {
+        _ => match plain_body(alloc, types, known, &item.body)? {
             Some(body) => {
                 made.items.push(Item {
                     line: item.line,
@@ -131,9 +135,10 @@ fn written_out(
         origins: Vec::new(alloc),
         titles: Vec::new(alloc),
     };
+    let known = heirs(alloc, types)?;
     let mut number: u64 = 1;
     for item in items {
-        add_item(alloc, types, &mut made, number, item)?;
+        add_item(alloc, types, &known, &mut made, number, item)?;
         number += 1;
     }
     Ok(Expanded {

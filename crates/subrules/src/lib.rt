@@ -3,15 +3,21 @@
 //! It takes any trees of the grammar, and assumes nothing of them.
 #![tactic(auto)]
 
-mod copying;
+mod counts;
 mod expanding;
 mod fault;
 mod faults;
+mod heirs;
 mod hierarchy;
+mod kinds;
+mod known;
 pub mod laws;
+mod order;
 mod rules;
 mod sizes;
+mod type_faults;
 mod types;
+mod varied;
 mod ways;
 
 pub use expanding::{Expanded, expand};

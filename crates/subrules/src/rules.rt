@@ -2,7 +2,6 @@ ghost use Rattle.std.specs.Prelude.{◌≡◌, ◌++◌, ◌∷◌, [], length, 
 ghost use Rattle.std.specs.Fmt.{decimal};
 ghost use Rattle.subrules.specs.Expanded.{plain_rule, numbered_rules, rules_of_ways, plain_rules};
 
-use crate::copying::Copied;
 use crate::hierarchy::Hierarchy;
 use crate::ways::ways_in;
 use drl_grammar::{CondTree, RuleTree, WrittenRule};
@@ -18,8 +17,8 @@ fn plain(
 ) -> Result<RuleTree, NoMemory>
     ensures { IfOk result (λ made. made ≡ plain_rule rule.now name conditions) }
 {
-    let attrs = rule.attrs.copied(alloc)?;
-    let actions = rule.actions.copied(alloc)?;
+    let attrs = rule.attrs.copy(alloc)?;
+    let actions = rule.actions.copy(alloc)?;
     Ok(RuleTree {
         name,
         attrs,

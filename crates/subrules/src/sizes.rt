@@ -5,6 +5,7 @@ ghost use Rattle.subrules.specs.Sizes.{sized, size_times, size_plus, size_of_cho
 ghost use Rattle.subrules.specs.Ways.{ways_of};
 
 use crate::hierarchy::Hierarchy;
+use crate::kinds::kinds;
 use drl_grammar::{CondTree, Piece};
 use fx_base::{NoMemory, Seq};
 use std::alloc::Global;
@@ -81,20 +82,26 @@ fn together(first: Size, second: Size) -> Size
     )
 }
 
-// The size of the ways of a condition.
-fn size_of_choices(alloc: Global, types: &Hierarchy, condition: &CondTree) -> Result<Size, NoMemory>
-    ensures { IfOk result (λ size. size ≡ size_of_choices types.now condition.now) }
+// The size of the ways of a condition, for one that is asked for besides ways of this size: where a number stands still, the kinds of the
+// type, by which it would grow, are not looked for.
+fn size_of_choices(
+    alloc: Global,
+    types: &Hierarchy,
+    here: Size,
+    condition: &CondTree,
+) -> Result<Size, NoMemory>
+    ensures { IfOk result (λ size. size_times here size ≡ size_times here (size_of_choices types.now condition.now)) }
 {
     match condition {
-        CondTree::Plain(source) => {
-            let kinds = types.kinds(alloc, &source.ty)?;
+        CondTree::Plain(source) if here.count != COUNT_MAX + 1 => {
+            let kinds = kinds(alloc, types, &source.ty)?;
             Ok(sized(kinds.len() as u64, 1))
         }
-        CondTree::Negated(source) => {
-            let kinds = types.kinds(alloc, &source.ty)?;
+        CondTree::Negated(source) if here.longest != LENGTH_MAX + 1 => {
+            let kinds = kinds(alloc, types, &source.ty)?;
             Ok(sized(1, kinds.len() as u64))
         }
-        CondTree::Existing(_) | CondTree::Folded { .. } => Ok(sized(1, 1)),
+        _ => Ok(sized(1, 1)),
     }
 }
 
@@ -160,8 +167,8 @@ fn take_piece(
 {
     match piece {
         Piece::One(condition) => {
-            let size = size_of_choices(alloc, types, condition)?;
             let SizeWalk { inner, outer } = walk;
+            let size = size_of_choices(alloc, types, inner.here, condition)?;
             let inner = asking(inner, size);
             Ok(SizeWalk { inner, outer })
         }
@@ -202,8 +209,8 @@ fn passes_limits(size: Size) -> bool
     size.count > COUNT_MAX || size.longest > LENGTH_MAX
 }
 
-/// Whether a rule would be written out to more than 256 rules, or to one of more than 8 conditions. It costs a step for each piece
-/// and the look-ups of its type.
+/// Whether a rule would be written out to more than 256 rules, or to one of more than 8 conditions. It costs a step for each piece,
+/// and, where its type has subtypes and a number does not stand still, what the kinds of its type cost.
 #[tactic(auto, using(crate::proofs::SizeLaws::passes_alike))]
 pub(crate) fn are_too_many(
     alloc: Global,

@@ -1,11 +1,10 @@
 ghost use Rattle.std.specs.Prelude.{◌≡◌, ◌++◌, map, IfOk, OnOk};
 ghost use Rattle.std.specs.Prelude.{not};
 ghost use Rattle.std.specs.List.{filter};
-ghost use Rattle.subrules.specs.Expanded.{meta_word, has_word, inherited_metas, inherited_fields, plain_type};
+ghost use Rattle.subrules.specs.Expanded.{meta_word, has_word, inherited_metas, inherited_fields, plain_type, type_behind};
 
-use crate::copying::Copied;
 use crate::hierarchy::Hierarchy;
-use drl_grammar::{Meta, TypeTree, WrittenType};
+use drl_grammar::{Meta, TypeTree, WrittenType, copy_pairs};
 use fx_base::{Copies, NoMemory, Seq, Text};
 use std::alloc::Global;
 
@@ -41,7 +40,7 @@ fn new_ones(alloc: Global, metas: &[Meta], others: &[Meta]) -> Result<Vec<Meta>,
     let mut new = Vec::new(alloc);
     for meta in others {
         if !has_word_of(metas, meta) {
-            new.push(meta.copied(alloc)?)?;
+            new.push(meta.copy(alloc)?)?;
         }
     }
     Ok(new)
@@ -64,7 +63,7 @@ fn with_others(alloc: Global, metas: Vec<Meta>, others: &[Meta]) -> Result<Vec<M
 fn all_metas(alloc: Global, own: &Seq<Meta>, above: &[&WrittenType]) -> Result<Seq<Meta>, NoMemory>
     ensures { IfOk result (λ metas. metas ≡ inherited_metas own.now (map (λ t. t.now) above.now)) }
 {
-    let mut metas = own.copied(alloc)?.into_vec();
+    let mut metas = own.copy(alloc)?.into_vec();
     for tree in above {
         metas = with_others(alloc, metas, tree.metas.as_slice())?;
     }
@@ -79,7 +78,7 @@ fn behind_fields(
 ) -> Result<Vec<(Text, Text)>, NoMemory>
     ensures { IfOk result (λ all. all.items ≡ first.now ++ fields.items) }
 {
-    let mut all = first.copied(alloc)?.into_vec();
+    let mut all = copy_pairs(alloc, first)?.into_vec();
     for field in fields {
         all.push(field)?;
     }
@@ -95,14 +94,14 @@ fn all_fields(
 ) -> Result<Seq<(Text, Text)>, NoMemory>
     ensures { IfOk result (λ fields. fields ≡ inherited_fields own.now (map (λ t. t.now) above.now)) }
 {
-    let mut fields = own.copied(alloc)?.into_vec();
+    let mut fields = copy_pairs(alloc, own)?.into_vec();
     for tree in above {
         fields = behind_fields(alloc, &tree.fields, fields)?;
     }
     Ok(Seq::from_vec(fields))
 }
 
-/// A type with all that it inherits. It costs what is written out, and a look-up for each type above it.
+/// A type with all that it inherits, by the types above it. It costs a look-up for each, and what is copied.
 pub(crate) fn plain(
     alloc: Global,
     types: &Hierarchy,
@@ -117,5 +116,30 @@ pub(crate) fn plain(
         name: tree.name.copy(alloc)?,
         metas,
         fields,
+    })
+}
+
+/// A type with what it inherits from one that has all that it inherits itself.
+pub(crate) fn behind(
+    alloc: Global,
+    above: &TypeTree,
+    tree: &WrittenType,
+) -> Result<TypeTree, NoMemory>
+    ensures { IfOk result (λ made. made ≡ type_behind above.now tree.now) }
+{
+    let metas = with_others(
+        alloc,
+        tree.metas.copy(alloc)?.into_vec(),
+        above.metas.as_slice(),
+    )?;
+    let fields = behind_fields(
+        alloc,
+        &above.fields,
+        copy_pairs(alloc, &tree.fields)?.into_vec(),
+    )?;
+    Ok(TypeTree {
+        name: tree.name.copy(alloc)?,
+        metas: Seq::from_vec(metas),
+        fields: Seq::from_vec(fields),
     })
 }

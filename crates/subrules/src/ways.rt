@@ -1,12 +1,14 @@
 ghost use Rattle.std.specs.Prelude.{◌≡◌, ◌++◌, ◌∷◌, ◌-◌, [], length, take, map, slice_get, IfOk, OnOk};
 ghost use Rattle.drl_grammar.specs.declared.condition.CondTree.TheVariants.{Plain as PlainTree, Negated as NegatedTree};
 ghost use Rattle.subrules.specs.Hierarchy.{kinds_of};
-ghost use Rattle.subrules.specs.Ways.{each_behind, times, over_type as pattern_over, choices, begun, all_ways, asks, closed_in, taken, walked, at_begin, ways_of};
+ghost use Rattle.std.specs.List.{flat_map};
+ghost use Rattle.subrules.specs.Ways.{conditions_of, each_behind, times, over_type as pattern_over, choices, begun, all_ways, asks, closed_in, taken, walked, at_begin, ways_of};
 
-use crate::copying::{Copied, over_type};
 use crate::hierarchy::Hierarchy;
+use crate::kinds::kinds;
+use crate::varied::any_varied;
 use drl_grammar::{CondTree, Piece, SourceTree};
-use fx_base::{NoMemory, Seq, Text};
+use fx_base::{Copies, NoMemory, Seq, Text};
 use std::alloc::Global;
 
 /// Alternatives on the way from the first to the last: the ways of those that are done, and of what has been asked for so far in the
@@ -51,6 +53,15 @@ fn single(alloc: Global, condition: CondTree) -> Result<Seq<CondTree>, NoMemory>
     Ok(Seq::from_vec(way))
 }
 
+// The same pattern on the type of this name.
+fn over_type(alloc: Global, source: &SourceTree, name: &Text) -> Result<SourceTree, NoMemory>
+    ensures { IfOk result (λ made. made ≡ pattern_over source.now name.now) }
+{
+    let mut made = source.copy(alloc)?;
+    made.ty = name.copy(alloc)?;
+    Ok(made)
+}
+
 // A way for each of these types.
 fn ways_over(
     alloc: Global,
@@ -92,18 +103,18 @@ fn choices_of(
 {
     match condition {
         CondTree::Plain(source) => {
-            let kinds = types.kinds(alloc, &source.ty)?;
+            let kinds = kinds(alloc, types, &source.ty)?;
             ways_over(alloc, source, &kinds)
         }
         CondTree::Negated(source) => {
-            let kinds = types.kinds(alloc, &source.ty)?;
+            let kinds = kinds(alloc, types, &source.ty)?;
             let way = all_negated(alloc, source, &kinds)?;
             let mut ways = Vec::with_capacity(alloc, 1)?;
             ways.push(Seq::from_vec(way))?;
             Ok(ways)
         }
         CondTree::Existing(_) | CondTree::Folded { .. } => {
-            let way = single(alloc, condition.copied(alloc)?)?;
+            let way = single(alloc, condition.copy(alloc)?)?;
             let mut ways = Vec::with_capacity(alloc, 1)?;
             ways.push(way)?;
             Ok(ways)
@@ -119,9 +130,9 @@ fn joined(
 ) -> Result<Seq<CondTree>, NoMemory>
     ensures { IfOk result (λ way. way ≡ first.now ++ second.now) }
 {
-    let mut way = first.copied(alloc)?.into_vec();
+    let mut way = first.copy(alloc)?.into_vec();
     for condition in second.as_slice() {
-        way.push(condition.copied(alloc)?)?;
+        way.push(condition.copy(alloc)?)?;
     }
     Ok(Seq::from_vec(way))
 }
@@ -244,9 +255,23 @@ fn take_piece(alloc: Global, types: &Hierarchy, walk: Walk, piece: &Piece) -> Re
     }
 }
 
-/// The ways in which what a rule asks for can be met. It costs what they are to be written out.
+// The conditions of pieces.
+fn conditions_in(alloc: Global, pieces: &[Piece]) -> Result<Vec<CondTree>, NoMemory>
+    ensures { IfOk result (λ way. way.items ≡ flat_map conditions_of pieces.now) }
+{
+    let mut way = Vec::with_capacity(alloc, pieces.len())?;
+    for piece in pieces {
+        match piece {
+            Piece::One(condition) => way.push(condition.copy(alloc)?)?,
+            Piece::Open | Piece::Or | Piece::Close => {}
+        }
+    }
+    Ok(way)
+}
+
+// The ways in which what a rule asks for can be met, by a walk over its pieces.
 #[tactic(auto, unfolding(crate::specs::Ways::ways_of, crate::specs::Ways::walked))]
-pub(crate) fn ways_in(
+fn ways_of_walk(
     alloc: Global,
     types: &Hierarchy,
     pieces: &[Piece],
@@ -261,4 +286,23 @@ pub(crate) fn ways_in(
         walk = take_piece(alloc, types, walk, piece)?;
     }
     ended(walk.inner)
+}
+
+/// The ways in which what a rule asks for can be met. One that has no alternatives, and no pattern or `not` on a type with subtypes, can be met in one
+/// way, and costs a copy of its conditions. Of others each piece costs a copy of the ways so far, and what the kinds of its type cost.
+#[tactic(auto, using(crate::proofs::OneWay::one_way))]
+pub(crate) fn ways_in(
+    alloc: Global,
+    types: &Hierarchy,
+    pieces: &[Piece],
+) -> Result<Seq<Seq<CondTree>>, NoMemory>
+    ensures { IfOk result (λ ways. ways ≡ ways_of types.now pieces.now) }
+{
+    if any_varied(types, pieces) {
+        return ways_of_walk(alloc, types, pieces);
+    }
+    let way = conditions_in(alloc, pieces)?;
+    let mut ways = Vec::with_capacity(alloc, 1)?;
+    ways.push(Seq::from_vec(way))?;
+    Ok(Seq::from_vec(ways))
 }

@@ -1,6 +1,7 @@
 -- What is counted beside left rows.
-use Rattle.tally_node.proofs.Common.{◌≡◌, ◌∙◌, sym, ap, refl, subst, ℕ, zero, suc, ◌<◌, arith, List, [], ◌∷◌, length, Bool, true, false, ◌||◌, Option, Some, None, ℤ, fun_ext, is_some, RuleId, Extra, Named, Row, has, InOrder, Look, joins, Memories, has_name, left_at, has_left, has_right, either, IsBeside, AreApart, IsBeyond, SeeAlike, passing, Agrees, CountsOthers, AreExtrasOf}
-use Rattle.tally_node.proofs.Following.{first_of}
+use Rattle.tally_node.proofs.Common.{◌≡◌, ◌∙◌, sym, ap, refl, subst, ℕ, zero, suc, ◌<◌, arith, List, [], ◌∷◌, length, Bool, false, ◌||◌, Some, ℤ, fun_ext}
+use Rattle.tally_node.proofs.Common.{is_some, RuleId, Extra, Named, Row, has, InOrder, Look, joins, Memories, has_name, left_at, has_left, has_right, Agrees}
+use Rattle.tally_node.proofs.Common.{either, TellsBeside, AreApart, IsBeyond, CountsOthers, AreExtrasOf, SeeAlike, passing, and_first}
 use Rattle.tally_node.proofs.Searching.{AreListed, listed_in_order, listed_own, listed_for}
 
 -- where none is counted, the set has none
@@ -19,7 +20,7 @@ module _ {T : Type 0} (holds : T → Look → (Named → Bool) → Type 0) (gath
     (row : Row) (kept part : T) (there : left_at m look row ≡ Some kept) (names : List Named) (named : (who : Named) → has_name names who ≡ passing m.pattern look (has_right m look) row who)
     (partial : (w : Look) → SeeAlike (has_name names) look w → holds part w (has_name names)) where
   of_part : holds part world (has_name names)
-  of_part = partial world (λ who e. counts.alike who (first_of (has_right m look who) (joins m.pattern look row who) (sym (named who) ∙ e)))
+  of_part = partial world (λ who e. counts.alike who (and_first (has_right m look who) (joins m.pattern look row who) (sym (named who) ∙ e)))
 
   -- what the tally counts beyond the kept candidates is what it counts of others
   pub beyond_is : (n : ℕ) (values : List ℤ)
@@ -28,17 +29,12 @@ module _ {T : Type 0} (holds : T → Look → (Named → Bool) → Type 0) (gath
       more world (has_name names) (others row) (λ who e. counts.apart row (ap is_some there) who (sym (named who) ∙ e))
       (subst (holds kept world) (fun_ext (λ who. ap (λ b. b || others row who) (sym (named who)))) (counts.tallies row kept there)) of_part
 
--- what is not there is not kept
-pub not_kept : {T : Type 0} (o : Option T) → None ≡ o → is_some o ≡ true → ⊥
-not_kept None e h = let f : false ≡ true = h in cc
-not_kept (Some t) e h = let f : None ≡ Some t = e in cc
-
 -- the extras of all rows in their order
 pub extras_of : {T : Type 0} (holds : T → Look → (Named → Bool) → Type 0) (gathered : Look → List Named → List ℤ) (m : Memories T) (look : Look) (under : RuleId) (place : ℕ) (rows : List Row) (extras : List Extra)
-    → InOrder rows → ((l : Look) → Agrees m l → (row : Row) → has rows row ≡ has_left m l row) → AreListed (IsBeside holds gathered m look under place) rows extras
+    → InOrder rows → ((l : Look) → Agrees m l → (row : Row) → has rows row ≡ has_left m l row) → AreListed (TellsBeside holds gathered m look under place) rows extras
     → AreExtrasOf holds gathered m look under place extras
 extras_of holds gathered m look under place rows extras sorted kept are =
-    let beside = IsBeside holds gathered m look under place in
+    let beside = TellsBeside holds gathered m look under place in
     record {
       in_order = listed_in_order under place beside (λ row o is. is.own) rows extras are sorted;
       among = λ agrees e h.

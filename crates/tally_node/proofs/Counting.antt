@@ -1,17 +1,13 @@
 -- One candidate more, and one less.
-use Rattle.tally_node.proofs.Common.{◌≡◌, ◌∙◌, sym, ap, refl, ℕ, ◌+◌, ◌-◌, ◌≢◌, length, arith, List, [], ◌∷◌, Bool, true, false, cond, not, ◌&&◌, ◌||◌, eq_by_cmp, Named, name_cmp, name_equiv, has_name, name_decides, with_one, less_one, AreDistinct, IsNumber}
-
-pub or_swap : (a b : Bool) → (a || b) ≡ (b || a)
-or_swap true true = refl
-or_swap true false = refl
-or_swap false true = refl
-or_swap false false = refl
+use Rattle.tally_node.proofs.Common.{◌≡◌, ◌∙◌, sym, ap, refl, ℕ, ◌+◌, ◌-◌, ◌≢◌, length, arith, List, [], ◌∷◌, Bool, true, false, cond, not, ◌&&◌, ◌||◌}
+use Rattle.tally_node.proofs.Common.{eq_by_cmp, Named, name_cmp, name_equiv, has_name, name_decides, with_one, less_one, AreDistinct, IsNumber, and_left}
+use Rattle.tally_node.proofs.Common.{or_comm}
 
 pub number_more : (set : Named → Bool) (n : ℕ) (who : Named) → IsNumber set n → set who ≡ false → IsNumber (with_one set who) (n + 1)
 number_more set n who is absent = record {
   names = who ∷ is.names;
   distinct = (is.all who ∙ absent, is.distinct);
-  all = λ c. ap (λ b. b || has_name is.names c) (name_equiv.symm c who) ∙ ap (λ b. eq_by_cmp name_cmp who c || b) (is.all c) ∙ or_swap (eq_by_cmp name_cmp who c) (set c);
+  all = λ c. ap (λ b. b || has_name is.names c) (name_equiv.symm c who) ∙ ap (λ b. eq_by_cmp name_cmp who c || b) (is.all c) ∙ or_comm (eq_by_cmp name_cmp who c) (set c);
   count = let e = is.count in omega arith;
 }
 
@@ -42,10 +38,6 @@ has_dropped who (x ∷ xs) distinct c = by (has_dropped who xs distinct.1 c) (eq
         at_head (eq_by_cmp name_cmp c x) (has_name xs c) (eq_by_cmp name_cmp who c) (name_equiv.symm c x ∙ ap (λ (y : Named). eq_by_cmp name_cmp y c) (sym same))
         (λ f. ap (has_name xs) (sym ((name_decides who c).0 f) ∙ same) ∙ distinct.0)
     by rest false e = behind_head (eq_by_cmp name_cmp c x) (has_name xs c) (eq_by_cmp name_cmp who c) (has_name (dropped who xs) c) (λ f. ap (eq_by_cmp name_cmp who) ((name_decides c x).0 f) ∙ e) rest
-
-and_left : (a b : Bool) → a ≡ false → (a && b) ≡ false
-and_left true b e = let f : true ≡ false = e in cc
-and_left false b e = refl
 
 pub dropped_distinct : (who : Named) (xs : List Named) → AreDistinct xs → AreDistinct (dropped who xs)
 dropped_distinct who [] distinct = tt

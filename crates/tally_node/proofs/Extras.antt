@@ -1,21 +1,12 @@
 -- Tallies of two sets that have no candidate in common.
-use Rattle.tally_node.proofs.Common.{◌≡◌, ◌∙◌, sym, ap, refl, subst, int_lt, ℕ, ◌+◌, ◌-◌, ℤ, pos, arith, List, [], ◌∷◌, ◌++◌, map, length, Bool, true, false, cond, not, ◌&&◌, ◌||◌, fun_ext, eq_by_cmp, Held, insert_rising, in_rising_order, insert-insert, Extra, Named, name_cmp, name_equiv, Accumulate, Look, has_name, either, name_decides, AreDistinct, IsNumber, argument_of, Gathers, AreApart, IsBeyond, nothing_gathered, gathered_laden, arguments_gathered, filter, length-append, length-map, map-append, list_any-append, length-rising, counts_more}
+use Rattle.tally_node.proofs.Common.{◌≡◌, ◌∙◌, sym, ap, refl, subst, int_lt, ℕ, ◌+◌, ◌-◌, ℤ, pos, arith, List, [], ◌∷◌, ◌++◌, map, length, Bool, true, false}
+use Rattle.tally_node.proofs.Common.{cond, not, ◌&&◌, ◌||◌, fun_ext, eq_by_cmp, Held, insert_rising, in_rising_order, insert-insert, Extra, Named, name_cmp}
+use Rattle.tally_node.proofs.Common.{name_equiv, Accumulate, Look, has_name, either, name_decides, AreDistinct, IsNumber, argument_of, Gathers, AreApart}
+use Rattle.tally_node.proofs.Common.{IsBeyond, nothing_gathered, gathered_laden, arguments_gathered, counts_more, filter, length-append, length-map, map-append}
+use Rattle.tally_node.proofs.Common.{list_any-append, length-rising, and_left, or_from, or_left, or_right}
 use Rattle.std.proofs.lemmas.Map.Made.{is_member-filter}
 use Rattle.fold_fn.proofs.Sorting.{sorted-rising, rising-sorted}
 use Rattle.tally_node.proofs.Gathering.{same_values}
-
--- ---- two lists of candidates
-or_both : (a b : Bool) → a ≡ false → b ≡ false → (a || b) ≡ false
-or_both true b e f = e
-or_both false b e f = f
-
-pub or_first : (a b : Bool) → a ≡ true → (a || b) ≡ true
-or_first true b e = refl
-or_first false b e = let f : false ≡ true = e in cc
-
-pub or_second : (a b : Bool) → b ≡ true → (a || b) ≡ true
-or_second true b e = refl
-or_second false b e = e
 
 or_none : (a b : Bool) → b ≡ false → a ≡ (a || b)
 or_none true b e = refl
@@ -27,8 +18,8 @@ has_both xs ys c = list_any-append (eq_by_cmp name_cmp c) xs ys
 both_distinct : (xs ys : List Named) → AreDistinct xs → AreDistinct ys → ((c : Named) → has_name xs c ≡ true → has_name ys c ≡ false) → AreDistinct (xs ++ ys)
 both_distinct [] ys dx dy apart = dy
 both_distinct (x ∷ xs) ys dx dy apart = (
-  has_both xs ys x ∙ or_both (has_name xs x) (has_name ys x) dx.0 (apart x (or_first (eq_by_cmp name_cmp x x) (has_name xs x) (name_equiv.refl x))),
-  both_distinct xs ys dx.1 dy (λ c e. apart c (or_second (eq_by_cmp name_cmp c x) (has_name xs c) e)),
+  has_both xs ys x ∙ or_from (has_name xs x) (has_name ys x) dx.0 (apart x (or_left (eq_by_cmp name_cmp x x) (has_name xs x) (name_equiv.refl x))),
+  both_distinct xs ys dx.1 dy (λ c e. apart c (or_right (eq_by_cmp name_cmp c x) (has_name xs c) e)),
 )
 
 -- lists of the same candidates, each once, are as long
@@ -46,10 +37,6 @@ left_over true o h = sym (h refl)
 left_over false true h = refl
 left_over false false h = refl
 
-no_more : (h b : Bool) → h ≡ false → (h && b) ≡ false
-no_more true b e = let f : true ≡ false = e in cc
-no_more false b e = refl
-
 module _ (set others : Named → Bool) (apart : AreApart set others) where
   has_beyond : (names : List Named) (c : Named) → has_name (beyond set names) c ≡ (has_name names c && not (set c))
   has_beyond names c = is_member-filter name_equiv (λ (x : Named). not (set x)) c (λ x e. ap (λ (y : Named). not (set y)) ((name_decides c x).0 e)) names
@@ -59,7 +46,7 @@ module _ (set others : Named → Bool) (apart : AreApart set others) where
   beyond_distinct (x ∷ names) d = by (not (set x)) (beyond_distinct names d.1)
     where
       by : (b : Bool) → AreDistinct (beyond set names) → AreDistinct (cond b (x ∷ beyond set names) (beyond set names))
-      by true rest = (has_beyond names x ∙ no_more (has_name names x) (not (set x)) d.0, rest)
+      by true rest = (has_beyond names x ∙ and_left (has_name names x) (not (set x)) d.0, rest)
       by false rest = rest
 
   module _ (names part : List Named) (distinct : AreDistinct names) (distinct_part : AreDistinct part) (all : (c : Named) → has_name names c ≡ either set others c) (all_part : (c : Named) → has_name part c ≡ set c) where

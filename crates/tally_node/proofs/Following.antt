@@ -1,5 +1,9 @@
 -- Tallies that follow the candidates, one candidate after another, and rows that come.
-use Rattle.tally_node.proofs.Common.{◌≡◌, ◌∙◌, sym, ap, refl, subst, ℕ, zero, suc, ◌+◌, ◌<◌, ◌≤◌, length, take, get_or, arith, List, [], ◌∷◌, Bool, true, false, cond, not, ◌&&◌, ◌||◌, Option, Some, None, fun_ext, is_some, Ordering, Less, eq_by_cmp, is_eq, list_any, AllByRecursion, Named, Row, row_cmp, has, same_equiv, name_cmp, name_equiv, Look, has_name, row_decides, name_decides, any_name, Turned, TurnedIf, Steps, counted, Follows, Arrives, list_any_more}
+use Rattle.tally_node.proofs.Common.{◌≡◌, ◌∙◌, sym, ap, refl, subst, ℕ, zero, suc, ◌+◌, ◌<◌, ◌≤◌, length, take, get_or, arith, List, [], ◌∷◌, Bool, true, false}
+use Rattle.tally_node.proofs.Common.{cond, not, ◌&&◌, ◌||◌, Option, Some, None, fun_ext, is_some, Less, eq_by_cmp, is_eq, list_any, AllByRecursion, Named, Row}
+use Rattle.tally_node.proofs.Common.{row_cmp, has, same_equiv, name_cmp, name_equiv, Look, has_name, row_decides, name_decides, any_name, TurnedTally, TurnedIf}
+use Rattle.tally_node.proofs.Common.{StepsTally, counted, FollowsCandidates, Arrives, list_any_more}
+use Rattle.std.specs.declared.cmp.Ordering.{Ordering}
 use Rattle.std.specs.Cmp.{IsEquivalence}
 use Rattle.std.specs.List.Sorted.{IsStrictlySortedBy}
 
@@ -33,20 +37,20 @@ module _ {T : Type 0} (holds : T → Look → (Named → Bool) → Type 0) (look
   -- ---- one row's turn after the others
   turned_both : (a b comes : Bool) (who : Named) (t u v : T) → (b ≡ true → a ≡ false) → TurnedIf a holds look comes who t u → TurnedIf b holds look comes who u v → TurnedIf (a || b) holds look comes who t v
   turned_both true true comes who t u v apart p q = let e : true ≡ false = apart refl in cc
-  turned_both true false comes who t u v apart p q = subst (Turned holds look comes who t) (sym q) p
+  turned_both true false comes who t u v apart p q = subst (TurnedTally holds look comes who t) (sym q) p
   turned_both false b comes who t u v apart p q = subst (λ x. TurnedIf b holds look comes who x v) p q
 
-  pub steps_both : (a b comes : Bool) (who : Named) (x y z : Option T) → (b ≡ true → a ≡ false) → Steps (TurnedIf a holds look comes who) x y → Steps (TurnedIf b holds look comes who) y z → Steps (TurnedIf (a || b) holds look comes who) x z
-  steps_both a b comes who None y z apart p q = subst (λ o. Steps (TurnedIf b holds look comes who) o z) p q
+  pub steps_both : (a b comes : Bool) (who : Named) (x y z : Option T) → (b ≡ true → a ≡ false) → StepsTally (TurnedIf a holds look comes who) x y → StepsTally (TurnedIf b holds look comes who) y z → StepsTally (TurnedIf (a || b) holds look comes who) x z
+  steps_both a b comes who None y z apart p q = subst (λ o. StepsTally (TurnedIf b holds look comes who) o z) p q
   steps_both a b comes who (Some t) y z apart p q =
-      let r : Steps (TurnedIf b holds look comes who) (Some p.0) z = subst (λ o. Steps (TurnedIf b holds look comes who) o z) p.1 q in
+      let r : StepsTally (TurnedIf b holds look comes who) (Some p.0) z = subst (λ o. StepsTally (TurnedIf b holds look comes who) o z) p.1 q in
       (r.0, r.1, turned_both a b comes who t p.0 r.0 apart p.2 r.2)
 
   -- ---- tallies follow
-  pub follow_then : (scope first next last passes : Named → Bool) (x y z : Option T) → Steps (Follows holds look scope first next passes) x y → Steps (Follows holds look scope next last passes) y z → Steps (Follows holds look scope first last passes) x z
-  follow_then scope first next last passes None y z p q = subst (λ o. Steps (Follows holds look scope next last passes) o z) p q
+  pub follow_then : (scope first next last passes : Named → Bool) (x y z : Option T) → StepsTally (FollowsCandidates holds look scope first next passes) x y → StepsTally (FollowsCandidates holds look scope next last passes) y z → StepsTally (FollowsCandidates holds look scope first last passes) x z
+  follow_then scope first next last passes None y z p q = subst (λ o. StepsTally (FollowsCandidates holds look scope next last passes) o z) p q
   follow_then scope first next last passes (Some t) y z p q =
-      let r : Steps (Follows holds look scope next last passes) (Some p.0) z = subst (λ o. Steps (Follows holds look scope next last passes) o z) p.1 q in
+      let r : StepsTally (FollowsCandidates holds look scope next last passes) (Some p.0) z = subst (λ o. StepsTally (FollowsCandidates holds look scope next last passes) o z) p.1 q in
       (r.0, r.1, λ extra apart h. r.2 extra apart (p.2 extra apart h))
 
   left_one : (r e p x : Bool) → (e ≡ true → x ≡ false) → (((r && p) || x) && not e) ≡ (((r && not e) && p) || x)
@@ -93,7 +97,7 @@ module _ {T : Type 0} (holds : T → Look → (Named → Bool) → Type 0) (look
 
     -- a candidate that was counted goes
     pub follows_leave : (b : Bool) → passes who ≡ b → right who ≡ true → ((c : Named) → right_now c ≡ (right c && not (eq_by_cmp name_cmp who c)))
-        → TurnedIf b holds look false who t now → Follows holds look scope right right_now passes t now
+        → TurnedIf b holds look false who t now → FollowsCandidates holds look scope right right_now passes t now
     follows_leave true p has is turned extra apart h =
         let counted_who : counted right passes extra who ≡ true = ap (λ b. (b && passes who) || extra who) has ∙ ap (λ b. b || extra who) p in
         subst (holds now look) (fun_ext (λ c. left_one (right c) (eq_by_cmp name_cmp who c) (passes c) (extra c) (λ e. apart c (ap scope (sym (same_who c e)) ∙ inside)) ∙ ap (λ b. (b && passes c) || extra c) (sym (is c))))
@@ -104,7 +108,7 @@ module _ {T : Type 0} (holds : T → Look → (Named → Bool) → Type 0) (look
 
     -- a candidate that was not counted comes
     pub follows_come : (b : Bool) → passes who ≡ b → right who ≡ false → ((c : Named) → right_now c ≡ (right c || eq_by_cmp name_cmp who c))
-        → TurnedIf b holds look true who t now → Follows holds look scope right right_now passes t now
+        → TurnedIf b holds look true who t now → FollowsCandidates holds look scope right right_now passes t now
     follows_come true p has is turned extra apart h =
         let counted_who : counted right passes extra who ≡ false = ap (λ b. (b && passes who) || extra who) has ∙ apart who inside in
         subst (holds now look) (fun_ext (λ c. came_one (right c) (eq_by_cmp name_cmp who c) (passes c) (extra c) (λ e. ap passes (sym (same_who c e)) ∙ p) ∙ ap (λ b. (b && passes c) || extra c) (sym (is c))))
@@ -115,17 +119,17 @@ module _ {T : Type 0} (holds : T → Look → (Named → Bool) → Type 0) (look
 
   -- the same of what is kept for a row, where the rows that take their turn are the kept ones for which the candidate passes
   pub steps_leave : (scope right right_now passes : Named → Bool) (who : Named) → scope who ≡ true → right who ≡ true → ((c : Named) → right_now c ≡ (right c && not (eq_by_cmp name_cmp who c)))
-      → (before after : Option T) (b : Bool) → b ≡ (is_some before && passes who) → Steps (TurnedIf b holds look false who) before after → Steps (Follows holds look scope right right_now passes) before after
+      → (before after : Option T) (b : Bool) → b ≡ (is_some before && passes who) → StepsTally (TurnedIf b holds look false who) before after → StepsTally (FollowsCandidates holds look scope right right_now passes) before after
   steps_leave scope right right_now passes who inside has is None after b turns steps = steps
   steps_leave scope right right_now passes who inside has is (Some t) after b turns steps = (steps.0, steps.1, follows_leave scope right right_now passes who inside t steps.0 b (sym turns) has is steps.2)
 
   pub steps_come : (scope right right_now passes : Named → Bool) (who : Named) → scope who ≡ true → right who ≡ false → ((c : Named) → right_now c ≡ (right c || eq_by_cmp name_cmp who c))
-      → (before after : Option T) (b : Bool) → b ≡ (is_some before && passes who) → Steps (TurnedIf b holds look true who) before after → Steps (Follows holds look scope right right_now passes) before after
+      → (before after : Option T) (b : Bool) → b ≡ (is_some before && passes who) → StepsTally (TurnedIf b holds look true who) before after → StepsTally (FollowsCandidates holds look scope right right_now passes) before after
   steps_come scope right right_now passes who inside has is None after b turns steps = steps
   steps_come scope right right_now passes who inside has is (Some t) after b turns steps = (steps.0, steps.1, follows_come scope right right_now passes who inside t steps.0 b (sym turns) has is steps.2)
 
   -- nothing changed
-  pub steps_follow_same : (scope right right_now passes : Named → Bool) → ((c : Named) → right_now c ≡ right c) → (before after : Option T) → after ≡ before → Steps (Follows holds look scope right right_now passes) before after
+  pub steps_follow_same : (scope right right_now passes : Named → Bool) → ((c : Named) → right_now c ≡ right c) → (before after : Option T) → after ≡ before → StepsTally (FollowsCandidates holds look scope right right_now passes) before after
   steps_follow_same scope right right_now passes same None after is = is
   steps_follow_same scope right right_now passes same (Some t) after is = (t, is, λ extra apart h. subst (holds t look) (fun_ext (λ c. ap (λ b. (b && passes c) || extra c) (sym (same c)))) h)
 
@@ -149,7 +153,7 @@ module _ {T : Type 0} (holds : T → Look → (Named → Bool) → Type 0) (look
 
   -- one candidate more of a list in order
   pub tally_more : (names : List Named) (i : ℕ) (who : Named) → i < length names → who ≡ get_or names i any_name → IsStrictlySortedBy name_cmp names → (t now : T)
-      → Turned holds look true who t now → holds t look (has_name (take i names)) → holds now look (has_name (take (i + 1) names))
+      → TurnedTally holds look true who t now → holds t look (has_name (take i names)) → holds now look (has_name (take (i + 1) names))
   tally_more names i who below is sorted t now turned h =
       subst (holds now look) (fun_ext (λ c. ap (λ b. has_name (take i names) c || b) (name_equiv.symm who c ∙ ap (eq_by_cmp name_cmp c) is) ∙ sym (list_any_more (eq_by_cmp name_cmp c) names i any_name below)))
       (turned (has_name (take i names)) h (ap (λ x. has_name (take i names) x) is ∙ not_before name_cmp name_equiv names i any_name below sorted))
@@ -164,10 +168,6 @@ rows_apart rows i row below is sorted r e = ap (has (take i rows)) (sym ((row_de
 -- the version in a place of a list, and what is the same, stands in the list
 pub name_within : (names : List Named) (i : ℕ) → i < length names → (c : Named) → eq_by_cmp name_cmp (get_or names i any_name) c ≡ true → has_name names c ≡ true
 name_within names i below c e = ap (has_name names) (sym ((name_decides (get_or names i any_name) c).0 e)) ∙ stands_in name_cmp name_equiv names i any_name below
-
-pub first_of : (a b : Bool) → (a && b) ≡ true → a ≡ true
-first_of true b e = refl
-first_of false b e = e
 
 -- all of a list
 pub take_all : {A : Type 0} (xs : List A) (i : ℕ) → length xs ≤ i → take i xs ≡ xs

@@ -1,8 +1,12 @@
 -- One candidate more in a fold, and one less; rows with a value more.
-use Rattle.tally_node.proofs.Common.{◌≡◌, ◌∙◌, sym, ap, refl, ℤ, List, [], ◌∷◌, map, Bool, true, false, cond, not, ◌&&◌, ◌||◌, Option, Some, None, option_map, eq_by_cmp, Held, insert_rising, in_rising_order, insert-insert, Named, Row, row_cmp, name_cmp, name_equiv, Accumulate, Look, has_name, with_value, unvalued, splits_value, without_value, shows_value, name_decides, row_decides, from_unvalued, with_one, less_one, AreDistinct, argument_of, Gathers, is_from, unvalued_with}
-use Rattle.std.proofs.lemmas.Bool.Decides.{Decides-int_eq}
+use Rattle.tally_node.proofs.Common.{◌≡◌, ◌∙◌, sym, ap, refl, ℤ, List, [], ◌∷◌, map, Bool, true, false, cond, not, ◌&&◌, ◌||◌, Option, Some, None, option_map}
+use Rattle.tally_node.proofs.Common.{eq_by_cmp, Held, insert_rising, in_rising_order, insert-insert, Named, Row, row_cmp, name_cmp, name_equiv, Accumulate}
+use Rattle.tally_node.proofs.Common.{Look, has_name, with_row_value, unvalued, splits_value, without_value, shows_value, name_decides, row_decides}
+use Rattle.tally_node.proofs.Common.{from_unvalued, unvalued_with, with_one, less_one, AreDistinct, argument_of, Gathers, is_from, and_from, and_parts, or_comm}
+use Rattle.tally_node.proofs.Common.{same_test}
 use Rattle.std.specs.Ordering.{int_eq}
-use Rattle.tally_node.proofs.Counting.{or_swap, dropped, has_dropped, dropped_distinct}
+use Rattle.std.proofs.lemmas.Bool.Decides.{Decides-int_eq}
+use Rattle.tally_node.proofs.Counting.{dropped, has_dropped, dropped_distinct}
 
 -- ---- the values of candidates
 module _ (arg : Named → ℤ) where
@@ -37,7 +41,7 @@ module _ (a : Accumulate) (world : Look) where
   gathers_more set held now who is absent kind values = record {
     names = who ∷ is.names;
     distinct = (is.all who ∙ absent, is.distinct);
-    all = λ c. ap (λ b. b || has_name is.names c) (name_equiv.symm c who) ∙ ap (λ b. eq_by_cmp name_cmp who c || b) (is.all c) ∙ or_swap (eq_by_cmp name_cmp who c) (set c);
+    all = λ c. ap (λ b. b || has_name is.names c) (name_equiv.symm c who) ∙ ap (λ b. eq_by_cmp name_cmp who c || b) (is.all c) ∙ or_comm (eq_by_cmp name_cmp who c) (set c);
     kind = kind ∙ is.kind;
     values = values ∙ ap (insert_rising (argument_of a world who)) is.values;
   }
@@ -52,34 +56,21 @@ module _ (a : Accumulate) (world : Look) where
     values = values (in_rising_order (map (argument_of a world) (dropped who is.names))) (is.values ∙ dropped_values (argument_of a world) who is.names (is.all who ∙ present));
   }
 
--- ---- rows with a value more
-same_either : (a b : Bool) → (a ≡ true → b ≡ true) → (b ≡ true → a ≡ true) → a ≡ b
-same_either true b f g = sym (f refl)
-same_either false true f g = g refl
-same_either false false f g = refl
-
-two_of : (a b : Bool) → (a && b) ≡ true → (a ≡ true) × (b ≡ true)
-two_of true b e = (refl, e)
-two_of false b e = let f : false ≡ true = e in cc
-
-two_true : (a b : Bool) → a ≡ true → b ≡ true → (a && b) ≡ true
-two_true a b e f = ap (λ x. x && b) e ∙ f
-
 -- the row with a value more is what it is read backward to be
-pub value_row : (r row : Row) (v : ℤ) → eq_by_cmp row_cmp r (with_value row v) ≡ (is_from (without_value r) row && shows_value v r)
-value_row r row v = same_either _ _ forth (back (unvalued r) refl)
+pub value_row : (r row : Row) (v : ℤ) → eq_by_cmp row_cmp r (with_row_value row v) ≡ (is_from (without_value r) row && shows_value v r)
+value_row r row v = same_test _ _ forth (back (unvalued r) refl)
   where
     read : Option (Row × ℤ) → Bool
     read o = is_from (option_map (λ (p : Row × ℤ). p.0) o) row && splits_value (λ left last. int_eq v last) o
 
-    forth : eq_by_cmp row_cmp r (with_value row v) ≡ true → read (unvalued r) ≡ true
+    forth : eq_by_cmp row_cmp r (with_row_value row v) ≡ true → read (unvalued r) ≡ true
     forth e =
-        ap (λ (x : Row). read (unvalued x)) ((row_decides r (with_value row v)).0 e) ∙ ap read (unvalued_with row v)
-        ∙ two_true (eq_by_cmp row_cmp row row) (int_eq v v) ((row_decides row row).1 refl) ((Decides-int_eq v v).1 refl)
+        ap (λ (x : Row). read (unvalued x)) ((row_decides r (with_row_value row v)).0 e) ∙ ap read (unvalued_with row v)
+        ∙ and_from (eq_by_cmp row_cmp row row) (int_eq v v) ((row_decides row row).1 refl) ((Decides-int_eq v v).1 refl)
 
-    back : (o : Option (Row × ℤ)) → unvalued r ≡ o → read (unvalued r) ≡ true → eq_by_cmp row_cmp r (with_value row v) ≡ true
+    back : (o : Option (Row × ℤ)) → unvalued r ≡ o → read (unvalued r) ≡ true → eq_by_cmp row_cmp r (with_row_value row v) ≡ true
     back None s e = let f : false ≡ true = ap read (sym s) ∙ e in cc
     back (Some p) s e =
-        let k = two_of (eq_by_cmp row_cmp row p.0) (int_eq v p.1) (ap read (sym s) ∙ e) in
-        (row_decides r (with_value row v)).1
-        (from_unvalued r p s ∙ ap (λ x. with_value p.0 x) (sym ((Decides-int_eq v p.1).0 k.1)) ∙ ap (λ (x : Row). with_value x v) (sym ((row_decides row p.0).0 k.0)))
+        let k = and_parts (eq_by_cmp row_cmp row p.0) (int_eq v p.1) (ap read (sym s) ∙ e) in
+        (row_decides r (with_row_value row v)).1
+        (from_unvalued r p s ∙ ap (λ x. with_row_value p.0 x) (sym ((Decides-int_eq v p.1).0 k.1)) ∙ ap (λ (x : Row). with_row_value x v) (sym ((row_decides row p.0).0 k.0)))

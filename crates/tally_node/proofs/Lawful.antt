@@ -1,14 +1,22 @@
 -- Tallies of all candidates stay those of all candidates.
-use Rattle.tally_node.proofs.Common.{◌≡◌, ◌∙◌, sym, ap, refl, subst, ℕ, zero, suc, ◌==◌, arith, cond, map, List, [], ◌∷◌, Bool, true, false, not, ◌&&◌, ◌||◌, Option, Some, None, ℤ, fun_ext, list_any, is_some, option_map, eq_by_cmp, Held, Named, Row, Delta, has, name_cmp, name_equiv, Accumulate, Look, joins, Memories, has_name, left_at, has_left, has_right, cleaned, either, name_decides, unvalued, splits_value, without_value, shows_value, from_unvalued, Blockers, Witnesses, IsNumber, counts_blockers, counts_witnesses, where_unblocked, where_witnessed, argument_given, argument_of, result_for, all_passing, itself, shows_any, TallyStep, counted, SeeAlike, output_some, output_from, offers, shown, result-rising, Leads, clean, remembered, PassesAlike, StandsFor, IsNameDifference, IsStepped, zero_where, tested, is_result, StandsCounted, ForgottenStay, StartLaw, TallyLaw, ForgetLaw, DropLaw, MoveLaw, ShownLaw, GatheredLaw}
-use Rattle.std.proofs.Math.Dec.{eqb-suc-zero}
+use Rattle.tally_node.proofs.Common.{◌≡◌, ◌∙◌, sym, ap, refl, subst, ℕ, zero, suc, ◌==◌, arith, cond, map, List, [], ◌∷◌, Bool, true, false, not, ◌&&◌, ◌||◌}
+use Rattle.tally_node.proofs.Common.{Option, Some, None, ℤ, fun_ext, list_any, is_some, option_map, eq_by_cmp, Held, Named, Row, Delta, has, name_cmp}
+use Rattle.tally_node.proofs.Common.{name_equiv, Accumulate, Look, joins, Memories, has_name, left_at, has_left, has_right, cleaned, either, clean, remembered}
+use Rattle.tally_node.proofs.Common.{PassesAlike, StandsFor, name_decides, unvalued, splits_value, without_value, shows_value, from_unvalued, Blockers}
+use Rattle.tally_node.proofs.Common.{Witnesses, IsNumber, counts_blockers, counts_witnesses, where_unblocked, where_witnessed, zero_where, argument_given}
+use Rattle.tally_node.proofs.Common.{argument_of, result_for, tested, is_result, all_passing, StandsCounted, ForgottenStay, EmptyTallyLaw, TallyLaw}
+use Rattle.tally_node.proofs.Common.{TallyForgetLaw, TallyDropLaw, TallyMoveLaw, ShownLaw, GatheredLaw, itself, shows_any, TallyStep, counted, SeeAlike}
+use Rattle.tally_node.proofs.Common.{output_some, output_from, offers, shown, result-rising, LeadsRows, IsNameDifference, IsStepped, and_right, not-true}
+use Rattle.tally_node.proofs.Common.{or_left, or_right, is_some-value, and_first, and_is, and_second, not_not}
 use Rattle.std.specs.Ordering.{int_eq}
+use Rattle.pair_memory.specs.Valued.{valued}
+use Rattle.std.proofs.Math.Dec.{eqb-suc-zero}
 use Rattle.fx_base.specs.declared.fact.Fact.{Fact}
 use Rattle.fold_fn.specs.Results.{fold_result}
 use Rattle.rule_model.specs.Lent.{Holds, bound_in}
 use Rattle.rule_model.specs.Rows.{argument, result_of}
 use Rattle.rule_model.specs.Tuples.{name_of}
 use Rattle.pair_memory.proofs.Moving.{move_law as memories_move}
-use Rattle.pair_memory.specs.Valued.{valued}
 use Rattle.pair_memory.proofs.Steps.{steps_law, forgets_law}
 use Rattle.tally_node.proofs.Counting.{nobody, somebody}
 use Rattle.tally_node.proofs.Gathering.{same_values}
@@ -26,34 +34,6 @@ only_kept true true j p h k = sym (k refl)
 only_kept true false j p h k = h refl
 only_kept false f j p h k = refl
 
-and_true : (a f : Bool) → f ≡ true → (a && f) ≡ a
-and_true true f e = e
-and_true false f e = refl
-
-and_false : (a f : Bool) → f ≡ false → (a && f) ≡ false
-and_false true f e = e
-and_false false f e = refl
-
-not_of : (f : Bool) → not f ≡ true → f ≡ false
-not_of true e = let g : false ≡ true = e in cc
-not_of false e = refl
-
-rest_of : (a b : Bool) → (a && b) ≡ true → b ≡ true
-rest_of true b e = e
-rest_of false b e = let f : false ≡ true = e in cc
-
-first_of : (a b : Bool) → (a && b) ≡ true → a ≡ true
-first_of true b e = refl
-first_of false b e = e
-
-one_first : (a b : Bool) → a ≡ true → (a || b) ≡ true
-one_first true b e = refl
-one_first false b e = let f : false ≡ true = e in cc
-
-one_second : (a b : Bool) → b ≡ true → (a || b) ≡ true
-one_second true b e = refl
-one_second false b e = e
-
 of_two : (a b f : Bool) → ((a && f) || (b && f)) ≡ true → f ≡ true
 of_two true b true e = refl
 of_two false b true e = refl
@@ -66,13 +46,9 @@ other_of : (a b : Bool) → a ≡ false → (a || b) ≡ true → b ≡ true
 other_of true b f e = let g : true ≡ false = f in cc
 other_of false b f e = e
 
-there : {X : Type 0} (o : Option X) → is_some o ≡ true → (x : X) × (o ≡ Some x)
-there None e = let f : false ≡ true = e in cc
-there (Some x) e = (x, refl)
-
 module _ {T : Type 0} (holds : T → Look → (Named → Bool) → Type 0) (m n : Memories T) (look world : Look) (pass : Row → Named → Bool) (rows rows_now : Row → Bool) (names names_now forgotten : Named → Bool) (left right : Delta)
     (was : StandsCounted holds m look world pass rows names forgotten) (alike : PassesAlike m.pattern look pass rows names forgotten) (alike_now : PassesAlike m.pattern look pass rows_now names_now forgotten)
-    (rows_lead : Leads (cleaned rows forgotten) (cleaned rows_now forgotten) left.gone left.come) (names_lead : IsNameDifference (remembered names forgotten) (remembered names_now forgotten) right)
+    (rows_lead : LeadsRows (cleaned rows forgotten) (cleaned rows_now forgotten) left.gone left.come) (names_lead : IsNameDifference (remembered names forgotten) (remembered names_now forgotten) right)
     (alike_world : SeeAlike (either (remembered names forgotten) (remembered names_now forgotten)) look world) (fixed : ForgottenStay pass rows rows_now names names_now forgotten left) (stepped : IsStepped m n look left right) (step : TallyStep holds look m n left right) where
   now : StandsFor n look rows_now names_now forgotten
   now = steps_law T m n look rows rows_now names names_now forgotten left right was.stands rows_lead names_lead stepped
@@ -83,7 +59,7 @@ module _ {T : Type 0} (holds : T → Look → (Named → Bool) → Type 0) (m n 
 
   in_scope : (c : Named) → scope c ≡ true → forgotten c ≡ false
   unfolding scope
-  in_scope c s = not_of (forgotten c) (of_two (names c) (names_now c) (not (forgotten c)) s)
+  in_scope c s = not-true (forgotten c) (of_two (names c) (names_now c) (not (forgotten c)) s)
 
   extra : Row → Named → Bool
   extra row c = all_passing pass names row c && forgotten c
@@ -95,24 +71,24 @@ module _ {T : Type 0} (holds : T → Look → (Named → Bool) → Type 0) (m n 
     of_stayed : (has_left m look row && not (has left.gone row)) ≡ true → holds t world (all_passing pass names_now row)
     unfolding scope extra
     of_stayed e =
-        let old = there (left_at m look row) (first_of (has_left m look row) (not (has left.gone row)) e) in
-        let clean : cleaned rows forgotten row ≡ true = sym (was.stands.rows row) ∙ first_of (has_left m look row) (not (has left.gone row)) e in
-        let after = step.stays world scope alike_world (λ c g. one_first (remembered names forgotten c) (remembered names_now forgotten c) (first_of (remembered names forgotten c) (not (remembered names_now forgotten c)) (sym (names_lead.goes c) ∙ g)))
-        (λ c g. one_second (remembered names forgotten c) (remembered names_now forgotten c) (first_of (remembered names_now forgotten c) (not (remembered names forgotten c)) (sym (names_lead.comes c) ∙ g))) row old.0 old.1 (not_of (has left.gone row) (rest_of (has_left m look row) (not (has left.gone row)) e)) in
+        let old = is_some-value (left_at m look row) (and_first (has_left m look row) (not (has left.gone row)) e) in
+        let clean : cleaned rows forgotten row ≡ true = sym (was.stands.rows row) ∙ and_first (has_left m look row) (not (has left.gone row)) e in
+        let after = step.stays world scope alike_world (λ c g. or_left (remembered names forgotten c) (remembered names_now forgotten c) (and_first (remembered names forgotten c) (not (remembered names_now forgotten c)) (sym (names_lead.goes c) ∙ g)))
+        (λ c g. or_right (remembered names forgotten c) (remembered names_now forgotten c) (and_first (remembered names_now forgotten c) (not (remembered names forgotten c)) (sym (names_lead.comes c) ∙ g))) row old.0 old.1 (not-true (has left.gone row) (and_second (has_left m look row) (not (has left.gone row)) e)) in
         let same : Some after.0 ≡ Some t = sym after.1 ∙ is in
         let equal : after.0 ≡ t = cc in
         let before : holds old.0 world (counted (has_right m look) (joins m.pattern look row) (extra row)) =
         subst (holds old.0 world) (fun_ext (λ c. sym (ap (λ b. (b && joins m.pattern look row c) || extra row c) (was.stands.names c)
-        ∙ counted_all (names c) (forgotten c) (joins m.pattern look row c) (pass row c) (extra row c) (alike row c clean) (λ f. and_true (all_passing pass names row c) (forgotten c) f) (λ f. and_false (all_passing pass names row c) (forgotten c) f)))) (was.counts row old.0 old.1) in
+        ∙ counted_all (names c) (forgotten c) (joins m.pattern look row c) (pass row c) (extra row c) (alike row c clean) (λ f. and_is (all_passing pass names row c) (forgotten c) f) (λ f. and_right (all_passing pass names row c) (forgotten c) f)))) (was.counts row old.0 old.1) in
         subst (λ x. holds x world (all_passing pass names_now row)) equal
         (subst (holds after.0 world) (fun_ext (λ c. ap (λ b. (b && joins m.pattern look row c) || extra row c) (now.names c)
-        ∙ counted_all (names_now c) (forgotten c) (joins m.pattern look row c) (pass row c) (extra row c) (alike_now row c clean_now) (λ f. and_true (all_passing pass names row c) (forgotten c) f ∙ fixed.stays row c clean clean_now f) (λ f. and_false (all_passing pass names row c) (forgotten c) f)))
-        (after.2 (extra row) (λ c s. and_false (all_passing pass names row c) (forgotten c) (in_scope c s)) before))
+        ∙ counted_all (names_now c) (forgotten c) (joins m.pattern look row c) (pass row c) (extra row c) (alike_now row c clean_now) (λ f. and_is (all_passing pass names row c) (forgotten c) f ∙ fixed.stays row c clean clean_now f) (λ f. and_right (all_passing pass names row c) (forgotten c) f)))
+        (after.2 (extra row) (λ c s. and_right (all_passing pass names row c) (forgotten c) (in_scope c s)) before))
 
     of_fresh : (has_left m look row && not (has left.gone row)) ≡ false → holds t world (all_passing pass names_now row)
     of_fresh e =
         let comes : has left.come row ≡ true = other_of (has_left m look row && not (has left.gone row)) (has left.come row) e (sym (stepped.rows row) ∙ ap is_some is) in
-        let after = step.fresh world (λ c h. alike_world c (one_second (remembered names forgotten c) (remembered names_now forgotten c) (sym (now.names c) ∙ h))) row e comes in
+        let after = step.fresh world (λ c h. alike_world c (or_right (remembered names forgotten c) (remembered names_now forgotten c) (sym (now.names c) ∙ h))) row e comes in
         let same : Some after.0 ≡ Some t = sym after.1 ∙ is in
         let equal : after.0 ≡ t = cc in
         subst (λ x. holds x world (all_passing pass names_now row)) equal
@@ -135,7 +111,7 @@ not_dropped : {X : Type 0} (b : Bool) (o : Option X) (x : X) → cond b None o �
 not_dropped true o x e = let f : None ≡ Some x = e in cc
 not_dropped false o x e = e
 
-pub forget_law : (T : Type 0) (holds : T → Look → (Named → Bool) → Type 0) → ForgetLaw T holds
+pub forget_law : (T : Type 0) (holds : T → Look → (Named → Bool) → Type 0) → TallyForgetLaw T holds
 forget_law T holds m n look world pass rows names forgotten old dropped was drops keeps left = record {
   stands = forgets_law T m n look rows names forgotten old dropped was.stands drops keeps;
   counts = λ row t is. was.counts row t (not_dropped (has dropped row) (left_at m look row) t (sym (left row) ∙ is));
@@ -189,10 +165,6 @@ pub blockers_shown : ShownLaw Blockers counts_blockers where_unblocked (λ b. no
 blockers_shown m look world pass rows names forgotten was row =
     shown_as (where_unblocked look row) (λ b. not b) row (cleaned rows forgotten row) (list_any (pass row) names) (left_at m look row) (was.stands.rows row) (λ t is. ap zero_where (number_tells (pass row) names t.0 (was.counts row t is)))
 
-not_not : (b : Bool) → not (not b) ≡ b
-not_not true = refl
-not_not false = refl
-
 pub witnesses_shown : ShownLaw Witnesses counts_witnesses where_witnessed (λ b. b)
 witnesses_shown m look world pass rows names forgotten was row =
     shown_as (where_witnessed look row) (λ b. b) row (cleaned rows forgotten row) (list_any (pass row) names) (left_at m look row) (was.stands.rows row)
@@ -243,10 +215,10 @@ gathered_shown a m look world pass rows names forgotten of was known distinct al
         ∙ sym (ap (splits_value line) s)
 
 -- ---- a new node, what is dropped, and another store
-pub start_law : (T : Type 0) (holds : T → Look → (Named → Bool) → Type 0) → StartLaw T holds
+pub start_law : (T : Type 0) (holds : T → Look → (Named → Bool) → Type 0) → EmptyTallyLaw T holds
 start_law T holds m look world pass forgotten stands = record { stands = stands; counts = λ row t is. let f : false ≡ true = sym (stands.rows row) ∙ ap is_some is in cc }
 
-pub move_law : (T : Type 0) (holds : T → Look → (Named → Bool) → Type 0) → MoveLaw T holds
+pub move_law : (T : Type 0) (holds : T → Look → (Named → Bool) → Type 0) → TallyMoveLaw T holds
 move_law T holds m look other world pass rows names forgotten was alike =
     let moved = memories_move T m look other was.stands.agrees alike in
     record {
@@ -262,7 +234,7 @@ shows_after : {T : Type 0} (gives : ℤ → Row → Bool) (output : T → Option
 shows_after gives output row o true e = refl
 shows_after gives output row o false e = e
 
-pub drop_law : (T : Type 0) (origin : Row → Option Row) (gives : ℤ → Row → Bool) (output : Look → Row → T → Option ℤ) → ((row left : Row) → origin row ≡ Some left → left.facts ≡ row.facts) → DropLaw T origin gives output
+pub drop_law : (T : Type 0) (origin : Row → Option Row) (gives : ℤ → Row → Bool) (output : Look → Row → T → Option ℤ) → ((row left : Row) → origin row ≡ Some left → left.facts ≡ row.facts) → TallyDropLaw T origin gives output
 drop_law T origin gives output same_facts m n look rows names forgotten old dropped gone stands drops left went row is = by (origin row) refl
   where
     by : (o : Option Row) → origin row ≡ o → has gone row ≡ not (clean old row)

@@ -1,7 +1,9 @@
 -- What a rising part of a rising list leaves of it.
-use Rattle.tally_node.proofs.Common.{◌≡◌, ◌∙◌, sym, ap, refl, int_lt, int_eq, ℕ, zero, suc, add-one, ◌+◌, ◌<◌, ◌≤◌, ℤ, length, get_or, drop, arith, List, [], ◌∷◌, ◌++◌, Bool, true, false, cond, ints, insert_rising, in_rising_order}
+use Rattle.tally_node.proofs.Common.{◌≡◌, ◌∙◌, sym, ap, refl, int_lt, int_eq, ℕ, zero, suc, add-one, ◌+◌, ◌<◌, ◌≤◌, ℤ, length, get_or, drop, arith, List, []}
+use Rattle.tally_node.proofs.Common.{◌∷◌, ◌++◌, Bool, true, false, cond, ints, insert_rising, in_rising_order}
 use Rattle.std.proofs.Math.Seq.{drop-cons}
 use Rattle.tally_node.proofs.Extras.{rising_of_front}
+use Rattle.fx_base.proofs.Orders.{int_eq-self, int_lt-flip}
 
 -- the values of a list without those of a part of it, where both are walked once
 abbrev pub leaves : List ℤ → List ℤ → List ℤ
@@ -14,9 +16,6 @@ abbrev IsBelow : ℤ → List ℤ → Type 0
 IsBelow p [] = Unit {0}
 IsBelow p (q ∷ qs) = int_lt q p ≡ false
 
-same_itself : (v : ℤ) → int_eq v v ≡ true
-same_itself v = grind (arith, ints)
-
 less_other : (z p : ℤ) → int_lt z p ≡ true → int_eq p z ≡ false
 less_other z p e = grind (arith, ints)
 
@@ -24,7 +23,7 @@ less_all : (z p q : ℤ) → int_lt z p ≡ true → int_lt q p ≡ false → in
 less_all z p q e f = grind (arith, ints)
 
 one_of_both : (p : ℤ) (zs ps : List ℤ) → IsBelow p ps → leaves (insert_rising p zs) (p ∷ ps) ≡ leaves zs ps
-one_of_both p [] ps below = ap (λ b. cond b (leaves [] ps) (p ∷ leaves [] (p ∷ ps))) (same_itself p)
+one_of_both p [] ps below = ap (λ b. cond b (leaves [] ps) (p ∷ leaves [] (p ∷ ps))) (int_eq-self p)
 one_of_both p (z ∷ zs) ps below = by (int_lt z p) refl (one_of_both p zs ps below)
   where
     passed : int_lt z p ≡ true → (qs : List ℤ) → IsBelow p qs → z ∷ leaves zs qs ≡ leaves (z ∷ zs) qs
@@ -35,7 +34,7 @@ one_of_both p (z ∷ zs) ps below = by (int_lt z p) refl (one_of_both p zs ps be
     by true e rest =
         ap (λ b. cond b (leaves (insert_rising p zs) ps) (z ∷ leaves (insert_rising p zs) (p ∷ ps))) (less_other z p e)
         ∙ ap (λ (vs : List ℤ). z ∷ vs) rest ∙ passed e ps below
-    by false e rest = ap (λ b. cond b (leaves (z ∷ zs) ps) (p ∷ leaves (z ∷ zs) (p ∷ ps))) (same_itself p)
+    by false e rest = ap (λ b. cond b (leaves (z ∷ zs) ps) (p ∷ leaves (z ∷ zs) (p ∷ ps))) (int_eq-self p)
 
 nothing_left : (vs : List ℤ) → leaves vs [] ≡ vs
 nothing_left [] = refl
@@ -58,15 +57,12 @@ below_insert v p (q ∷ qs) e low = by (int_lt q v)
     by true = low
     by false = e
 
-not_less : (q v : ℤ) → int_lt q v ≡ true → int_lt v q ≡ false
-not_less q v e = grind (arith, ints)
-
 rises_insert : (v : ℤ) (qs : List ℤ) → Rises qs → Rises (insert_rising v qs)
 rises_insert v [] r = (tt, tt)
 rises_insert v (q ∷ qs) r = by (int_lt q v) refl (rises_insert v qs r.1)
   where
     by : (b : Bool) → int_lt q v ≡ b → Rises (insert_rising v qs) → Rises (cond b (q ∷ insert_rising v qs) (v ∷ (q ∷ qs)))
-    by true e rest = (below_insert v q qs (not_less q v e) r.0, rest)
+    by true e rest = (below_insert v q qs (int_lt-flip q v e) r.0, rest)
     by false e rest = (e, r)
 
 rises : (xs : List ℤ) → Rises (in_rising_order xs)

@@ -5,7 +5,6 @@ pub mod Parts
 pub mod Stepping
 pub mod Counting
 pub mod Gathering
-pub mod Knowing
 pub mod Lawful
 pub mod Extras
 pub mod Leaving

@@ -1,5 +1,9 @@
 -- Nodes that are loaded stand for what is kept with its extras, and for all of it.
-use Rattle.tally_node.proofs.Common.{◌≡◌, ◌∙◌, sym, ap, refl, subst, List, [], ◌∷◌, Bool, true, false, not, ◌&&◌, ◌||◌, Some, None, ℤ, fun_ext, list_any, is_some, Held, Extra, Named, Row, has, Accumulate, Look, joins, has_name, has_left, has_right, cleaned, Blockers, Witnesses, counts_blockers, counts_witnesses, gathers, IsLaden, extra_for, blockers_laden, witnesses_laden, gathered_laden, nothing_gathered, arguments_gathered, all_passing, no_names, lost_passing, LadenLaw, LoadLaw, ResumeLaw, OthersLaw}
+use Rattle.tally_node.proofs.Common.{◌≡◌, ◌∙◌, sym, ap, refl, subst, List, [], ◌∷◌, Bool, true, false, not, ◌&&◌, ◌||◌, Some, None, ℤ, fun_ext, list_any}
+use Rattle.tally_node.proofs.Common.{is_some, Held, Extra, Named, Row, has, Accumulate, Look, joins, has_name, has_left, has_right, cleaned, no_names, Blockers}
+use Rattle.tally_node.proofs.Common.{Witnesses, counts_blockers, counts_witnesses, gathers, IsTallyLaden, extra_for, blockers_laden, witnesses_laden}
+use Rattle.tally_node.proofs.Common.{gathered_laden, nothing_gathered, arguments_gathered, all_passing, lost_passing, LadenLaw, LoadLaw, ResumeLaw, OthersLaw}
+use Rattle.tally_node.proofs.Common.{and-true}
 use Rattle.tally_node.proofs.Extras.{nothing_more, number_laden, gathers_laden}
 
 -- ---- a tally and an extra
@@ -15,13 +19,8 @@ pub gathered_made_up : (a : Accumulate) → LadenLaw Held (gathers a) (gathered_
 gathered_made_up a t world set others None h apart none = nothing_more (gathers a) t world set others h none
 gathered_made_up a t world set others (Some e) h apart tells = gathers_laden a t world set others e h apart tells
 
--- ---- kernels: a that it is a candidate, f that it is forgotten, j and p that it passes by the facts at hand and in the world
-not_true : (b : Bool) → (b && true) ≡ b
-not_true true = refl
-not_true false = refl
-
 nothing_forgotten : (rows : Row → Bool) (row : Row) → cleaned rows no_names row ≡ rows row
-nothing_forgotten rows row = ap (λ b. rows row && not b) (none row.facts) ∙ not_true (rows row)
+nothing_forgotten rows row = ap (λ b. rows row && not b) (none row.facts) ∙ and-true (rows row)
   where
     none : (names : List Named) → list_any no_names names ≡ false
     none [] = refl
@@ -29,7 +28,7 @@ nothing_forgotten rows row = ap (λ b. rows row && not b) (none row.facts) ∙ n
 
 kept_or_lost : (a f j p : Bool) → ((a && not f) ≡ true → j ≡ p) → (((a && not f) && j) || ((a && p) && f)) ≡ (a && p)
 kept_or_lost false f j p h = refl
-kept_or_lost true true j p h = not_true p
+kept_or_lost true true j p h = and-true p
 kept_or_lost true false true p h = h refl
 kept_or_lost true false false p h = ap (λ b. b && false) (sym (h refl)) ∙ h refl
 
@@ -44,7 +43,7 @@ module _ {T : Type 0} (holds : T → Look → (Named → Bool) → Type 0) (lade
   load_law m n look world pass rows names left right extras nothing alike seen rows_are names_are sorted keeps loaded = record {
     stands = record {
       rows = λ row. kept_row row ∙ sym (nothing_forgotten rows row);
-      names = λ who. kept_name who ∙ sym (not_true (names who));
+      names = λ who. kept_name who ∙ sym (and-true (names who));
       agrees = keeps.agrees nothing.agrees;
     };
     counts = λ row t is.
@@ -52,8 +51,8 @@ module _ {T : Type 0} (holds : T → Look → (Named → Bool) → Type 0) (lade
         let new = loaded sorted world (λ who e. seen who (sym (kept_name who) ∙ e)) row (rows_are row ∙ came) (nothing.rows row) in
         let same : Some new.0 ≡ Some t = sym new.1 ∙ is in
         let equal : new.0 ≡ t = cc in
-        subst (λ x. IsLaden holds laden x world (all_passing pass names row) (extra_for extras row)) equal
-        (subst (λ (set : Named → Bool). IsLaden holds laden new.0 world set (extra_for extras row))
+        subst (λ x. IsTallyLaden holds laden x world (all_passing pass names row) (extra_for extras row)) equal
+        (subst (λ (set : Named → Bool). IsTallyLaden holds laden new.0 world set (extra_for extras row))
         (fun_ext (λ who. ap (λ b. b && joins m.pattern look row who) (kept_name who) ∙ passes row who came (names who) refl)) new.2);
   }
     where
@@ -64,14 +63,14 @@ module _ {T : Type 0} (holds : T → Look → (Named → Bool) → Type 0) (lade
       kept_name who = keeps.names who ∙ ap (λ b. b || has_name right who) (nothing.names who) ∙ names_are who
 
       passes : (row : Row) (who : Named) → rows row ≡ true → (b : Bool) → names who ≡ b → (names who && joins m.pattern look row who) ≡ (names who && pass row who)
-      passes row who came true e = ap (λ b. names who && b) (alike row who (nothing_forgotten rows row ∙ came) (not_true (names who) ∙ e))
+      passes row who came true e = ap (λ b. names who && b) (alike row who (nothing_forgotten rows row ∙ came) (and-true (names who) ∙ e))
       passes row who came false e = ap (λ b. b && joins m.pattern look row who) e ∙ sym (ap (λ b. b && pass row who) e)
 
   pub resume_law : (gathered : Look → List Named → List ℤ) → LadenLaw T holds laden gathered → ResumeLaw T holds laden gathered
   resume_law gathered made_up m look world pass_kept pass rows_kept rows names_kept names forgotten extra was rows_are names_are alike tells = record {
     stands = record {
       rows = λ row. was.stands.rows row ∙ nothing_forgotten rows_kept row ∙ rows_are row;
-      names = λ who. was.stands.names who ∙ not_true (names_kept who) ∙ names_are who;
+      names = λ who. was.stands.names who ∙ and-true (names_kept who) ∙ names_are who;
       agrees = was.stands.agrees;
     };
     counts = λ row t is.

@@ -1,7 +1,11 @@
 -- Which extra a search finds, and the extras that are listed of rows.
-use Rattle.tally_node.proofs.Common.{◌≡◌, ◌∙◌, sym, ap, refl, subst, ⊎_elim, ◌⊎◌, ℕ, zero, suc, add-one, ◌+◌, ◌<◌, length, get_or, arith, nat_lt, is_lt, List, [], ◌∷◌, ◌++◌, Bool, true, false, cond, ◌||◌, Option, Some, None, Ordering, Less, AllByRecursion, eq_by_cmp, is_eq, RuleId, Extra, Row, has, row_cmp, InOrder, same_equiv, row_decides, extra_for, rows_of_extras, Equal, Greater, AllWithin, cons_option, ordering_index, ordering_reverse, row_total, row_exact, IsOf, one_or_none}
+use Rattle.tally_node.proofs.Common.{◌≡◌, ◌∙◌, sym, ap, refl, subst, ⊎_elim, ℕ, zero, suc, add-one, ◌<◌, length, get_or, arith, nat_lt, is_lt, List, [], ◌∷◌}
+use Rattle.tally_node.proofs.Common.{◌++◌, Bool, true, false, cond, ◌||◌, Option, Some, None, Less, Equal, Greater, AllByRecursion, AllWithin, cons_option}
+use Rattle.tally_node.proofs.Common.{eq_by_cmp, is_eq, ordering_index, ordering_reverse, RuleId, Extra, Row, has, row_cmp, InOrder, same_equiv, row_total}
+use Rattle.tally_node.proofs.Common.{row_exact, row_decides, extra_for, rows_of_extras, IsExtraBesideRow, one_or_none, IsNonDecreasingBy, IsPartitionPoint}
+use Rattle.tally_node.proofs.Common.{IsSortedBy}
 use Rattle.std.specs.Prelude.{IfSome}
-use Rattle.std.specs.List.Sorted.{IsStrictlySortedBy, IsNonDecreasingBy, IsPartitionPoint, IsSortedBy}
+use Rattle.std.specs.List.Sorted.{IsStrictlySortedBy}
 use Rattle.std.proofs.lemmas.List.Sorted.{searchable_from_sorted}
 use Rattle.fx_base.specs.Lists.{In}
 
@@ -70,14 +74,14 @@ listed_more R (r ∷ rs) extras now row o are is more =
     shift None es = refl
     shift (Some e) es = refl
 
-module _ (under : RuleId) (place : ℕ) (R : Row → Option Extra → Type 0) (own : (row : Row) (o : Option Extra) → R row o → IfSome o (IsOf under place row)) where
+module _ (under : RuleId) (place : ℕ) (R : Row → Option Extra → Type 0) (own : (row : Row) (o : Option Extra) → R row o → IfSome o (IsExtraBesideRow under place row)) where
   -- the rows of the extras are among the rows
   pub rows_above : (least : Row) (rows : List Row) (extras : List Extra) → AreListed R rows extras → AllByRecursion (λ y. row_cmp least y ≡ Less) rows → AllByRecursion (λ y. row_cmp least y ≡ Less) (rows_of_extras extras)
   rows_above least [] extras are all = subst (λ (es : List Extra). AllByRecursion (λ y. row_cmp least y ≡ Less) (rows_of_extras es)) (sym are) tt
   rows_above least (r ∷ rs) extras are all =
       subst (λ (es : List Extra). AllByRecursion (λ y. row_cmp least y ≡ Less) (rows_of_extras es)) (sym are.3) (by are.0 (own r are.0 are.2) (rows_above least rs are.1 are.4 all.1))
     where
-      by : (o : Option Extra) → IfSome o (IsOf under place r) → AllByRecursion (λ y. row_cmp least y ≡ Less) (rows_of_extras are.1) → AllByRecursion (λ y. row_cmp least y ≡ Less) (rows_of_extras (cons_option o are.1))
+      by : (o : Option Extra) → IfSome o (IsExtraBesideRow under place r) → AllByRecursion (λ y. row_cmp least y ≡ Less) (rows_of_extras are.1) → AllByRecursion (λ y. row_cmp least y ≡ Less) (rows_of_extras (cons_option o are.1))
       by None w rest = rest
       by (Some e) w rest = (ap (row_cmp least) w.row ∙ all.0, rest)
 
@@ -87,12 +91,12 @@ module _ (under : RuleId) (place : ℕ) (R : Row → Option Extra → Type 0) (o
   listed_in_order (r ∷ rs) extras are sorted =
       subst (λ (es : List Extra). InOrder (rows_of_extras es)) (sym are.3) (by are.0 (own r are.0 are.2) (listed_in_order rs are.1 are.4 sorted.1) (rows_above r rs are.1 are.4 sorted.0))
     where
-      by : (o : Option Extra) → IfSome o (IsOf under place r) → InOrder (rows_of_extras are.1) → AllByRecursion (λ y. row_cmp r y ≡ Less) (rows_of_extras are.1) → InOrder (rows_of_extras (cons_option o are.1))
+      by : (o : Option Extra) → IfSome o (IsExtraBesideRow under place r) → InOrder (rows_of_extras are.1) → AllByRecursion (λ y. row_cmp r y ≡ Less) (rows_of_extras are.1) → InOrder (rows_of_extras (cons_option o are.1))
       by None w rest above = rest
       by (Some e) w rest above = (subst (λ (x : Row). AllByRecursion (λ y. row_cmp x y ≡ Less) (rows_of_extras are.1)) (sym w.row) above, rest)
 
   -- each is that of one of the rows
-  pub listed_own : (rows : List Row) (extras : List Extra) → AreListed R rows extras → (e : Extra) → In e extras → (row : Row) × (has rows row ≡ true) × IsOf under place row e
+  pub listed_own : (rows : List Row) (extras : List Extra) → AreListed R rows extras → (e : Extra) → In e extras → (row : Row) × (has rows row ≡ true) × IsExtraBesideRow under place row e
   listed_own [] extras are e h = absurd (subst (λ (es : List Extra). In e es) are h)
   listed_own (r ∷ rs) extras are e h = by are.0 (own r are.0 are.2) (listed_own rs are.1 are.4 e) (subst (λ (es : List Extra). In e es) are.3 h)
     where
@@ -100,13 +104,13 @@ module _ (under : RuleId) (place : ℕ) (R : Row → Option Extra → Type 0) (o
       or_true true b f = refl
       or_true false b f = f
 
-      behind : (row : Row) × (has rs row ≡ true) × IsOf under place row e → (row : Row) × (has (r ∷ rs) row ≡ true) × IsOf under place row e
+      behind : (row : Row) × (has rs row ≡ true) × IsExtraBesideRow under place row e → (row : Row) × (has (r ∷ rs) row ≡ true) × IsExtraBesideRow under place row e
       behind f = (f.0, or_true (eq_by_cmp row_cmp f.0 r) (has rs f.0) f.1, f.2)
 
-      by : (o : Option Extra) → IfSome o (IsOf under place r) → (In e are.1 → (row : Row) × (has rs row ≡ true) × IsOf under place row e) → In e (cons_option o are.1) → (row : Row) × (has (r ∷ rs) row ≡ true) × IsOf under place row e
+      by : (o : Option Extra) → IfSome o (IsExtraBesideRow under place r) → (In e are.1 → (row : Row) × (has rs row ≡ true) × IsExtraBesideRow under place row e) → In e (cons_option o are.1) → (row : Row) × (has (r ∷ rs) row ≡ true) × IsExtraBesideRow under place row e
       by None w rest h = behind (rest h)
       by (Some x) w rest h =
-          ⊎_elim (λ (same : e ≡ x). (r, ap (λ b. b || has rs r) (same_equiv.refl r), subst (IsOf under place r) (sym same) w)) (λ (h : In e are.1). behind (rest h)) h
+          ⊎_elim (λ (same : e ≡ x). (r, ap (λ b. b || has rs r) (same_equiv.refl r), subst (IsExtraBesideRow under place r) (sym same) w)) (λ (h : In e are.1). behind (rest h)) h
 
   -- no extra of rows that are all above this one
   none_above : (row : Row) (extras : List Extra) → AllByRecursion (λ y. row_cmp row y ≡ Less) (rows_of_extras extras) → extra_for extras row ≡ None
@@ -120,7 +124,7 @@ module _ (under : RuleId) (place : ℕ) (R : Row → Option Extra → Type 0) (o
   listed_for (r ∷ rs) extras are sorted row h =
       subst (λ (es : List Extra). R row (extra_for es row)) (sym are.3) (by (eq_by_cmp row_cmp row r) refl h are.0 are.2 (own r are.0 are.2) (listed_for rs are.1 are.4 sorted.1 row) (rows_above r rs are.1 are.4 sorted.0))
     where
-      by : (b : Bool) → eq_by_cmp row_cmp row r ≡ b → (b || has rs row) ≡ true → (o : Option Extra) → R r o → IfSome o (IsOf under place r) → (has rs row ≡ true → R row (extra_for are.1 row))
+      by : (b : Bool) → eq_by_cmp row_cmp row r ≡ b → (b || has rs row) ≡ true → (o : Option Extra) → R r o → IfSome o (IsExtraBesideRow under place r) → (has rs row ≡ true → R row (extra_for are.1 row))
           → AllByRecursion (λ y. row_cmp r y ≡ Less) (rows_of_extras are.1) → R row (extra_for (cons_option o are.1) row)
       by true e f None is w rest above =
           let same = (row_decides row r).0 e in

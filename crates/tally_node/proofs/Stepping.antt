@@ -1,5 +1,7 @@
 -- The four parts of a step together.
-use Rattle.tally_node.proofs.Common.{◌≡◌, ◌∙◌, sym, ap, refl, subst, cond, List, [], ◌∷◌, Bool, true, false, not, ◌&&◌, Option, Some, None, fun_ext, is_some, Named, Row, Delta, has, Pattern, Look, joins, Memories, left_at, has_left, has_right, Steps, Follows, Arrives, passing, TallyStep, are_none, changes_nothing}
+use Rattle.tally_node.proofs.Common.{◌≡◌, ◌∙◌, sym, ap, refl, subst, cond, List, [], ◌∷◌, Bool, true, false, not, ◌&&◌, Option, Some, None, fun_ext, is_some}
+use Rattle.tally_node.proofs.Common.{Named, Row, Delta, has, Pattern, Look, joins, Memories, left_at, has_left, has_right, StepsTally, FollowsCandidates}
+use Rattle.tally_node.proofs.Common.{Arrives, passing, TallyStep, are_none, changes_nothing}
 use Rattle.tally_node.proofs.Following.{follow_then}
 
 module _ {T : Type 0} (holds : T → Look → (Named → Bool) → Type 0) (world look : Look) where
@@ -13,7 +15,7 @@ module _ {T : Type 0} (holds : T → Look → (Named → Bool) → Type 0) (worl
   arrives_new true set (Some t) after e n q = let f : Some t ≡ None = n in cc
   arrives_new false set o after e n q = let f : false ≡ true = e in cc
 
-  none_stays : (R : T → T → Type 0) (o after : Option T) → o ≡ None → Steps R o after → after ≡ None
+  none_stays : (R : T → T → Type 0) (o after : Option T) → o ≡ None → StepsTally R o after → after ≡ None
   none_stays R None after e q = q
   none_stays R (Some t) after e q = let f : Some t ≡ None = e in cc
 
@@ -30,24 +32,24 @@ module _ {T : Type 0} (holds : T → Look → (Named → Bool) → Type 0) (worl
       (r1 : (c : Named) → has_right m1 look c ≡ has_right m0 look c) (r4 : (c : Named) → has_right m4 look c ≡ has_right m3 look c) (r : Row) (gone come : Bool)
       (left : left_at m1 look r ≡ cond gone None (left_at m0 look r)) where
     pub stays : Arrives come holds look (passing m3.pattern look (has_right m3 look) r) (left_at m3 look r) (left_at m4 look r) → (scope : Named → Bool) (t : T) → left_at m0 look r ≡ Some t → gone ≡ false
-        → Steps (Follows holds world scope (has_right m1 look) (has_right m2 look) (joins m1.pattern look r)) (left_at m1 look r) (left_at m2 look r)
-        → Steps (Follows holds world scope (has_right m2 look) (has_right m3 look) (joins m2.pattern look r)) (left_at m2 look r) (left_at m3 look r)
-        → (now : T) × (left_at m4 look r ≡ Some now) × Follows holds world scope (has_right m0 look) (has_right m4 look) (joins m0.pattern look r) t now
+        → StepsTally (FollowsCandidates holds world scope (has_right m1 look) (has_right m2 look) (joins m1.pattern look r)) (left_at m1 look r) (left_at m2 look r)
+        → StepsTally (FollowsCandidates holds world scope (has_right m2 look) (has_right m3 look) (joins m2.pattern look r)) (left_at m2 look r) (left_at m3 look r)
+        → (now : T) × (left_at m4 look r ≡ Some now) × FollowsCandidates holds world scope (has_right m0 look) (has_right m4 look) (joins m0.pattern look r) t now
     stays came scope t was not_gone first next =
-        let both : Steps (Follows holds world scope (has_right m1 look) (has_right m3 look) (joins m0.pattern look r)) (left_at m1 look r) (left_at m3 look r) =
+        let both : StepsTally (FollowsCandidates holds world scope (has_right m1 look) (has_right m3 look) (joins m0.pattern look r)) (left_at m1 look r) (left_at m3 look r) =
         follow_then holds world scope (has_right m1 look) (has_right m2 look) (has_right m3 look) (joins m0.pattern look r) (left_at m1 look r) (left_at m2 look r) (left_at m3 look r)
-        (subst (λ (p : Pattern). Steps (Follows holds world scope (has_right m1 look) (has_right m2 look) (joins p look r)) (left_at m1 look r) (left_at m2 look r)) e1 first)
-        (subst (λ (p : Pattern). Steps (Follows holds world scope (has_right m2 look) (has_right m3 look) (joins p look r)) (left_at m2 look r) (left_at m3 look r)) (e2 ∙ e1) next) in
-        let some : Steps (Follows holds world scope (has_right m1 look) (has_right m3 look) (joins m0.pattern look r)) (Some t) (left_at m3 look r) =
-        subst (λ (o : Option T). Steps (Follows holds world scope (has_right m1 look) (has_right m3 look) (joins m0.pattern look r)) o (left_at m3 look r)) (left ∙ ap (λ b. cond b None (left_at m0 look r)) not_gone ∙ was) both in (
+        (subst (λ (p : Pattern). StepsTally (FollowsCandidates holds world scope (has_right m1 look) (has_right m2 look) (joins p look r)) (left_at m1 look r) (left_at m2 look r)) e1 first)
+        (subst (λ (p : Pattern). StepsTally (FollowsCandidates holds world scope (has_right m2 look) (has_right m3 look) (joins p look r)) (left_at m2 look r) (left_at m3 look r)) (e2 ∙ e1) next) in
+        let some : StepsTally (FollowsCandidates holds world scope (has_right m1 look) (has_right m3 look) (joins m0.pattern look r)) (Some t) (left_at m3 look r) =
+        subst (λ (o : Option T). StepsTally (FollowsCandidates holds world scope (has_right m1 look) (has_right m3 look) (joins m0.pattern look r)) o (left_at m3 look r)) (left ∙ ap (λ b. cond b None (left_at m0 look r)) not_gone ∙ was) both in (
           some.0,
           arrives_kept come (passing m3.pattern look (has_right m3 look) r) (left_at m3 look r) (left_at m4 look r) some.0 some.1 came,
-          subst (λ (right : Named → Bool). Follows holds world scope right (has_right m4 look) (joins m0.pattern look r) t some.0) (fun_ext r1)
-              (subst (λ (right : Named → Bool). Follows holds world scope (has_right m1 look) right (joins m0.pattern look r) t some.0) (fun_ext (λ c. sym (r4 c))) some.2),
+          subst (λ (right : Named → Bool). FollowsCandidates holds world scope right (has_right m4 look) (joins m0.pattern look r) t some.0) (fun_ext r1)
+              (subst (λ (right : Named → Bool). FollowsCandidates holds world scope (has_right m1 look) right (joins m0.pattern look r) t some.0) (fun_ext (λ c. sym (r4 c))) some.2),
         )
 
     pub fresh : Arrives come holds world (passing m3.pattern look (has_right m3 look) r) (left_at m3 look r) (left_at m4 look r) → (R Q : T → T → Type 0) → (has_left m0 look r && not gone) ≡ false → come ≡ true
-        → Steps R (left_at m1 look r) (left_at m2 look r) → Steps Q (left_at m2 look r) (left_at m3 look r)
+        → StepsTally R (left_at m1 look r) (left_at m2 look r) → StepsTally Q (left_at m2 look r) (left_at m3 look r)
         → (t : T) × (left_at m4 look r ≡ Some t) × holds t world (passing m0.pattern look (has_right m4 look) r)
     fresh came R Q absent comes first next =
         let none1 : left_at m1 look r ≡ None = left ∙ none_cond gone (left_at m0 look r) absent in

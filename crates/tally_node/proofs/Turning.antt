@@ -1,14 +1,7 @@
 -- One tally that is exchanged for another.
-use Rattle.tally_node.proofs.Common.{◌≡◌, ◌∙◌, sym, ap, refl, subst, List, Bool, true, false, cond, not, ◌&&◌, ◌||◌, Option, Some, None, ℤ, is_some, eq_by_cmp, Named, Row, row_cmp, has, Look, without, along, Memories, left_at, has_left, row_decides, Turned, TurnedIf, Steps, output_some, output_from, offers, shown, is_from, changed_at}
-
--- ---- a set of rows changed at one row
-both_true : (a b : Bool) → (a && b) ≡ true → (a ≡ true) × (b ≡ true)
-both_true true b e = (refl, e)
-both_true false b e = let f : false ≡ true = e in cc
-
-pub and_true : (b : Bool) → (b && true) ≡ b
-and_true true = refl
-and_true false = refl
+use Rattle.tally_node.proofs.Common.{◌≡◌, ◌∙◌, sym, ap, refl, subst, List, Bool, true, false, cond, not, ◌&&◌, ◌||◌, Option, Some, None, ℤ, is_some, eq_by_cmp}
+use Rattle.tally_node.proofs.Common.{Named, Row, row_cmp, has, Look, without, along, Memories, left_at, has_left, row_decides, TurnedTally, TurnedIf}
+use Rattle.tally_node.proofs.Common.{StepsTally, output_some, output_from, offers, shown, changed_at, is_from, and_parts}
 
 and_not : (w : Bool) → (w && not w) ≡ false
 and_not true = refl
@@ -27,7 +20,7 @@ changed false w i false h = refl
 module _ (origin : Row → Option Row) (gives : ℤ → Row → Bool) (now : Row → Bool) (row : Row) (was is : Option ℤ) (is_was : (r : Row) → is_from (origin r) row ≡ true → now r ≡ offers gives was r) where
   module _ (gone come : List Row) (went : (r : Row) → has gone r ≡ (is_from (origin r) row && offers gives was r)) (came : (r : Row) → has come r ≡ (is_from (origin r) row && offers gives is r)) where
     pub rows_were : (r : Row) → has gone r ≡ true → now r ≡ true
-    rows_were r e = let k = both_true (is_from (origin r) row) (offers gives was r) (sym (went r) ∙ e) in is_was r k.0 ∙ k.1
+    rows_were r e = let k = and_parts (is_from (origin r) row) (offers gives was r) (sym (went r) ∙ e) in is_was r k.0 ∙ k.1
 
     pub rows_new : (r : Row) → has come r ≡ true → without now gone r ≡ false
     rows_new r e = ap (λ b. now r && not b) (went r) ∙ gone_first (is_from (origin r) row) (offers gives was r) (offers gives is r) (now r) (sym (came r) ∙ e) (is_was r)
@@ -43,17 +36,17 @@ cond_twice true x y z = refl
 cond_twice false x y z = refl
 
 module _ {T : Type 0} (holds : T → Look → (Named → Bool) → Type 0) (look : Look) (comes : Bool) (who : Named) where
-  pub steps_same : (before after : Option T) → after ≡ before → Steps (TurnedIf false holds look comes who) before after
+  pub steps_same : (before after : Option T) → after ≡ before → StepsTally (TurnedIf false holds look comes who) before after
   steps_same None after e = e
   steps_same (Some t) after e = (t, e, refl)
 
-  pub steps_one : (b : Bool) (before after : Option T) (tally now : T) → (b ≡ true → before ≡ Some tally) → after ≡ cond b (Some now) before → Turned holds look comes who tally now
-      → Steps (TurnedIf b holds look comes who) before after
-  steps_one true before after tally now was is turned = subst (λ o. Steps (TurnedIf true holds look comes who) o after) (sym (was refl)) (now, is, turned)
+  pub steps_one : (b : Bool) (before after : Option T) (tally now : T) → (b ≡ true → before ≡ Some tally) → after ≡ cond b (Some now) before → TurnedTally holds look comes who tally now
+      → StepsTally (TurnedIf b holds look comes who) before after
+  steps_one true before after tally now was is turned = subst (λ o. StepsTally (TurnedIf true holds look comes who) o after) (sym (was refl)) (now, is, turned)
   steps_one false before after tally now was is turned = steps_same before after is
 
-  pub steps_absent : (b : Bool) (o : Option T) → (b ≡ true → o ≡ None) → Steps (TurnedIf b holds look comes who) o o
-  steps_absent true o was = subst (λ (x : Option T). Steps (TurnedIf true holds look comes who) x x) (sym (was refl)) refl
+  pub steps_absent : (b : Bool) (o : Option T) → (b ≡ true → o ≡ None) → StepsTally (TurnedIf b holds look comes who) o o
+  steps_absent true o was = subst (λ (x : Option T). StepsTally (TurnedIf true holds look comes who) x x) (sym (was refl)) refl
   steps_absent false o was = steps_same o o refl
 
 -- a row that is not kept

@@ -52,9 +52,9 @@ rows_of_extras extras = map (λ (e : Extra). e.row) extras
 -- ---- tallies with extras
 
 -- The tally is that of a set, and counts what an extra counts more, where there is one. `laden` says so of each kind of tally.
-abbrev pub IsLaden : {T : Type 0} → (T → Look → (Named → Bool) → Type 0) → (T → Look → (Named → Bool) → Extra → Type 0) → T → Look → (Named → Bool) → Option Extra → Type 0
-IsLaden holds laden t world set None = holds t world set
-IsLaden holds laden t world set (Some e) = laden t world set e
+abbrev pub IsTallyLaden : {T : Type 0} → (T → Look → (Named → Bool) → Type 0) → (T → Look → (Named → Bool) → Extra → Type 0) → T → Look → (Named → Bool) → Option Extra → Type 0
+IsTallyLaden holds laden t world set None = holds t world set
+IsTallyLaden holds laden t world set (Some e) = laden t world set e
 
 -- a number is that of a set, and counts so many more
 abbrev pub counts_more : ℕ → (Named → Bool) → Extra → Type 0
@@ -91,7 +91,7 @@ arguments_gathered a world names = in_rising_order (map (argument_of a world) na
 abbrev pub AllLaden : {T : Type 0} → (T → Look → (Named → Bool) → Type 0) → (T → Look → (Named → Bool) → Extra → Type 0) → Look → List Extra → (Row → Bool) → Memories T → Memories T → Type 0
 AllLaden {T} holds laden look extras come before after = InOrder (rows_of_extras extras) → (world : Look) → SeeAlike (has_right after look) look world
     → (r : Row) → come r ≡ true → has_left before look r ≡ false
-    → (t : T) × (left_at after look r ≡ Some t) × IsLaden holds laden t world (passing before.pattern look (has_right after look) r) (extra_for extras r)
+    → (t : T) × (left_at after look r ≡ Some t) × IsTallyLaden holds laden t world (passing before.pattern look (has_right after look) r) (extra_for extras r)
 
 -- The tally of each kept left row is that of the kept candidates that pass there and of others.
 pub record CountsOthers {T : Type 0} (holds : T → Look → (Named → Bool) → Type 0) (m : Memories T) (look world : Look) (others : Row → Named → Bool) : Type 0 where
@@ -101,7 +101,7 @@ pub record CountsOthers {T : Type 0} (holds : T → Look → (Named → Bool) �
   pub tallies : (row : Row) (t : T) → left_at m look row ≡ Some t → holds t world (either (passing m.pattern look (has_right m look) row) (others row))
 
 -- the extra is one of a kept row, under this rule and condition, and counts something
-pub record IsAmong {T : Type 0} (m : Memories T) (look : Look) (under : RuleId) (place : ℕ) (e : Extra) : Type 0 where
+pub record IsExtraOfRow {T : Type 0} (m : Memories T) (look : Look) (under : RuleId) (place : ℕ) (e : Extra) : Type 0 where
   pub rule : e.rule ≡ under
   pub condition : e.condition ≡ place
   pub kept : has_left m look e.row ≡ true
@@ -110,6 +110,6 @@ pub record IsAmong {T : Type 0} (m : Memories T) (look : Look) (under : RuleId) 
 -- These are, in the order of their rows, extras of kept left rows, and all of them: what is counted and gathered of others beside each row.
 pub record AreExtrasOf {T : Type 0} (holds : T → Look → (Named → Bool) → Type 0) (gathered : Look → List Named → List ℤ) (m : Memories T) (look : Look) (under : RuleId) (place : ℕ) (extras : List Extra) : Type 0 where
   pub in_order : InOrder (rows_of_extras extras)
-  pub among : Agrees m look → (e : Extra) → In e extras → IsAmong m look under place e
+  pub among : Agrees m look → (e : Extra) → In e extras → IsExtraOfRow m look under place e
   pub exact : (world : Look) (others : Row → Named → Bool) → CountsOthers holds m look world others
       → (row : Row) → has_left m look row ≡ true → IsExtraFor gathered world (others row) (extra_for extras row)

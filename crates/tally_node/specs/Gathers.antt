@@ -1,10 +1,9 @@
 -- What accumulates gather of candidates.
-use Rattle.std.specs.Prelude.{◌≡◌, ℕ, ℤ, pos, Bool, false, List, map, length, Option, Some, None, if◌then◌else◌}
+use Rattle.std.specs.Prelude.{◌≡◌, ℕ, ℤ, pos, Bool, false, List, map, Option, Some, None, if◌then◌else◌}
 use Rattle.std.specs.Ordering.{int_eq}
-use Rattle.std.specs.Map.{count_at}
 use Rattle.fx_base.specs.declared.fact.Fact.{Fact}
 use Rattle.fold_fn.specs.Held.{Held}
-use Rattle.fold_fn.specs.Order.{times, in_rising_order}
+use Rattle.fold_fn.specs.Order.{in_rising_order}
 use Rattle.fold_fn.specs.Results.{fold_result}
 use Rattle.row_delta.specs.declared.row.Named.{Named}
 use Rattle.row_delta.specs.declared.row.Row.{Row}
@@ -16,13 +15,6 @@ use Rattle.rule_model.specs.Tuples.{Bindings}
 use Rattle.join_tests.specs.Joins.{Look}
 use Rattle.pair_memory.specs.Joined.{has_name}
 use Rattle.tally_node.specs.Counts.{AreDistinct}
-
--- ---- a fold that knows how often it holds each value
-
--- these are how often each value stands in a list, and how many values it has
-pub record Knows (values : List ℤ) (times_of : ℤ → Option ℕ) (count : ℕ) : Type 0 where
-  pub counted : count ≡ length values
-  pub timed : (v : ℤ) → count_at times_of v ≡ times v values
 
 -- ---- candidates
 

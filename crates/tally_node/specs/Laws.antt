@@ -9,7 +9,7 @@ use Rattle.row_delta.specs.declared.row.Named.{Named}
 use Rattle.row_delta.specs.declared.row.Row.{Row}
 use Rattle.row_delta.specs.declared.delta.Delta.{Delta}
 use Rattle.row_delta.specs.Rows.{has, InOrder}
-use Rattle.row_change.specs.Changes.{Leads}
+use Rattle.row_change.specs.Changes.{LeadsRows}
 use Rattle.rule_model.specs.declared.condition.Accumulate.{Accumulate}
 use Rattle.rule_model.specs.Lent.{Holds, bound_in}
 use Rattle.rule_model.specs.Rows.{result_of}
@@ -17,12 +17,12 @@ use Rattle.rule_model.specs.Tuples.{name_of}
 use Rattle.join_tests.specs.Joins.{Look}
 use Rattle.pair_memory.specs.declared.memories.Memories.{Memories}
 use Rattle.pair_memory.specs.Joined.{has_name}
-use Rattle.pair_memory.specs.Memories.{left_at, has_left, has_right, Keeps}
+use Rattle.pair_memory.specs.Memories.{left_at, has_left, has_right, KeepsMemories}
 use Rattle.pair_memory.specs.Standing.{clean, cleaned, either, remembered, no_rows, no_names, PassesAlike, StandsFor, LooksAlike}
 use Rattle.pair_memory.specs.Inputs.{IsNameDifference, IsStepped}
 use Rattle.pair_memory.specs.Valued.{without_value, shows_value, valued}
 use Rattle.tally_node.specs.Counts.{AreDistinct}
-use Rattle.tally_node.specs.Extras.{AreApart, IsExtraFor, IsLaden, extra_for, rows_of_extras, AllLaden, CountsOthers}
+use Rattle.tally_node.specs.Extras.{AreApart, IsExtraFor, IsTallyLaden, extra_for, rows_of_extras, AllLaden, CountsOthers}
 use Rattle.tally_node.specs.Gathers.{gathers, tested, result_for, is_result}
 use Rattle.tally_node.specs.Origins.{itself, shows_any}
 use Rattle.tally_node.specs.Tallies.{TallyStep, shown, SeeAlike}
@@ -44,8 +44,8 @@ pub record ForgottenStay (pass : Row → Named → Bool) (rows rows_now : Row �
   pub comes : (row : Row) (who : Named) → has left.come row ≡ true → forgotten who ≡ true → all_passing pass names_now row who ≡ false
 
 -- a node that keeps nothing counts nothing
-abbrev pub StartLaw : (T : Type 0) → (T → Look → (Named → Bool) → Type 0) → Type 0
-StartLaw T holds = (m : Memories T) (look world : Look) (pass : Row → Named → Bool) (forgotten : Named → Bool)
+abbrev pub EmptyTallyLaw : (T : Type 0) → (T → Look → (Named → Bool) → Type 0) → Type 0
+EmptyTallyLaw T holds = (m : Memories T) (look world : Look) (pass : Row → Named → Bool) (forgotten : Named → Bool)
     → StandsFor m look no_rows no_names forgotten → StandsCounted holds m look world pass no_rows no_names forgotten
 
 -- For the true differences of its two inputs, of what names no forgotten fact, a node that stands for left rows and candidates stands
@@ -53,24 +53,24 @@ StartLaw T holds = (m : Memories T) (look world : Look) (pass : Row → Named �
 abbrev pub TallyLaw : (T : Type 0) → (T → Look → (Named → Bool) → Type 0) → Type 0
 TallyLaw T holds = (m n : Memories T) (look world : Look) (pass : Row → Named → Bool) (rows rows_now : Row → Bool) (names names_now forgotten : Named → Bool) (left right : Delta)
     → StandsCounted holds m look world pass rows names forgotten → PassesAlike m.pattern look pass rows names forgotten → PassesAlike m.pattern look pass rows_now names_now forgotten
-    → Leads (cleaned rows forgotten) (cleaned rows_now forgotten) left.gone left.come → IsNameDifference (remembered names forgotten) (remembered names_now forgotten) right
+    → LeadsRows (cleaned rows forgotten) (cleaned rows_now forgotten) left.gone left.come → IsNameDifference (remembered names forgotten) (remembered names_now forgotten) right
     → SeeAlike (either (remembered names forgotten) (remembered names_now forgotten)) look world → ForgottenStay pass rows rows_now names names_now forgotten left
     → IsStepped m n look left right → TallyStep holds look m n left right
     → StandsCounted holds n look world pass rows_now names_now forgotten
 
 -- After its old candidates and the left rows that name an old fact are dropped, a node stands for the same rows and candidates with the
 -- old facts forgotten too, and its tallies are still those of all candidates.
-abbrev pub ForgetLaw : (T : Type 0) → (T → Look → (Named → Bool) → Type 0) → Type 0
-ForgetLaw T holds = (m n : Memories T) (look world : Look) (pass : Row → Named → Bool) (rows : Row → Bool) (names forgotten old : Named → Bool) (dropped : List Row)
+abbrev pub TallyForgetLaw : (T : Type 0) → (T → Look → (Named → Bool) → Type 0) → Type 0
+TallyForgetLaw T holds = (m n : Memories T) (look world : Look) (pass : Row → Named → Bool) (rows : Row → Bool) (names forgotten old : Named → Bool) (dropped : List Row)
     → StandsCounted holds m look world pass rows names forgotten
     → ((row : Row) → cleaned rows forgotten row ≡ true → has dropped row ≡ not (clean old row))
-    → Keeps m n look (λ row. has_left m look row && not (has dropped row)) (λ who. has_right m look who && not (old who))
+    → KeepsMemories m n look (λ row. has_left m look row && not (has dropped row)) (λ who. has_right m look who && not (old who))
     → ((row : Row) → left_at n look row ≡ cond (has dropped row) None (left_at m look row))
     → StandsCounted holds n look world pass rows names (either forgotten old)
 
 -- Of the rows that a node has, those go with the left rows that are dropped that name an old fact.
-abbrev pub DropLaw : (T : Type 0) → (Row → Option Row) → (ℤ → Row → Bool) → (Look → Row → T → Option ℤ) → Type 0
-DropLaw T origin gives output = (m n : Memories T) (look : Look) (rows : Row → Bool) (names forgotten old : Named → Bool) (dropped gone : List Row)
+abbrev pub TallyDropLaw : (T : Type 0) → (Row → Option Row) → (ℤ → Row → Bool) → (Look → Row → T → Option ℤ) → Type 0
+TallyDropLaw T origin gives output = (m n : Memories T) (look : Look) (rows : Row → Bool) (names forgotten old : Named → Bool) (dropped gone : List Row)
     → StandsFor m look rows names forgotten
     → ((row : Row) → cleaned rows forgotten row ≡ true → has dropped row ≡ not (clean old row))
     → ((row : Row) → left_at n look row ≡ cond (has dropped row) None (left_at m look row))
@@ -78,8 +78,8 @@ DropLaw T origin gives output = (m n : Memories T) (look : Look) (rows : Row →
     → (row : Row) → shown origin gives output m look row ≡ true → has gone row ≡ not (clean old row)
 
 -- In a store with the same facts at the tags that are kept, a node stands for the same.
-abbrev pub MoveLaw : (T : Type 0) → (T → Look → (Named → Bool) → Type 0) → Type 0
-MoveLaw T holds = (m : Memories T) (look other world : Look) (pass : Row → Named → Bool) (rows : Row → Bool) (names forgotten : Named → Bool)
+abbrev pub TallyMoveLaw : (T : Type 0) → (T → Look → (Named → Bool) → Type 0) → Type 0
+TallyMoveLaw T holds = (m : Memories T) (look other world : Look) (pass : Row → Named → Bool) (rows : Row → Bool) (names forgotten : Named → Bool)
     → StandsCounted holds m look world pass rows names forgotten → LooksAlike m look other
     → StandsCounted holds m other world pass rows names forgotten
 
@@ -109,19 +109,19 @@ lost_passing pass names forgotten row who = all_passing pass names row who && fo
 -- that pass and of what the row's extra counts more.
 pub record StandsLaden {T : Type 0} (holds : T → Look → (Named → Bool) → Type 0) (laden : T → Look → (Named → Bool) → Extra → Type 0) (m : Memories T) (look world : Look) (pass : Row → Named → Bool) (rows : Row → Bool) (names : Named → Bool) (extra : Row → Option Extra) : Type 0 where
   pub stands : StandsFor m look rows names no_names
-  pub counts : (row : Row) (t : T) → left_at m look row ≡ Some t → IsLaden holds laden t world (all_passing pass names row) (extra row)
+  pub counts : (row : Row) (t : T) → left_at m look row ≡ Some t → IsTallyLaden holds laden t world (all_passing pass names row) (extra row)
 
 -- Where an extra tells of candidates that are not counted, the tally that counts it more is that of all of them.
 abbrev pub LadenLaw : (T : Type 0) → (T → Look → (Named → Bool) → Type 0) → (T → Look → (Named → Bool) → Extra → Type 0) → (Look → List Named → List ℤ) → Type 0
 LadenLaw T holds laden gathered = (t : T) (world : Look) (set others : Named → Bool) (extra : Option Extra)
-    → IsLaden holds laden t world set extra → AreApart set others → IsExtraFor gathered world others extra → holds t world (either set others)
+    → IsTallyLaden holds laden t world set extra → AreApart set others → IsExtraFor gathered world others extra → holds t world (either set others)
 
 -- A node that kept nothing stands after a load for the rows and candidates, with the extras.
 abbrev pub LoadLaw : (T : Type 0) → (T → Look → (Named → Bool) → Type 0) → (T → Look → (Named → Bool) → Extra → Type 0) → Type 0
 LoadLaw T holds laden = (m n : Memories T) (look world : Look) (pass : Row → Named → Bool) (rows : Row → Bool) (names : Named → Bool) (left : List Row) (right : List Named) (extras : List Extra)
     → StandsFor m look no_rows no_names no_names → PassesAlike m.pattern look pass rows names no_names → SeeAlike names look world
     → ((row : Row) → has left row ≡ rows row) → ((who : Named) → has_name right who ≡ names who) → InOrder (rows_of_extras extras)
-    → Keeps m n look (λ row. has_left m look row || has left row) (λ who. has_right m look who || has_name right who)
+    → KeepsMemories m n look (λ row. has_left m look row || has left row) (λ who. has_right m look who || has_name right who)
     → AllLaden holds laden look extras (has left) m n
     → StandsLaden holds laden n look world pass rows names (extra_for extras)
 

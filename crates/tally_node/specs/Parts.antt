@@ -4,31 +4,31 @@ use Rattle.row_delta.specs.declared.extra.Extra.{Extra}
 use Rattle.row_delta.specs.declared.row.Named.{Named}
 use Rattle.row_delta.specs.declared.row.Row.{Row}
 use Rattle.row_change.specs.declared.change.Change.{Change}
-use Rattle.row_change.specs.Changes.{Leads}
+use Rattle.row_change.specs.Changes.{LeadsRows}
 use Rattle.join_tests.specs.Joins.{Look, joins}
 use Rattle.pair_memory.specs.declared.memories.Memories.{Memories}
-use Rattle.pair_memory.specs.Memories.{left_at, has_right, Keeps}
-use Rattle.tally_node.specs.Extras.{IsLaden}
-use Rattle.tally_node.specs.Tallies.{TurnedIf, Steps, SeeAlike, Follows, Arrives, passing}
+use Rattle.pair_memory.specs.Memories.{left_at, has_right, KeepsMemories}
+use Rattle.tally_node.specs.Extras.{IsTallyLaden}
+use Rattle.tally_node.specs.Tallies.{TurnedIf, StepsTally, SeeAlike, FollowsCandidates, Arrives, passing}
 
 -- The memories then keep these rows and candidates, their tallies have become what the relation says, and what has changed so far leads
 -- on to the rows that the node has then.
 pub record PartStep {T : Type 0} (rows : Memories T → Look → Row → Bool) (becomes : Memories T → Memories T → Type 0) (before after : Memories T) (look : Look) (left : Row → Bool) (right : Named → Bool) (change changed : Change) : Type 0 where
-  pub keeps : Keeps before after look left right
+  pub keeps : KeepsMemories before after look left right
   pub tallies : becomes before after
-  pub leads : (old : Row → Bool) → Leads old (rows before look) change.gone.keys change.come.keys → Leads old (rows after look) changed.gone.keys changed.come.keys
+  pub leads : (old : Row → Bool) → LeadsRows old (rows before look) change.gone.keys change.come.keys → LeadsRows old (rows after look) changed.gone.keys changed.come.keys
 
 -- ---- what tallies become
 
 -- those of these rows take a turn, in which one candidate comes or goes, and the others stay
 abbrev pub AllTurned : {T : Type 0} → (T → Look → (Named → Bool) → Type 0) → Look → Bool → Named → (Row → Bool) → Memories T → Memories T → Type 0
 AllTurned holds look comes who turning before after = (world : Look) → world who.tag ≡ look who.tag → (r : Row)
-    → Steps (TurnedIf (turning r) holds world comes who) (left_at before look r) (left_at after look r)
+    → StepsTally (TurnedIf (turning r) holds world comes who) (left_at before look r) (left_at after look r)
 
 -- they follow the kept candidates, of which some of these come or go
 abbrev pub AllFollow : {T : Type 0} → (T → Look → (Named → Bool) → Type 0) → Look → (Named → Bool) → Memories T → Memories T → Type 0
 AllFollow holds look moving before after = (world : Look) (scope : Named → Bool) → SeeAlike scope look world → ((c : Named) → moving c ≡ true → scope c ≡ true) → (r : Row)
-    → Steps (Follows holds world scope (has_right before look) (has_right after look) (joins before.pattern look r)) (left_at before look r) (left_at after look r)
+    → StepsTally (FollowsCandidates holds world scope (has_right before look) (has_right after look) (joins before.pattern look r)) (left_at before look r) (left_at after look r)
 
 -- those of these rows are dropped, and the others stay
 abbrev pub AllDropped : {T : Type 0} → Look → (Row → Bool) → Memories T → Memories T → Type 0
@@ -46,7 +46,7 @@ AllArriveAt holds look come before after = (world : Look) → SeeAlike (has_righ
 
 -- those of these rows begin with the kept candidates that pass and with their extras, where the row was not kept, and the others stay
 abbrev pub AllLoaded : {T : Type 0} → (T → Look → (Named → Bool) → Type 0) → (T → Look → (Named → Bool) → Extra → Type 0) → Look → (Row → Option Extra) → (Row → Bool) → Memories T → Memories T → Type 0
-AllLoaded holds laden look extra come = AllArriveAt (λ r t world set. IsLaden holds laden t world set (extra r)) look come
+AllLoaded holds laden look extra come = AllArriveAt (λ r t world set. IsTallyLaden holds laden t world set (extra r)) look come
 
 -- all stay
 abbrev pub AllStay : {T : Type 0} → Look → Memories T → Memories T → Type 0

@@ -25,19 +25,19 @@ less_one set who c = set c && not (eq_by_cmp name_cmp who c)
 
 -- Where a candidate comes, a tally becomes that of a set with it, whatever the set was; where it goes, that of the set without it.
 -- `holds` says when a tally is that of a set of candidates, in a world that knows every version.
-abbrev pub Turned : {T : Type 0} → (T → Look → (Named → Bool) → Type 0) → Look → Bool → Named → T → T → Type 0
-Turned holds world true who t now = (set : Named → Bool) → holds t world set → set who ≡ false → holds now world (with_one set who)
-Turned holds world false who t now = (set : Named → Bool) → holds t world set → set who ≡ true → holds now world (less_one set who)
+abbrev pub TurnedTally : {T : Type 0} → (T → Look → (Named → Bool) → Type 0) → Look → Bool → Named → T → T → Type 0
+TurnedTally holds world true who t now = (set : Named → Bool) → holds t world set → set who ≡ false → holds now world (with_one set who)
+TurnedTally holds world false who t now = (set : Named → Bool) → holds t world set → set who ≡ true → holds now world (less_one set who)
 
 -- the same where it takes a turn; else it stays as it is
 abbrev pub TurnedIf : {T : Type 0} → Bool → (T → Look → (Named → Bool) → Type 0) → Look → Bool → Named → T → T → Type 0
-TurnedIf true holds world comes who t now = Turned holds world comes who t now
+TurnedIf true holds world comes who t now = TurnedTally holds world comes who t now
 TurnedIf false holds world comes who t now = now ≡ t
 
 -- what is kept for a row, where it is kept, becomes what the relation allows
-abbrev pub Steps : {T : Type 0} → (T → T → Type 0) → Option T → Option T → Type 0
-Steps R None new = new ≡ None
-Steps {T} R (Some t) new = (now : T) × (new ≡ Some now) × R t now
+abbrev pub StepsTally : {T : Type 0} → (T → T → Type 0) → Option T → Option T → Type 0
+StepsTally R None new = new ≡ None
+StepsTally {T} R (Some t) new = (now : T) × (new ≡ Some now) × R t now
 
 -- ---- the rows of a node
 
@@ -75,8 +75,8 @@ abbrev pub counted : (Named → Bool) → (Named → Bool) → (Named → Bool) 
 counted right passes extra c = (right c && passes c) || extra c
 
 -- A tally follows the kept candidates: whatever it counts beyond them, outside the scope, stays as it is.
-abbrev pub Follows : {T : Type 0} → (T → Look → (Named → Bool) → Type 0) → Look → (Named → Bool) → (Named → Bool) → (Named → Bool) → (Named → Bool) → T → T → Type 0
-Follows holds world scope right right_now passes t now = (extra : Named → Bool) → ((c : Named) → scope c ≡ true → extra c ≡ false)
+abbrev pub FollowsCandidates : {T : Type 0} → (T → Look → (Named → Bool) → Type 0) → Look → (Named → Bool) → (Named → Bool) → (Named → Bool) → (Named → Bool) → T → T → Type 0
+FollowsCandidates holds world scope right right_now passes t now = (extra : Named → Bool) → ((c : Named) → scope c ≡ true → extra c ≡ false)
     → holds t world (counted right passes extra) → holds now world (counted right_now passes extra)
 
 -- the tally of a row that comes is that of the candidates that pass, where the row was not kept
@@ -94,6 +94,6 @@ passing p look right row c = right c && joins p look row c
 pub record TallyStep {T : Type 0} (holds : T → Look → (Named → Bool) → Type 0) (look : Look) (before after : Memories T) (left right : Delta) : Type 0 where
   pub stays : (world : Look) (scope : Named → Bool) → SeeAlike scope look world → ((c : Named) → has right.gone (row_naming c) ≡ true → scope c ≡ true) → ((c : Named) → has right.come (row_naming c) ≡ true → scope c ≡ true)
       → (r : Row) (t : T) → left_at before look r ≡ Some t → has left.gone r ≡ false
-      → (now : T) × (left_at after look r ≡ Some now) × Follows holds world scope (has_right before look) (has_right after look) (joins before.pattern look r) t now
+      → (now : T) × (left_at after look r ≡ Some now) × FollowsCandidates holds world scope (has_right before look) (has_right after look) (joins before.pattern look r) t now
   pub fresh : (world : Look) → SeeAlike (has_right after look) look world → (r : Row) → (has_left before look r && not (has left.gone r)) ≡ false → has left.come r ≡ true
       → (t : T) × (left_at after look r ≡ Some t) × holds t world (passing before.pattern look (has_right after look) r)

@@ -1,9 +1,6 @@
-ghost use Rattle.std.specs.Prelude.{◌≡◌, ◌+◌, ◌++◌, ◌^◌, ◌<◌, ℤ, List, IfOk, OnOk};
+ghost use Rattle.std.specs.Prelude.{◌≡◌, ◌++◌, ℤ, List, IfOk};
 ghost use Rattle.rule_model.specs.Rows.{argument};
-ghost use Rattle.std.specs.HashMap.{get};
-ghost use Rattle.std.specs.Map.{count_at};
 ghost use Rattle.std.specs.Ordering.{int_eq};
-ghost use Rattle.fold_fn.specs.Held.{HasOneMore};
 ghost use Rattle.fold_fn.specs.Order.{insert_rising, in_rising_order};
 ghost use Rattle.tally_node.specs.Gathers.{argument_of};
 
@@ -14,32 +11,24 @@ use fx_base::{Copies, Fact, Facts, NoMemory, Seq, Value};
 use row_delta::{Extra, Named, Row};
 use rule_model::Accumulate;
 use std::alloc::Global;
-use std::collections::HashMap;
 use std::marker::Model;
 
 /// The most values that a fold may hold.
 const FULL: u64 = 9_223_372_036_854_775_807;
 
 /// The tally of an `accumulate`: what its function holds of the candidates that pass, seen as its kind and its values in rising
-/// order. It also knows how often it holds each value, and takes back only what it holds.
+/// order. It takes back only what it holds.
 #[derive(Drop)]
 pub struct Gathered {
     fold: AnyFold,
-    times: HashMap<i64, u64>,
-    count: u64,
 }
 
 impl Model for Gathered {
     ghost use Rattle.fold_fn.specs.Held.{Held};
-    ghost use Rattle.std.specs.HashMap.{get};
-    ghost use Rattle.std.specs.Ordering.{int_eq};
-    ghost use Rattle.tally_node.specs.Gathers.{Knows};
 
     ghost Value = { Held };
 
     ghost view = { λ g. g.fold };
-
-    ghost invariant = { λ g. Knows g.fold.values (get int_eq g.times) g.count };
 }
 
 impl Gathered {
@@ -48,21 +37,12 @@ impl Gathered {
         ensures kind { IfOk result (λ now. now.kind ≡ self.kind) }
         ensures values { IfOk result (λ now. now.values ≡ insert_rising value self.values) }
     {
-        let Gathered {
-            mut fold,
-            mut times,
-            count,
-        } = self;
-        if count >= FULL {
+        let Gathered { mut fold } = self;
+        if fold.count() >= FULL {
             return Err(NoMemory);
         }
-        raise(&mut times, value)?;
         fold.add(value)?;
-        Ok(Gathered {
-            fold,
-            times,
-            count: count + 1,
-        })
+        Ok(Gathered { fold })
     }
 
     /// These values more; a fold that is full is refused memory.
@@ -82,21 +62,12 @@ impl Gathered {
         ensures kind { result.kind ≡ self.kind }
         ensures values { (rest : List ℤ) → self.values ≡ insert_rising value rest → result.values ≡ rest }
     {
-        if times_of(&self.times, value) == 0 {
+        if !self.fold.holds(value) {
             return self;
         }
-        let Gathered {
-            mut fold,
-            mut times,
-            count,
-        } = self;
-        lower(&mut times, value);
+        let Gathered { mut fold } = self;
         fold.take_back(value);
-        Gathered {
-            fold,
-            times,
-            count: count - 1,
-        }
+        Gathered { fold }
     }
 }
 
@@ -120,38 +91,6 @@ fn values_beyond(alloc: Global, values: &[i64], part: &[i64]) -> Result<Vec<i64>
         }
     }
     Ok(rest)
-}
-
-/// How often a value is counted.
-fn times_of(times: &HashMap<i64, u64>, value: i64) -> u64
-    ensures { result ≡ count_at (get int_eq times.now) value }
-{
-    match times.get(&value) {
-        Some(count) => *count,
-        None => 0,
-    }
-}
-
-/// Counts a value once more.
-fn raise(times: &mut HashMap<i64, u64>, value: i64) -> Result<(), NoMemory>
-    requires { count_at (get int_eq times.old) value < 2 ^ 63 }
-    ensures { OnOk result (HasOneMore (get int_eq times.old) (get int_eq times.new) value) }
-{
-    *times.entry(value)?.or_insert(0) += 1;
-    Ok(())
-}
-
-/// Counts a value that is counted once less.
-fn lower(times: &mut HashMap<i64, u64>, value: i64)
-    requires { 0 < count_at (get int_eq times.old) value }
-    ensures { HasOneMore (get int_eq times.new) (get int_eq times.old) value }
-{
-    match times.get_mut(&value) {
-        Some(n) if *n > 1 => *n -= 1,
-        _ => {
-            let _ = times.remove(&value);
-        }
-    }
 }
 
 /// What an accumulate takes of a candidate: the whole number in the field of this place, and else 0.
@@ -198,8 +137,6 @@ impl Tally for Gathered {
     fn none(alloc: Global, plan: &Accumulate) -> Gathered {
         Gathered {
             fold: AnyFold::new(alloc, plan.kind),
-            times: HashMap::new(alloc),
-            count: 0,
         }
     }
 

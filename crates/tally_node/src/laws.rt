@@ -9,13 +9,13 @@ ghost use Rattle.tally_node.specs.Counts.{counts_blockers, counts_witnesses, whe
 ghost use Rattle.tally_node.specs.Gathers.{gathers, result_for};
 ghost use Rattle.tally_node.specs.Extras.{blockers_laden, witnesses_laden, nothing_gathered, gathered_laden, arguments_gathered};
 ghost use Rattle.tally_node.specs.Origins.{itself, shows_any};
-ghost use Rattle.tally_node.specs.Laws.{StartLaw, TallyLaw, ForgetLaw, DropLaw, MoveLaw, ShownLaw, GatheredLaw, LadenLaw, LoadLaw, ResumeLaw, OthersLaw};
+ghost use Rattle.tally_node.specs.Laws.{EmptyTallyLaw, TallyLaw, TallyForgetLaw, TallyDropLaw, TallyMoveLaw, ShownLaw, GatheredLaw, LadenLaw, LoadLaw, ResumeLaw, OthersLaw};
 
 /// A node that keeps nothing counts nothing.
 pub fn a_new_node_counts_nothing()
-    ensures blockers { StartLaw Blockers counts_blockers }
-    ensures witnesses { StartLaw Witnesses counts_witnesses }
-    ensures gathered { (a : Accumulate) → StartLaw Held (gathers a) }
+    ensures blockers { EmptyTallyLaw Blockers counts_blockers }
+    ensures witnesses { EmptyTallyLaw Witnesses counts_witnesses }
+    ensures gathered { (a : Accumulate) → EmptyTallyLaw Held (gathers a) }
 {}
 
 /// A step leads to tallies of all candidates that pass, forgotten ones too, for all sets for which the node stands.
@@ -27,23 +27,23 @@ pub fn a_step_counts_all_candidates()
 
 /// Forgetting changes no tally of a row that stays.
 pub fn forgetting_keeps_the_tallies()
-    ensures blockers { ForgetLaw Blockers counts_blockers }
-    ensures witnesses { ForgetLaw Witnesses counts_witnesses }
-    ensures gathered { (a : Accumulate) → ForgetLaw Held (gathers a) }
+    ensures blockers { TallyForgetLaw Blockers counts_blockers }
+    ensures witnesses { TallyForgetLaw Witnesses counts_witnesses }
+    ensures gathered { (a : Accumulate) → TallyForgetLaw Held (gathers a) }
 {}
 
 /// The rows that go with what is dropped are those that name an old fact.
 pub fn what_is_dropped_names_an_old_fact()
-    ensures blockers { DropLaw Blockers itself shows_any where_unblocked }
-    ensures witnesses { DropLaw Witnesses itself shows_any where_witnessed }
-    ensures gathered { (a : Accumulate) → DropLaw Held without_value shows_value (result_for a) }
+    ensures blockers { TallyDropLaw Blockers itself shows_any where_unblocked }
+    ensures witnesses { TallyDropLaw Witnesses itself shows_any where_witnessed }
+    ensures gathered { (a : Accumulate) → TallyDropLaw Held without_value shows_value (result_for a) }
 {}
 
 /// What a node stands for depends on the facts at the tags that it keeps alone.
 pub fn tallies_look_at_kept_tags_alone()
-    ensures blockers { MoveLaw Blockers counts_blockers }
-    ensures witnesses { MoveLaw Witnesses counts_witnesses }
-    ensures gathered { (a : Accumulate) → MoveLaw Held (gathers a) }
+    ensures blockers { TallyMoveLaw Blockers counts_blockers }
+    ensures witnesses { TallyMoveLaw Witnesses counts_witnesses }
+    ensures gathered { (a : Accumulate) → TallyMoveLaw Held (gathers a) }
 {}
 
 /// A left row is shown where none, or some, of all candidates passes.

@@ -5,13 +5,13 @@ ghost use Rattle.row_delta.specs.declared.row.Row.{Row};
 ghost use Rattle.row_delta.specs.declared.row.Named.{Named};
 ghost use Rattle.row_delta.specs.Rows.{has, row_cmp, InOrder};
 ghost use Rattle.row_delta.specs.NameOrder.{name_cmp};
-ghost use Rattle.row_change.specs.Changes.{Leads, IsDifference};
+ghost use Rattle.row_change.specs.Changes.{LeadsRows, IsDifference};
 ghost use Rattle.join_tests.specs.Joins.{Look};
 ghost use Rattle.pair_memory.specs.Joined.{has_name};
-ghost use Rattle.pair_memory.specs.Memories.{left_at, has_left, has_right, Keeps};
+ghost use Rattle.pair_memory.specs.Memories.{left_at, has_left, has_right, KeepsMemories};
 ghost use Rattle.pair_memory.specs.Standing.{no_rows, no_names, StandsFor};
 ghost use Rattle.pair_memory.specs.Inputs.{IsStepped};
-ghost use Rattle.tally_node.specs.Tallies.{Turned, offers, shown, changed_at, SeeAlike, TallyStep};
+ghost use Rattle.tally_node.specs.Tallies.{TurnedTally, offers, shown, changed_at, SeeAlike, TallyStep};
 ghost use Rattle.tally_node.specs.Parts.{PartStep, AllTurned, AllFollow, AllDropped, AllArrive, AllStay};
 ghost use Rattle.tally_node.specs.Origins.{is_from};
 
@@ -61,8 +61,8 @@ fn note<T: Tally>(
     was: Option<i64>,
     is: Option<i64>,
 ) -> Result<(), NoMemory>
-    ensures { OnOk result ((old now : Row → Bool) → Leads old now change.old.gone.keys change.old.come.keys → ((r : Row) → is_from (T.origin r) row.now ≡ true → now r ≡ offers T.gives was r)
-        → Leads old (changed_at T.origin now row.now (offers T.gives is)) change.new.gone.keys change.new.come.keys) }
+    ensures { OnOk result ((old now : Row → Bool) → LeadsRows old now change.old.gone.keys change.old.come.keys → ((r : Row) → is_from (T.origin r) row.now ≡ true → now r ≡ offers T.gives was r)
+        → LeadsRows old (changed_at T.origin now row.now (offers T.gives is)) change.new.gone.keys change.new.come.keys) }
 {
     if same_output(was, is) {
         return Ok(());
@@ -83,7 +83,7 @@ fn turned<T: Tally, F: Facts>(
     who: Named,
     facts: &F,
 ) -> Result<T, NoMemory>
-    ensures { IfOk result (λ now. (world : Look) → world who.tag ≡ F.map facts.now who.tag → Turned (T.holds plan.now) world comes who tally now) }
+    ensures { IfOk result (λ now. (world : Look) → world who.tag ≡ F.map facts.now who.tag → TurnedTally (T.holds plan.now) world comes who tally now) }
 {
     if comes {
         tally.add(alloc, plan, who, facts)
@@ -391,7 +391,7 @@ impl<T: Tally> TallyNode<T> {
         names: &[Named],
         facts: &F,
     ) -> Result<(), NoMemory>
-        ensures keeps { OnOk result (Keeps self.old.memories self.new.memories (F.map facts.now) (has_left self.old.memories (F.map facts.now)) (λ c. has_right self.old.memories (F.map facts.now) c && not (has_name names.now c))) }
+        ensures keeps { OnOk result (KeepsMemories self.old.memories self.new.memories (F.map facts.now) (has_left self.old.memories (F.map facts.now)) (λ c. has_right self.old.memories (F.map facts.now) c && not (has_name names.now c))) }
         ensures left { OnOk result (AllStay (F.map facts.now) self.old.memories self.new.memories) }
     {
         for who in names {
@@ -410,7 +410,7 @@ impl<T: Tally> TallyNode<T> {
         old: &[Named],
         facts: &F,
     ) -> Result<Seq<Row>, NoMemory>
-        ensures kept { OnOk result (Keeps self.old.memories self.new.memories (F.map facts.now) (λ r. has_left self.old.memories (F.map facts.now) r && not (has rows.now r)) (λ c. has_right self.old.memories (F.map facts.now) c && not (has_name old.now c))) }
+        ensures kept { OnOk result (KeepsMemories self.old.memories self.new.memories (F.map facts.now) (λ r. has_left self.old.memories (F.map facts.now) r && not (has rows.now r)) (λ c. has_right self.old.memories (F.map facts.now) c && not (has_name old.now c))) }
         ensures left { OnOk result ((r : Row) → left_at self.new.memories (F.map facts.now) r ≡ cond (has rows.now r) None (left_at self.old.memories (F.map facts.now) r)) }
         ensures in_order { IfOk result (λ gone. InOrder gone) }
         ensures rows { IfOk result (λ gone. (r : Row) → has gone r ≡ (shown T.origin T.gives (T.output plan.now) self.old.memories (F.map facts.now) r && not (shown T.origin T.gives (T.output plan.now) self.new.memories (F.map facts.now) r))) }

@@ -5,7 +5,7 @@ ghost use Rattle.row_delta.specs.Rows.{row_cmp};
 ghost use Rattle.join_tests.specs.Joins.{Look};
 ghost use Rattle.pair_memory.specs.Standing.{either};
 ghost use Rattle.tally_node.specs.Extras.{AreApart, IsBeyond};
-ghost use Rattle.tally_node.specs.Tallies.{Turned};
+ghost use Rattle.tally_node.specs.Tallies.{TurnedTally};
 ghost use Rattle.tally_node.specs.Origins.{is_from};
 
 use fx_base::{Facts, NoMemory, Seq};
@@ -59,7 +59,7 @@ pub trait Tally: Sized + Drop {
         who: Named,
         facts: &F,
     ) -> Result<Self, NoMemory>
-        ensures { IfOk result (λ now. (world : Look) → world who.tag ≡ F.map facts.now who.tag → Turned (holds plan.now) world true who self now) };
+        ensures { IfOk result (λ now. (world : Look) → world who.tag ≡ F.map facts.now who.tag → TurnedTally (holds plan.now) world true who self now) };
 
     /// One candidate less.
     fn take<F: Facts>(
@@ -69,7 +69,7 @@ pub trait Tally: Sized + Drop {
         who: Named,
         facts: &F,
     ) -> Result<Self, NoMemory>
-        ensures { IfOk result (λ now. (world : Look) → world who.tag ≡ F.map facts.now who.tag → Turned (holds plan.now) world false who self now) };
+        ensures { IfOk result (λ now. (world : Look) → world who.tag ≡ F.map facts.now who.tag → TurnedTally (holds plan.now) world false who self now) };
 
     /// With what an extra counts more. A tally that is full is refused memory.
     fn with_extra(self, plan: &Self::Plan, extra: &Extra) -> Result<Self, NoMemory>

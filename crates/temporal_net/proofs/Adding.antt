@@ -1,10 +1,12 @@
 -- Lowering the distance between an edge's ends adds the edge to a table of ways with no inner points.
-use Rattle.temporal_net.proofs.Common.{◌≡◌, ◌≢◌, ℕ, ◌<◌, ◌⊎◌, ℤ, pos, ◌≤ℤ◌, List, [], ◌∷◌, ◌++◌, Some, sym, ◌∙◌, ap, subst, inl, inr, arith, Contains, ints, cases_eq, All-contains, NetEdge, Distance, IsAmong, IsSmall, Table, edge_cost, edge_distance, zero_distance, lesser, Reaches, Begins, IsTable, All-push, Contains-append_left, Contains-push, Contains-push_cases}
+use Rattle.temporal_net.proofs.Common.{◌≡◌, ◌≢◌, ℕ, ◌<◌, ◌⊎◌, ℤ, pos, ◌≤ℤ◌, List, [], ◌∷◌, ◌++◌, Some, sym, ◌∙◌, ap, subst, inl, inr, arith, Contains, ints}
+use Rattle.temporal_net.proofs.Common.{cases_eq, All-contains, NetEdge, Distance, HasItsPoints, IsSmallEdge, Table, edge_cost, edge_distance, zero_distance}
+use Rattle.temporal_net.proofs.Common.{lesser, ReachesWithin, Begins, IsDistanceTable, All-push, Contains-append_left, Contains-push, Contains-push_cases}
 use Rattle.temporal_net.proofs.Costs.{lesser_keeps, lesser_reaches, lesser_from, zero_kept}
 use Rattle.temporal_net.proofs.Ways.{same_distance}
 
-module _ (points : ℕ) (edges : List NetEdge) (t u : Table) (old : IsTable points 0 edges t)
-    (e : NetEdge) (among : IsAmong points e) (small : IsSmall e) (loop : e.x ≡ e.y → pos 0 ≤ℤ e.most)
+module _ (points : ℕ) (edges : List NetEdge) (t u : Table) (old : IsDistanceTable points 0 edges t)
+    (e : NetEdge) (among : HasItsPoints points e) (small : IsSmallEdge e) (loop : e.x ≡ e.y → pos 0 ≤ℤ e.most)
     (here : u e.x e.y ≡ Some (lesser (t e.x e.y) (edge_distance e)))
     (others : (x y : ℕ) → x < points → y < points → (x ≡ e.x → y ≡ e.y → ⊥) → u x y ≡ t x y) where
   -- a place is that of the edge or as it was
@@ -17,10 +19,10 @@ module _ (points : ℕ) (edges : List NetEdge) (t u : Table) (old : IsTable poin
   at : (x y : ℕ) → x ≡ e.x → y ≡ e.y → u x y ≡ Some (lesser (t x y) (edge_distance e))
   at x y p q = subst (λ a. u a y ≡ Some (lesser (t a y) (edge_distance e))) (sym p) (subst (λ b. u e.x b ≡ Some (lesser (t e.x b) (edge_distance e))) (sym q) here)
 
-  keeps : (x y : ℕ) → x < points → y < points → (c : ℤ) → Reaches (t x y) c → Reaches (u x y) c
+  keeps : (x y : ℕ) → x < points → y < points → (c : ℤ) → ReachesWithin (t x y) c → ReachesWithin (u x y) c
   keeps x y xp yp c h = elim (place x y xp yp) [
-    | inl it ↦ subst (λ o. Reaches o c) (sym (at x y it.0 it.1)) (lesser_keeps (t x y) (edge_distance e) c h)
-    | inr same ↦ subst (λ o. Reaches o c) (sym same) h
+    | inl it ↦ subst (λ o. ReachesWithin o c) (sym (at x y it.0 it.1)) (lesser_keeps (t x y) (edge_distance e) c h)
+    | inr same ↦ subst (λ o. ReachesWithin o c) (sym same) h
   ]
 
   own_added : (p : ℕ) → p < points → u p p ≡ Some zero_distance
@@ -60,19 +62,19 @@ module _ (points : ℕ) (edges : List NetEdge) (t u : Table) (old : IsTable poin
     ]
   ]
 
-  direct_added : (f : NetEdge) → Contains (edges ++ e ∷ []) f → IsAmong points f → Reaches (u f.x f.y) (edge_cost f)
+  direct_added : (f : NetEdge) → Contains (edges ++ e ∷ []) f → HasItsPoints points f → ReachesWithin (u f.x f.y) (edge_cost f)
   direct_added f m p = elim (Contains-push_cases edges e f m) [
     | inl before ↦ keeps f.x f.y p.0 p.1 (edge_cost f) (old.direct f before)
     | inr it ↦
-        let one : Reaches (u e.x e.y) (edge_cost e) = subst (λ o. Reaches o (edge_cost e)) (sym here) (let l = lesser_reaches (t e.x e.y) (edge_distance e) in omega (arith, ints)) in
-        subst (λ (g : NetEdge). Reaches (u g.x g.y) (edge_cost g)) it one
+        let one : ReachesWithin (u e.x e.y) (edge_cost e) = subst (λ o. ReachesWithin o (edge_cost e)) (sym here) (let l = lesser_reaches (t e.x e.y) (edge_distance e) in omega (arith, ints)) in
+        subst (λ (g : NetEdge). ReachesWithin (u g.x g.y) (edge_cost g)) it one
   ]
 
-  pub added : IsTable points 0 (edges ++ e ∷ []) u
+  pub added : IsDistanceTable points 0 (edges ++ e ∷ []) u
   added =
-      let among_all = All-push (IsAmong points) edges e old.ways.among among in
+      let among_all = All-push (HasItsPoints points) edges e old.ways.among among in
       record {
-        ways = record { few = old.ways.few; among = among_all; small = All-push IsSmall edges e old.ways.small small; own = own_added; begins = begins_added };
-        direct = λ f m. direct_added f m (All-contains (IsAmong points) (edges ++ e ∷ []) f among_all m);
+        ways = record { few = old.ways.few; among = among_all; small = All-push IsSmallEdge edges e old.ways.small small; own = own_added; begins = begins_added };
+        direct = λ f m. direct_added f m (All-contains (HasItsPoints points) (edges ++ e ∷ []) f among_all m);
         triangle = λ i x y lt xp yp a b h k. absurd (omega arith);
       }

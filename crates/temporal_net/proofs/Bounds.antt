@@ -1,5 +1,7 @@
 -- A table's distances are the greatest differences, and where it has none there is no greatest.
-use Rattle.temporal_net.proofs.Common.{◌≡◌, ◌≢◌, ℕ, ◌<◌, ℤ, pos, ◌+ℤ◌, ◌-ℤ◌, ◌≤ℤ◌, List, true, false, cond, eqb, Some, None, refl, ap, subst, inl, inr, arith, ints, clamps, eqb_tells, NetEdge, Distance, IsSolvable, IsGreatest, IsUnbounded, HasGreatest, Table, zero_distance, IsTable, int_max}
+use Rattle.temporal_net.proofs.Common.{◌≡◌, ◌≢◌, ℕ, ◌<◌, ℤ, pos, ◌+ℤ◌, ◌-ℤ◌, ◌≤ℤ◌, List, true, false, cond, eqb, Some, None, refl, ap, subst, inl, inr, arith}
+use Rattle.temporal_net.proofs.Common.{ints, clamps, eqb_tells, NetEdge, Distance, IsSolvable, IsGreatest, IsUnboundedDifference, HasGreatest, Table}
+use Rattle.temporal_net.proofs.Common.{zero_distance, IsDistanceTable, int_max}
 use Rattle.temporal_net.proofs.Ways.{same_distance, way_of, follows_leads, follows_members, measured, short}
 use Rattle.temporal_net.proofs.Sums.{adds_up}
 use Rattle.temporal_net.proofs.Heights.{height, lowest, below, solves}
@@ -23,7 +25,7 @@ raised_else y q top e = ap (λ b. cond b (pos 0) top) e
 raised_itself : (y : ℕ) (top : ℤ) → raised y top y ≡ pos 0
 raised_itself y top = elim (eqb_tells y y) [ inl e ↦ raised_here y y top e.0 | inr ne ↦ absurd (ne.1 refl) ]
 
-module _ (points : ℕ) (edges : List NetEdge) (t : Table) (table : IsTable points points edges t) (y : ℕ) (yp : y < points) (top : ℤ) (high : far ≤ℤ top) where
+module _ (points : ℕ) (edges : List NetEdge) (t : Table) (table : IsDistanceTable points points edges t) (y : ℕ) (yp : y < points) (top : ℤ) (high : far ≤ℤ top) where
   zero_at : height t (raised y top) points y ≡ pos 0
   unfolding far
   zero_at =
@@ -85,7 +87,7 @@ module _ (points : ℕ) (edges : List NetEdge) (t : Table) (table : IsTable poin
             omega (arith, ints)
       ]
 
-module _ (points : ℕ) (edges : List NetEdge) (t : Table) (table : IsTable points points edges t) where
+module _ (points : ℕ) (edges : List NetEdge) (t : Table) (table : IsDistanceTable points points edges t) where
   pub solvable : IsSolvable edges
   solvable = (height t (λ q. pos 0) points, solves points edges t table (λ q. pos 0))
 
@@ -104,7 +106,7 @@ module _ (points : ℕ) (edges : List NetEdge) (t : Table) (table : IsTable poin
         attained = (height t (raised y far) points, solves points edges t table (raised y far), omega (arith, ints));
       }
 
-  pub unbounded : (x y : ℕ) → x < points → y < points → t x y ≡ None → IsUnbounded edges x y
+  pub unbounded : (x y : ℕ) → x < points → y < points → t x y ≡ None → IsUnboundedDifference edges x y
   unbounded x y xp yp none = record {
     solvable = solvable;
     passes = λ b.

@@ -1,12 +1,13 @@
 -- What is known of a distance's cost, and what a way over a third point makes of it.
-use Rattle.temporal_net.proofs.Common.{◌≡◌, ◌⊎◌, ℤ, pos, ◌+ℤ◌, ◌≤ℤ◌, Bool, true, false, cond, Option, Some, None, refl, ap, inl, inr, arith, ints, Distance, cost, zero_distance, joined, lesser, lowered, Reaches}
+use Rattle.temporal_net.proofs.Common.{◌≡◌, ◌⊎◌, ℤ, pos, ◌+ℤ◌, ◌≤ℤ◌, Bool, true, false, cond, Option, Some, None, refl, ap, inl, inr, arith, ints, Distance}
+use Rattle.temporal_net.proofs.Common.{cost, zero_distance, joined, lesser, lowered, ReachesWithin}
 use Rattle.std.specs.Int.Signed.{lt_z}
 
-pub reaches_more : (o : Option Distance) (a b : ℤ) → Reaches o a → a ≤ℤ b → Reaches o b
+pub reaches_more : (o : Option Distance) (a b : ℤ) → ReachesWithin o a → a ≤ℤ b → ReachesWithin o b
 reaches_more None a b h l = h
 reaches_more (Some d) a b h l = omega (arith, ints)
 
-pub reaches_known : (o : Option Distance) (d : Distance) → o ≡ Some d → Reaches o (cost d)
+pub reaches_known : (o : Option Distance) (d : Distance) → o ≡ Some d → ReachesWithin o (cost d)
 reaches_known o d e = rw e (omega (arith, ints))
 
 -- a distance that is known at this cost
@@ -15,7 +16,7 @@ pub record Known (o : Option Distance) (c : ℤ) : Type 0 where
   pub is : o ≡ Some distance
   pub least : cost distance ≤ℤ c
 
-pub known_of : (o : Option Distance) (c : ℤ) → Reaches o c → Known o c
+pub known_of : (o : Option Distance) (c : ℤ) → ReachesWithin o c → Known o c
 known_of None c h = absurd h
 known_of (Some d) c h = record { distance = d; is = refl; least = h }
 
@@ -32,7 +33,7 @@ lesser_found : (d found : Distance) (t : Bool) → lt_z (cost found) (cost d) �
 lesser_found d found true e = omega (arith, ints)
 lesser_found d found false e = grind (arith, ints)
 
-pub lesser_keeps : (known : Option Distance) (found : Distance) (c : ℤ) → Reaches known c → cost (lesser known found) ≤ℤ c
+pub lesser_keeps : (known : Option Distance) (found : Distance) (c : ℤ) → ReachesWithin known c → cost (lesser known found) ≤ℤ c
 lesser_keeps None found c h = absurd h
 lesser_keeps (Some d) found c h = lesser_known d found (lt_z (cost found) (cost d)) c refl h
 
@@ -52,12 +53,12 @@ zero_kept found l =
 
 -- ---- a way over a third point
 
-pub lowered_keeps : (known first second : Option Distance) (c : ℤ) → Reaches known c → Reaches (lowered known first second) c
+pub lowered_keeps : (known first second : Option Distance) (c : ℤ) → ReachesWithin known c → ReachesWithin (lowered known first second) c
 lowered_keeps known None second c h = h
 lowered_keeps known (Some a) None c h = h
 lowered_keeps known (Some a) (Some b) c h = lesser_keeps known (joined a b) c h
 
-pub lowered_joins : (known first second : Option Distance) (a b : ℤ) → Reaches first a → Reaches second b → Reaches (lowered known first second) (a +ℤ b)
+pub lowered_joins : (known first second : Option Distance) (a b : ℤ) → ReachesWithin first a → ReachesWithin second b → ReachesWithin (lowered known first second) (a +ℤ b)
 lowered_joins known None second a b h k = absurd h
 lowered_joins known (Some d) None a b h k = absurd k
 lowered_joins known (Some d) (Some e) a b h k =

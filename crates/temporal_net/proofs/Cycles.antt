@@ -1,5 +1,8 @@
 -- A way to a point and back that loses is a negative cycle, and where none loses the next phase goes on.
-use Rattle.temporal_net.proofs.Common.{◌≡◌, ℕ, ◌+◌, ◌<◌, ◌≤◌, pos, ◌+ℤ◌, ◌≤ℤ◌, ◌<ℤ◌, List, [], ◌∷◌, ◌++◌, map, length, true, false, Option, Some, None, refl, sym, subst, arith, ints, All-from_recursion, All-cons, All-nil, NetEdge, Distance, Leads, total, edge_at, IsNegativeCycle, Table, cell, lowered, loses_over, AllShort, AreTable, HasWays, Follows, map-append, All-append, loses}
+use Rattle.temporal_net.proofs.Common.{◌≡◌, ℕ, ◌+◌, ◌<◌, ◌≤◌, pos, ◌+ℤ◌, ◌≤ℤ◌, ◌<ℤ◌, List, [], ◌∷◌, ◌++◌, map, length, true, false, Option, Some, None, refl}
+use Rattle.temporal_net.proofs.Common.{sym, subst, arith, ints, All-from_recursion, All-cons, All-nil, NetEdge, Distance, LeadsWay, total, edge_at}
+use Rattle.temporal_net.proofs.Common.{IsNegativeCycle, Table, cell, lowered, loses_over, AllShort, AreTable, HasWays, FollowsWay, map-append, All-append}
+use Rattle.temporal_net.proofs.Common.{loses}
 use Rattle.temporal_net.proofs.Phases.{next_table}
 use Rattle.temporal_net.proofs.Sums.{leads_on, total-append}
 use Rattle.temporal_net.proofs.Ways.{follows_known, follows_leads, measured, short, widened}
@@ -27,7 +30,7 @@ lost (Some a) None h = absurd cc
 lost (Some a) (Some b) h = record { there = a; home = b; there_is = refl; home_is = refl; negative = grind (arith, ints) }
 
 pub round_cycle : (points : ℕ) (edges : List NetEdge) (t : Table) → HasWays points points edges t → (x via : ℕ) → x < points → via < points → loses (t x via) (t via x) ≡ true
-    → (a b : List ℕ) → Follows points edges t x via a → Follows points edges t via x b → IsNegativeCycle edges (a ++ b)
+    → (a b : List ℕ) → FollowsWay points edges t x via a → FollowsWay points edges t via x b → IsNegativeCycle edges (a ++ b)
 round_cycle points edges t w x via xp vp h a b fa fb =
     let l = lost (t x via) (t via x) h in
     let there = (measured points edges t w x via vp a fa l.there l.there_is).sum in
@@ -45,7 +48,7 @@ round_cycle points edges t w x via xp vp h a b fa fb =
           omega (arith, ints);
       closes = (
         x,
-        subst (λ es. Leads x es x) (sym (map-append (edge_at edges) a b))
+        subst (λ es. LeadsWay x es x) (sym (map-append (edge_at edges) a b))
             (leads_on x (map (edge_at edges) a) via (map (edge_at edges) b) x (follows_leads points edges t w x via a fa) (follows_leads points edges t w via x b fb)),
       );
       negative = negative;

@@ -1,5 +1,6 @@
 -- An edge that leaves the rest of a distance begins the way, and there is one.
-use Rattle.temporal_net.proofs.Common.{◌≡◌, ◌≢◌, ℕ, ◌+◌, ◌<◌, ℤ, ◌+ℤ◌, List, length, Bool, true, false, ◌&&◌, eqb, Option, Some, None, refl, sym, subst, inr, arith, eq-eqb, ints, eqb-true, Contains-get_or, NetEdge, Distance, edge_at, Table, Begins, HasWays, Steps, opens}
+use Rattle.temporal_net.proofs.Common.{◌≡◌, ◌≢◌, ℕ, ◌+◌, ◌<◌, ℤ, ◌+ℤ◌, List, length, Bool, true, false, ◌&&◌, eqb, Option, Some, None, refl, sym, subst, inr}
+use Rattle.temporal_net.proofs.Common.{arith, eq-eqb, ints, eqb-true, Contains-get_or, NetEdge, Distance, edge_at, Table, Begins, HasWays, StepsWay, opens}
 use Rattle.std.specs.Ordering.{int_eq}
 use Rattle.temporal_net.proofs.Ways.{ends_among, numbered}
 
@@ -36,7 +37,7 @@ opens_at d r most s n =
     rw (a, b) refl
 
 module _ (points : ℕ) (edges : List NetEdge) (t : Table) (w : HasWays points points edges t) (x y : ℕ) (xp : x < points) (yp : y < points) where
-  pub first_steps : (n : ℕ) → n < length edges → is_first edges t x y n ≡ true → Steps points edges t x y n
+  pub first_steps : (n : ℕ) → n < length edges → is_first edges t x y n ≡ true → StepsWay points edges t x y n
   first_steps n np h =
       let e = edge_at edges n in
       let p = both (eqb e.x x) (opens (t x y) (t e.y y) e.most) h in

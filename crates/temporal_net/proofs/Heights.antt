@@ -1,5 +1,7 @@
 -- Solutions from a table: each point as high as its least way to a weighted point.
-use Rattle.temporal_net.proofs.Common.{◌≡◌, ℕ, zero, suc, ◌<◌, ◌⊎◌, ℤ, ◌+ℤ◌, ◌≤ℤ◌, int_lt, List, Option, Some, None, true, false, cond, refl, sym, ◌∙◌, subst, inl, inr, arith, int_min, Contains, ints, clamps, cases_eq, Contains-get_or, NetEdge, Distance, Meets, Solves, Table, cost, edge_cost, zero_distance, IsTable}
+use Rattle.temporal_net.proofs.Common.{◌≡◌, ℕ, zero, suc, ◌<◌, ◌⊎◌, ℤ, ◌+ℤ◌, ◌≤ℤ◌, int_lt, List, Option, Some, None, true, false, cond, refl, sym, ◌∙◌, subst}
+use Rattle.temporal_net.proofs.Common.{inl, inr, arith, int_min, Contains, ints, clamps, cases_eq, Contains-get_or, NetEdge, Distance, MeetsEdge, SolvesEdges}
+use Rattle.temporal_net.proofs.Common.{Table, cost, edge_cost, zero_distance, IsDistanceTable}
 use Rattle.temporal_net.proofs.Costs.{reaches_known, known_of}
 use Rattle.temporal_net.proofs.Ways.{ends_among, short}
 
@@ -68,7 +70,7 @@ module _ (t : Table) (weight : ℕ → ℤ) where
             omega (arith, ints)
       ]
 
-module _ (points : ℕ) (edges : List NetEdge) (t : Table) (table : IsTable points points edges t) (weight : ℕ → ℤ) where
+module _ (points : ℕ) (edges : List NetEdge) (t : Table) (table : IsDistanceTable points points edges t) (weight : ℕ → ℤ) where
   pub lowest : (p : ℕ) → p < points → Lowest t weight points p (height t weight points p)
   lowest p pp = elim (lowest_by t weight points p) [
     | inl own ↦ record { point = p; below = pp; distance = zero_distance; is = table.ways.own p pp; sum = own ∙ omega (arith, ints) }
@@ -78,7 +80,7 @@ module _ (points : ℕ) (edges : List NetEdge) (t : Table) (table : IsTable poin
   pub below : (p q : ℕ) → q < points → (d : Distance) → t p q ≡ Some d → height t weight points p ≤ℤ (d.sum +ℤ weight q)
   below p q lt d is = below_each t weight points p q lt d is
 
-  meets : (e : NetEdge) → Contains edges e → Meets (height t weight points) e
+  meets : (e : NetEdge) → Contains edges e → MeetsEdge (height t weight points) e
   meets e m =
       let p = ends_among points edges e table.ways.among m in
       let l = lowest e.y p.1 in
@@ -91,5 +93,5 @@ module _ (points : ℕ) (edges : List NetEdge) (t : Table) (table : IsTable poin
       let sum = l.sum in
       omega (arith, ints)
 
-  pub solves : Solves edges (height t weight points)
+  pub solves : SolvesEdges edges (height t weight points)
   solves k d lt = meets _ (Contains-get_or edges k d lt)

@@ -1,5 +1,8 @@
 -- What writing one place of a table's rows changes.
-use Rattle.temporal_net.proofs.Common.{◌≡◌, ℕ, zero, suc, ◌+◌, ◌<◌, pos, ◌≤ℤ◌, List, [], ◌∷◌, ◌++◌, length, get_or, set, take, replicate, cond, eqb, eq-eqb, Option, Some, None, refl, sym, ◌∙◌, ap, subst, inl, inr, arith, cases_eq, eqb_tells, NetEdge, Distance, edge_at, IsAmong, IsSmall, cell, edge_distance, lesser, zero_distance, AreTable, IsTable, length-set, get_or-set_same, get_or-set_other, get_or_append_left, get_or_push, length-replicate, take_more}
+use Rattle.temporal_net.proofs.Common.{◌≡◌, ℕ, zero, suc, ◌+◌, ◌<◌, pos, ◌≤ℤ◌, List, [], ◌∷◌, ◌++◌, length, get_or, set, take, replicate, cond, eqb, eq-eqb}
+use Rattle.temporal_net.proofs.Common.{Option, Some, None, refl, sym, ◌∙◌, ap, subst, inl, inr, arith, cases_eq, eqb_tells, NetEdge, Distance, edge_at}
+use Rattle.temporal_net.proofs.Common.{HasItsPoints, IsSmallEdge, cell, edge_distance, lesser, zero_distance, AreTable, IsDistanceTable, length-set}
+use Rattle.temporal_net.proofs.Common.{get_or-set_same, get_or-set_other, get_or_append_left, get_or_push, length-replicate, take_more}
 use Rattle.temporal_net.proofs.Adding.{added}
 
 module _ (rows : List (List (Option Distance))) (x y : ℕ) (v : Option Distance) where
@@ -23,7 +26,7 @@ module _ (rows : List (List (Option Distance))) (x y : ℕ) (v : Option Distance
 
 -- the edge with number n, written into the rows of the edges before it
 pub added_rows : (edges : List NetEdge) (n : ℕ) (rows : List (List (Option Distance))) (d : Distance) → n < length edges → AreTable 0 (take n edges) rows
-    → IsAmong (length rows) (edge_at edges n) → IsSmall (edge_at edges n) → ((edge_at edges n).x ≡ (edge_at edges n).y → pos 0 ≤ℤ (edge_at edges n).most)
+    → HasItsPoints (length rows) (edge_at edges n) → IsSmallEdge (edge_at edges n) → ((edge_at edges n).x ≡ (edge_at edges n).y → pos 0 ≤ℤ (edge_at edges n).most)
     → ((i : ℕ) → i < length rows → length (get_or rows i []) ≡ 16) → d ≡ lesser (cell rows (edge_at edges n).x (edge_at edges n).y) (edge_distance (edge_at edges n))
     → AreTable 0 (take (n + 1) edges) (set rows (edge_at edges n).x (set (get_or rows (edge_at edges n).x []) (edge_at edges n).y (Some d)))
 unfolding written
@@ -35,12 +38,12 @@ added_rows edges n rows d np old among small turn wide is =
     let y_low = among.1 in
     let few = old.ways.few in
     let yp : e.y < length (get_or rows e.x []) = omega arith in
-    let table : IsTable (length rows) 0 (take n edges ++ e ∷ []) (cell new) =
+    let table : IsDistanceTable (length rows) 0 (take n edges ++ e ∷ []) (cell new) =
     added (length rows) (take n edges) (cell rows) (cell new) old e among small turn
     (cell-written_same rows e.x e.y (Some d) among.0 yp ∙ ap Some is)
     (λ x y xp yq apart. cell-written_other rows e.x e.y (Some d) among.0 x y apart) in
-    subst (λ l. IsTable l 0 (take (n + 1) edges) (cell new)) (sym long)
-    (subst (λ es. IsTable (length rows) 0 es (cell new)) (sym (take_more edges n _ np)) table)
+    subst (λ l. IsDistanceTable l 0 (take (n + 1) edges) (cell new)) (sym long)
+    (subst (λ es. IsDistanceTable (length rows) 0 es (cell new)) (sym (take_more edges n _ np)) table)
 
 nothing : Option Distance
 nothing = None

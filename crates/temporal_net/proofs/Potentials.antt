@@ -1,5 +1,9 @@
 -- Where a network has a solution, its potentials stand still after as many rounds as it has points, and are one.
-use Rattle.temporal_net.proofs.Common.{◌≡◌, ℕ, zero, suc, ◌<◌, ◌≤◌, ◌⊎◌, ℤ, ◌+ℤ◌, ◌-ℤ◌, ◌≤ℤ◌, ◌<ℤ◌, Bool, true, false, List, [], ◌∷◌, length, get_or, eqb, eq-eqb, refl, sym, ◌∙◌, subst, inl, inr, arith, int_min, All, AllByRecursion, Contains, eqb-true, eqb_tells, ints, clamps, by_lt_z, All-nil, All-cons, All-contains, All-from_recursion, length-le_from_distinct_below, NetEdge, IsAmong, IsSolvable, Meets, Solves, list_all, Decides-by_and, Decides-like, All-weaker, Contains-append_right}
+use Rattle.temporal_net.proofs.Common.{◌≡◌, ℕ, zero, suc, ◌<◌, ◌≤◌, ◌⊎◌, ℤ, ◌+ℤ◌, ◌-ℤ◌, ◌≤ℤ◌, ◌<ℤ◌, Bool, true, false, List, [], ◌∷◌, length, get_or, eqb}
+use Rattle.temporal_net.proofs.Common.{eq-eqb, refl, sym, ◌∙◌, subst, inl, inr, arith, int_min, All, AllByRecursion, Contains, eqb-true, eqb_tells, ints}
+use Rattle.temporal_net.proofs.Common.{clamps, by_lt_z, All-nil, All-cons, All-contains, All-from_recursion, length-le_from_distinct_below, NetEdge}
+use Rattle.temporal_net.proofs.Common.{HasItsPoints, IsSolvable, MeetsEdge, SolvesEdges, list_all, Decides-by_and, Decides-like, All-weaker}
+use Rattle.temporal_net.proofs.Common.{Contains-append_right}
 use Rattle.std.specs.Bool.{Decides, if◌then◌else◌}
 use Rattle.std.specs.List.{IsDistinct}
 use Rattle.std.proofs.lemmas.Map.Views.{Contains-from_any}
@@ -56,7 +60,7 @@ lowered_by (e ∷ edges) v p = elim (kept_or_lowered (eqb e.x p) (e.most +ℤ v 
 
 -- ---- rounds, against a solution
 
-module _ (points : ℕ) (edges : List NetEdge) (among : All (IsAmong points) edges) (s : ℕ → ℤ) (solves : Solves edges s) where
+module _ (points : ℕ) (edges : List NetEdge) (among : All (HasItsPoints points) edges) (s : ℕ → ℤ) (solves : SolvesEdges edges s) where
   -- a point that stands at most this far above the solution
   record Low (round : ℕ) (most : ℤ) (q : ℕ) : Type 0 where
     inside : q < points
@@ -99,7 +103,7 @@ module _ (points : ℕ) (edges : List NetEdge) (among : All (IsAmong points) edg
         let e = l.0 in
         let q = e.y in
         let sum = l.1.sum in
-        let up : (s p -ℤ s q) ≤ℤ e.most = subst (λ r. (s r -ℤ s q) ≤ℤ e.most) l.1.from (All-contains (Meets s) edges e solves l.1.member) in
+        let up : (s p -ℤ s q) ≤ℤ e.most = subst (λ r. (s r -ℤ s q) ≤ℤ e.most) l.1.from (All-contains (MeetsEdge s) edges e solves l.1.member) in
         let allowed : potentials edges (suc round) p ≤ℤ (e.most +ℤ potentials edges round q) =
         subst (λ r. potentials edges (suc round) r ≤ℤ (e.most +ℤ potentials edges round q)) l.1.from
         (All-contains (Allowed edges (potentials edges round)) edges e (all_allowed edges (potentials edges round)) l.1.member) in
@@ -128,7 +132,7 @@ module _ (points : ℕ) (edges : List NetEdge) (among : All (IsAmong points) edg
       let long = l.long in
       omega arith
 
-  pub potentials_solve : (round : ℕ) → points ≤ round → Solves edges (potentials edges round)
+  pub potentials_solve : (round : ℕ) → points ≤ round → SolvesEdges edges (potentials edges round)
   unfolding potentials
   potentials_solve round le k d lt =
       let x = (get_or edges k d).x in
@@ -138,9 +142,9 @@ module _ (points : ℕ) (edges : List NetEdge) (among : All (IsAmong points) edg
       (λ still. omega (arith, ints))
 
 -- `is_solvable` decides whether there is a solution
-pub decided : (points : ℕ) (edges : List NetEdge) → points ≤ 16 → All (IsAmong points) edges → Decides (is_solvable edges) (IsSolvable edges)
+pub decided : (points : ℕ) (edges : List NetEdge) → points ≤ 16 → All (HasItsPoints points) edges → Decides (is_solvable edges) (IsSolvable edges)
 unfolding is_solvable
 decided points edges few among =
     let v = potentials edges 16 in
     Decides-like (list_all (is_met v) edges) (λ h. (v, h)) (λ h. potentials_solve points edges among h.0 h.1 16 few)
-    (Decides-by_and (is_met v) (Meets v) (list_all (is_met v)) (λ e. (λ h. grind (arith, ints), λ h. grind (arith, ints))) refl (λ _ _. refl) edges)
+    (Decides-by_and (is_met v) (MeetsEdge v) (list_all (is_met v)) (λ e. (λ h. grind (arith, ints), λ h. grind (arith, ints))) refl (λ _ _. refl) edges)

@@ -1,5 +1,9 @@
 -- What the rows of a solved network say of it.
-use Rattle.temporal_net.proofs.Common.{◌≡◌, ◌≢◌, ℕ, ◌<◌, ◌≤◌, List, [], ◌∷◌, ◌++◌, map, length, get_or, take, drop, Option, Some, None, Result, Ok, Err, IfOk, sym, ◌∙◌, ap, subst, inl, inr, arith, to_z, of_z, w64, FitsSigned, Contains, ints, get_or_default, length-map, All-from_recursion, recursion_from_All, NetEdge, Distance, total, edge_at, points_of, IsGreatest, IsUnbounded, IsShortestPath, HasGreatest, cell, zero_distance, AreTable, Follows, AllPairs, to_z-of_z, Decides-eqb, IsWay, IsWithinNetwork, Network}
+use Rattle.temporal_net.proofs.Common.{◌≡◌, ◌≢◌, ℕ, ◌<◌, ◌≤◌, List, [], ◌∷◌, ◌++◌, map, length, get_or, take, drop, Option, Some, None, Result, Ok, Err, IfOk}
+use Rattle.temporal_net.proofs.Common.{sym, ◌∙◌, ap, subst, inl, inr, arith, to_z, of_z, w64, FitsSigned, Contains, ints, get_or_default, length-map}
+use Rattle.temporal_net.proofs.Common.{All-from_recursion, recursion_from_All, NetEdge, Distance, total, edge_at, points_of, IsGreatest, IsUnboundedDifference}
+use Rattle.temporal_net.proofs.Common.{IsShortestPath, HasGreatest, cell, zero_distance, AreTable, FollowsWay, AllPairs, to_z-of_z, Decides-eqb, IsWay}
+use Rattle.temporal_net.proofs.Common.{IsWithinNetwork, Network}
 use Rattle.std.proofs.lemmas.Grind.{common_steps}
 use Rattle.std.proofs.lemmas.Map.Made.{AllPairs-from_IsDistinct}
 use Rattle.fx_base.specs.declared.bound.Bound.TheVariants.{Finite}
@@ -29,16 +33,16 @@ module _ (edges : List NetEdge) (rows : List (List (Option Distance))) (table : 
   pub bound_is : (d : Distance) → cell rows x y ≡ Some d → IsGreatest edges x y (to_z w64 (of_z w64 d.sum))
   bound_is d is = subst (IsGreatest edges x y) (sym (to_z-of_z w64 d.sum (fits_sum d is))) (greatest (length rows) edges (cell rows) table x y d xp yp is)
 
-  pub bound_none : cell rows x y ≡ None → IsUnbounded edges x y
+  pub bound_none : cell rows x y ≡ None → IsUnboundedDifference edges x y
   bound_none none = unbounded (length rows) edges (cell rows) table x y xp yp none
 
   pub has_distance : HasGreatest edges x y → cell rows x y ≢ None
   has_distance g = known (length rows) edges (cell rows) table x y xp yp g
 
 module _ (edges : List NetEdge) (rows : List (List (Option Distance))) (table : AreTable (length rows) edges rows) (x y : ℕ) (xp : x < length rows) (yp : y < length rows)
-    (numbers : List ℕ) (follows : Follows (length rows) edges (cell rows) x y numbers) where
+    (numbers : List ℕ) (follows : FollowsWay (length rows) edges (cell rows) x y numbers) where
   -- the distance that the numbers are the way of
-  distance_of : (ns : List ℕ) → Follows (length rows) edges (cell rows) x y ns → (d : Distance) × (cell rows x y ≡ Some d)
+  distance_of : (ns : List ℕ) → FollowsWay (length rows) edges (cell rows) x y ns → (d : Distance) × (cell rows x y ≡ Some d)
   distance_of [] h = (zero_distance, subst (λ p. cell rows p y ≡ Some zero_distance) (sym h) (table.ways.own y yp))
   distance_of (n ∷ ns) h = (h.0.distance, h.0.here)
 
@@ -102,13 +106,13 @@ module _ (m : Network) (edges : List NetEdge) (rows : List (List (Option Distanc
   pub within_read : (row : List (Option Distance)) (d : Distance) → row ≡ get_or rows x row → get_or row y None ≡ Some d → IsWithinNetwork (Finite (to_z w64 (of_z w64 d.sum)))
   within_read row d at is = bound_within edges rows table x y xp yp d (read row (Some d) at is)
 
-  pub none_read : (row : List (Option Distance)) → row ≡ get_or rows x row → get_or row y None ≡ None → IsUnbounded m.edges x y
-  none_read row at is = subst (λ es. IsUnbounded es x y) same (bound_none edges rows table x y xp yp (read row None at is))
+  pub none_read : (row : List (Option Distance)) → row ≡ get_or rows x row → get_or row y None ≡ None → IsUnboundedDifference m.edges x y
+  none_read row at is = subst (λ es. IsUnboundedDifference es x y) same (bound_none edges rows table x y xp yp (read row None at is))
 
   pub distance_known : HasGreatest m.edges x y → cell rows x y ≢ None
   distance_known g = has_distance edges rows table x y xp yp (subst (λ es. HasGreatest es x y) (sym same) g)
 
-  module _ (numbers : List ℕ) (follows : Follows (length rows) edges (cell rows) x y numbers) where
+  module _ (numbers : List ℕ) (follows : FollowsWay (length rows) edges (cell rows) x y numbers) where
     pub path_seen : IsShortestPath m.edges x y (map (edge_at edges) numbers)
     path_seen = subst (λ es. IsShortestPath es x y (map (edge_at edges) numbers)) same (shortest edges rows table x y xp yp numbers follows)
 
@@ -118,9 +122,9 @@ written_back n new old same long = grind (arith, common_steps)
 
 -- a way in slices that were lent from a network is a way in it
 pub followed : (edges lent : List NetEdge) (rows lent_rows : List (List (Option Distance))) (x y : ℕ) (numbers : List ℕ) → lent ≡ edges → lent_rows ≡ rows
-    → Follows (length lent_rows) lent (cell lent_rows) x y numbers → Follows (length rows) edges (cell rows) x y numbers
+    → FollowsWay (length lent_rows) lent (cell lent_rows) x y numbers → FollowsWay (length rows) edges (cell rows) x y numbers
 followed edges lent rows lent_rows x y numbers e r f =
-    subst (λ rs. Follows (length rs) edges (cell rs) x y numbers) r (subst (λ es. Follows (length lent_rows) es (cell lent_rows) x y numbers) e f)
+    subst (λ rs. FollowsWay (length rs) edges (cell rs) x y numbers) r (subst (λ es. FollowsWay (length lent_rows) es (cell lent_rows) x y numbers) e f)
 
 -- a clause on a list of items, where they are known
 pub on_items : {T E : Type 0} (items : T → List NetEdge) (P : List NetEdge → Type 0) (list : List NetEdge) (r : Result T E) → IfOk r (λ t. items t ≡ list) → P list → IfOk r (λ t. P (items t))

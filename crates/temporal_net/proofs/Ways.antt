@@ -1,5 +1,9 @@
 -- The ways of a table: there is one for each distance, it meets no point twice, and so it has at most 15 edges.
-use Rattle.temporal_net.proofs.Common.{◌≡◌, ℕ, zero, suc, ◌<◌, ◌≤◌, ◌⊎◌, ℤ, pos, negsuc, ◌*ℤ◌, ◌≤ℤ◌, List, [], ◌∷◌, map, length, true, false, ◌||◌, eqb, Option, Some, None, IfSome, refl, sym, ◌∙◌, ap, subst, inl, inr, arith, All, AllByRecursion, Contains, ints, cases_eq, eqb_tells, get_or_default, length-map, All-contains, length-le_from_distinct_below, NetEdge, Distance, Leads, total, points_of, edge_at, IsAmong, IsSmall, Table, zero_distance, Begins, HasWays, Steps, Follows, list_any, IsShort}
+use Rattle.temporal_net.proofs.Common.{◌≡◌, ℕ, zero, suc, ◌<◌, ◌≤◌, ◌⊎◌, ℤ, pos, negsuc, ◌*ℤ◌, ◌≤ℤ◌, List, [], ◌∷◌, map, length, true, false, ◌||◌, eqb, Option}
+use Rattle.temporal_net.proofs.Common.{Some, None, IfSome, refl, sym, ◌∙◌, ap, subst, inl, inr, arith, All, AllByRecursion, Contains, ints, cases_eq, eqb_tells}
+use Rattle.temporal_net.proofs.Common.{get_or_default, length-map, All-contains, length-le_from_distinct_below, NetEdge, Distance, LeadsWay, total, points_of}
+use Rattle.temporal_net.proofs.Common.{edge_at, HasItsPoints, IsSmallEdge, Table, zero_distance, Begins, HasWays, StepsWay, FollowsWay, list_any}
+use Rattle.temporal_net.proofs.Common.{IsShortDistance}
 use Rattle.std.specs.List.{IsDistinct}
 
 -- how many edges are left
@@ -20,13 +24,13 @@ pub record Numbered (edges : List NetEdge) (e : NetEdge) : Type 0 where
 pub numbered : (edges : List NetEdge) (e : NetEdge) → Contains edges e → Numbered edges e
 numbered edges e c = record { number = c.0; known = c.1; is = get_or_default edges c.0 _ e c.1 ∙ c.2 }
 
-pub ends_among : (points : ℕ) (edges : List NetEdge) (e : NetEdge) → All (IsAmong points) edges → Contains edges e → IsAmong points e
-ends_among points edges e a c = All-contains (IsAmong points) edges e a c
+pub ends_among : (points : ℕ) (edges : List NetEdge) (e : NetEdge) → All (HasItsPoints points) edges → Contains edges e → HasItsPoints points e
+ends_among points edges e a c = All-contains (HasItsPoints points) edges e a c
 
 -- a way from x to y
 pub record Way (points : ℕ) (edges : List NetEdge) (t : Table) (x y : ℕ) : Type 0 where
   pub numbers : List ℕ
-  pub follows : Follows points edges t x y numbers
+  pub follows : FollowsWay points edges t x y numbers
 
 -- where inner points may be any, less is asked
 pub widened : (points k l : ℕ) (edges : List NetEdge) (t : Table) → k ≤ l → HasWays points k edges t → HasWays points l edges t
@@ -45,7 +49,7 @@ module _ (points : ℕ) (edges : List NetEdge) (t : Table) (w : HasWays points p
   step_on : (x y : ℕ) (d : Distance) → t x y ≡ Some d → (e : NetEdge) (b : Begins points edges t x y d e) (n : Numbered edges e) → Way points edges t e.y y → Way points edges t x y
   step_on x y d is e b n rest =
       let P : NetEdge → Type 0 = λ f. Begins points edges t x y d f in
-      let Q : NetEdge → Type 0 = λ f. Follows points edges t f.y y rest.numbers in
+      let Q : NetEdge → Type 0 = λ f. FollowsWay points edges t f.y y rest.numbers in
       record {
         numbers = n.number ∷ rest.numbers;
         follows = (record { known = n.known; distance = d; here = is; begins = subst P (sym n.is) b }, subst Q (sym n.is) rest.follows);
@@ -72,19 +76,19 @@ module _ (points : ℕ) (edges : List NetEdge) (t : Table) (w : HasWays points p
 
   -- ---- what a way has
 
-  pub follows_leads : (x y : ℕ) (numbers : List ℕ) → Follows points edges t x y numbers → Leads x (map (edge_at edges) numbers) y
+  pub follows_leads : (x y : ℕ) (numbers : List ℕ) → FollowsWay points edges t x y numbers → LeadsWay x (map (edge_at edges) numbers) y
   follows_leads x y [] h = h
   follows_leads x y (n ∷ numbers) h = (h.0.begins.from, follows_leads (edge_at edges n).y y numbers h.1)
 
-  pub follows_known : (x y : ℕ) (numbers : List ℕ) → Follows points edges t x y numbers → AllByRecursion (λ n. n < length edges) numbers
+  pub follows_known : (x y : ℕ) (numbers : List ℕ) → FollowsWay points edges t x y numbers → AllByRecursion (λ n. n < length edges) numbers
   follows_known x y [] h = tt
   follows_known x y (n ∷ numbers) h = (h.0.known, follows_known (edge_at edges n).y y numbers h.1)
 
-  pub follows_members : (x y : ℕ) (numbers : List ℕ) → Follows points edges t x y numbers → AllByRecursion (Contains edges) (map (edge_at edges) numbers)
+  pub follows_members : (x y : ℕ) (numbers : List ℕ) → FollowsWay points edges t x y numbers → AllByRecursion (Contains edges) (map (edge_at edges) numbers)
   follows_members x y [] h = tt
   follows_members x y (n ∷ numbers) h = (h.0.begins.member, follows_members (edge_at edges n).y y numbers h.1)
 
-  among_at : (x y n : ℕ) → Steps points edges t x y n → IsAmong points (edge_at edges n)
+  among_at : (x y n : ℕ) → StepsWay points edges t x y n → HasItsPoints points (edge_at edges n)
   among_at x y n s = ends_among points edges (edge_at edges n) w.among s.begins.member
 
   -- the distance is the way's sum and its number of edges
@@ -92,7 +96,7 @@ module _ (points : ℕ) (edges : List NetEdge) (t : Table) (w : HasWays points p
     pub sum : d.sum ≡ total (map (edge_at edges) numbers)
     pub count : d.edges ≡ length numbers
 
-  pub measured : (x y : ℕ) → y < points → (numbers : List ℕ) → Follows points edges t x y numbers → (d : Distance) → t x y ≡ Some d → Measures d numbers
+  pub measured : (x y : ℕ) → y < points → (numbers : List ℕ) → FollowsWay points edges t x y numbers → (d : Distance) → t x y ≡ Some d → Measures d numbers
   measured x y yp [] h d is =
       let at_y : t y y ≡ Some d = subst (λ p. t p y ≡ Some d) h is in
       let e : d ≡ zero_distance = same_distance (t y y) d zero_distance at_y (w.own y yp) in
@@ -118,7 +122,7 @@ module _ (points : ℕ) (edges : List NetEdge) (t : Table) (w : HasWays points p
   near_more y m n le [] h = tt
   near_more y m n le (p ∷ ps) h = (record { inside = h.0.inside; distance = h.0.distance; at = h.0.at; nearer = (let l = h.0.nearer in omega arith) }, near_more y m n le ps h.1)
 
-  near_later : (x y : ℕ) → y < points → (numbers : List ℕ) → Follows points edges t x y numbers → AllByRecursion (Near y (length numbers)) (map (λ (e : NetEdge). e.y) (map (edge_at edges) numbers))
+  near_later : (x y : ℕ) → y < points → (numbers : List ℕ) → FollowsWay points edges t x y numbers → AllByRecursion (Near y (length numbers)) (map (λ (e : NetEdge). e.y) (map (edge_at edges) numbers))
   near_later x y yp [] h = tt
   near_later x y yp (n ∷ numbers) h =
       let b = h.0.begins in
@@ -142,7 +146,7 @@ module _ (points : ℕ) (edges : List NetEdge) (t : Table) (w : HasWays points p
     apart x y d is ps h.1,
   )
 
-  pub distinct : (x y : ℕ) → y < points → (numbers : List ℕ) → Follows points edges t x y numbers → IsDistinct eqb (points_of x (map (edge_at edges) numbers))
+  pub distinct : (x y : ℕ) → y < points → (numbers : List ℕ) → FollowsWay points edges t x y numbers → IsDistinct eqb (points_of x (map (edge_at edges) numbers))
   unfolding IsDistinct
   distinct x y yp [] h = (tt, tt)
   distinct x y yp (n ∷ numbers) h =
@@ -161,7 +165,7 @@ module _ (points : ℕ) (edges : List NetEdge) (t : Table) (w : HasWays points p
         | inr ne ↦ inside_all y m ps h.1 q (subst (λ b. b || list_any (eqb q) ps ≡ true) ne.0 any)
       ]
 
-  few_points : (x y : ℕ) → x < points → y < points → (numbers : List ℕ) → Follows points edges t x y numbers → length numbers ≤ 15
+  few_points : (x y : ℕ) → x < points → y < points → (numbers : List ℕ) → FollowsWay points edges t x y numbers → length numbers ≤ 15
   few_points x y xp yp numbers h =
       let later = map (λ (e : NetEdge). e.y) (map (edge_at edges) numbers) in
       let inside : (q : ℕ) → list_any (eqb q) (x ∷ later) ≡ true → q < points = λ q any.
@@ -179,16 +183,16 @@ module _ (points : ℕ) (edges : List NetEdge) (t : Table) (w : HasWays points p
     low : (negsuc 9007199254740992 *ℤ pos count) ≤ℤ sum
     high : sum ≤ℤ (pos 9007199254740993 *ℤ pos count)
 
-  bounded : (x y : ℕ) (numbers : List ℕ) → Follows points edges t x y numbers → Bounded (total (map (edge_at edges) numbers)) (length numbers)
+  bounded : (x y : ℕ) (numbers : List ℕ) → FollowsWay points edges t x y numbers → Bounded (total (map (edge_at edges) numbers)) (length numbers)
   bounded x y [] h = record { low = omega (arith, ints); high = omega (arith, ints) }
   bounded x y (n ∷ numbers) h =
-      let small = All-contains IsSmall edges (edge_at edges n) w.small h.0.begins.member in
+      let small = All-contains IsSmallEdge edges (edge_at edges n) w.small h.0.begins.member in
       let rest = bounded (edge_at edges n).y y numbers h.1 in
       let low = rest.low in
       let high = rest.high in
       record { low = omega (arith, ints); high = omega (arith, ints) }
 
-  pub short : (x y : ℕ) (d : Distance) → x < points → y < points → t x y ≡ Some d → IsShort d
+  pub short : (x y : ℕ) (d : Distance) → x < points → y < points → t x y ≡ Some d → IsShortDistance d
   short x y d xp yp is =
       let way = way_of x y d xp yp is in
       let m = measured x y yp way.numbers way.follows d is in
@@ -200,8 +204,8 @@ module _ (points : ℕ) (edges : List NetEdge) (t : Table) (w : HasWays points p
       let sum = m.sum in
       record { few = omega arith; low = omega (arith, ints); high = omega (arith, ints) }
 
-  pub known_short : (x y : ℕ) → x < points → y < points → IfSome (t x y) IsShort
+  pub known_short : (x y : ℕ) → x < points → y < points → IfSome (t x y) IsShortDistance
   known_short x y xp yp = short_if (t x y) (λ d is. short x y d xp yp is) where
-    short_if : (o : Option Distance) → ((d : Distance) → o ≡ Some d → IsShort d) → IfSome o IsShort
+    short_if : (o : Option Distance) → ((d : Distance) → o ≡ Some d → IsShortDistance d) → IfSome o IsShortDistance
     short_if None h = tt
     short_if (Some d) h = h d refl

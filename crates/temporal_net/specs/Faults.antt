@@ -6,6 +6,6 @@ use Rattle.temporal_net.specs.declared.net.NetFault.TheVariants.{NegativeCycle, 
 use Rattle.temporal_net.specs.Networks.{IsSolvable, IsNegativeCycle}
 
 -- a negative cycle stands in the network, which has no solution; want of memory says nothing of it
-abbrev pub Tells : List NetEdge → NetFault → Type 0
-Tells edges (NegativeCycle cycle) = IsNegativeCycle edges cycle × (IsSolvable edges → ⊥)
-Tells edges NoMemory = Unit {0}
+abbrev pub TellsNetFault : List NetEdge → NetFault → Type 0
+TellsNetFault edges (NegativeCycle cycle) = IsNegativeCycle edges cycle × (IsSolvable edges → ⊥)
+TellsNetFault edges NoMemory = Unit {0}

@@ -13,33 +13,33 @@ pub record Network : Type 0 where
 -- ---- solutions: a whole number for each point
 
 -- the edge holds of these numbers
-abbrev pub Meets : (ℕ → ℤ) → NetEdge → Type 0
-Meets v e = (v e.x -ℤ v e.y) ≤ℤ e.most
+abbrev pub MeetsEdge : (ℕ → ℤ) → NetEdge → Type 0
+MeetsEdge v e = (v e.x -ℤ v e.y) ≤ℤ e.most
 
 -- every edge holds
-abbrev pub Solves : List NetEdge → (ℕ → ℤ) → Type 0
-Solves edges v = All (Meets v) edges
+abbrev pub SolvesEdges : List NetEdge → (ℕ → ℤ) → Type 0
+SolvesEdges edges v = All (MeetsEdge v) edges
 
 abbrev pub IsSolvable : List NetEdge → Type 0
-IsSolvable edges = (v : ℕ → ℤ) × Solves edges v
+IsSolvable edges = (v : ℕ → ℤ) × SolvesEdges edges v
 
 -- b is the greatest difference of x and y: no solution has a greater one, and some solution has it
 pub record IsGreatest (edges : List NetEdge) (x y : ℕ) (b : ℤ) : Type 0 where
-  pub bounds : (v : ℕ → ℤ) → Solves edges v → (v x -ℤ v y) ≤ℤ b
-  pub attained : (v : ℕ → ℤ) × Solves edges v × ((v x -ℤ v y) ≡ b)
+  pub bounds : (v : ℕ → ℤ) → SolvesEdges edges v → (v x -ℤ v y) ≤ℤ b
+  pub attained : (v : ℕ → ℤ) × SolvesEdges edges v × ((v x -ℤ v y) ≡ b)
 
 abbrev pub HasGreatest : List NetEdge → ℕ → ℕ → Type 0
 HasGreatest edges x y = (b : ℤ) × IsGreatest edges x y b
 
 -- there are solutions, and the difference of x and y passes each number in one of them
-pub record IsUnbounded (edges : List NetEdge) (x y : ℕ) : Type 0 where
+pub record IsUnboundedDifference (edges : List NetEdge) (x y : ℕ) : Type 0 where
   pub solvable : IsSolvable edges
-  pub passes : (b : ℤ) → (v : ℕ → ℤ) × Solves edges v × (b <ℤ (v x -ℤ v y))
+  pub passes : (b : ℤ) → (v : ℕ → ℤ) × SolvesEdges edges v × (b <ℤ (v x -ℤ v y))
 
 -- what a bound says of x and y
 abbrev pub IsBound : List NetEdge → ℕ → ℕ → Bound → Type 0
 IsBound edges x y (Finite b) = IsGreatest edges x y b
-IsBound edges x y Infinite = IsUnbounded edges x y
+IsBound edges x y Infinite = IsUnboundedDifference edges x y
 
 -- where it is finite, the bound is at most 15 * (2^53 + 1) in size: the sum of a way of at most 15 small edges
 abbrev pub IsWithinNetwork : Bound → Type 0
@@ -49,9 +49,9 @@ IsWithinNetwork Infinite = Unit {0}
 -- ---- ways along edges
 
 -- the edges lead from x to y, each from the end of the one before
-abbrev pub Leads : ℕ → List NetEdge → ℕ → Type 0
-Leads x [] y = x ≡ y
-Leads x (e ∷ way) y = (e.x ≡ x) × Leads e.y way y
+abbrev pub LeadsWay : ℕ → List NetEdge → ℕ → Type 0
+LeadsWay x [] y = x ≡ y
+LeadsWay x (e ∷ way) y = (e.x ≡ x) × LeadsWay e.y way y
 
 -- the sum of what the edges allow
 abbrev pub total : List NetEdge → ℤ
@@ -61,7 +61,7 @@ total (e ∷ way) = e.most +ℤ total way
 -- a way from x to y in the network
 pub record IsWay (edges : List NetEdge) (x y : ℕ) (way : List NetEdge) : Type 0 where
   pub members : All (Contains edges) way
-  pub leads : Leads x way y
+  pub leads : LeadsWay x way y
 
 -- the points of a way that begins at x
 abbrev pub points_of : ℕ → List NetEdge → List ℕ
@@ -85,15 +85,15 @@ edge_at edges number = slice_index_or edges number (record { x = 0; y = 0; most 
 pub record IsNegativeCycle (edges : List NetEdge) (cycle : List ℕ) : Type 0 where
   pub numbers : All (λ number. number < length edges) cycle
   pub some : cycle ≢ []
-  pub closes : (x : ℕ) × Leads x (map (edge_at edges) cycle) x
+  pub closes : (x : ℕ) × LeadsWay x (map (edge_at edges) cycle) x
   pub negative : total (map (edge_at edges) cycle) <ℤ pos 0
 
 -- ---- what a caller of `solve` gives
 
 -- both ends are points of the network
-abbrev pub IsAmong : ℕ → NetEdge → Type 0
-IsAmong points e = (e.x < points) × (e.y < points)
+abbrev pub HasItsPoints : ℕ → NetEdge → Type 0
+HasItsPoints points e = (e.x < points) × (e.y < points)
 
 -- at most 2^53 + 1 in size
-abbrev pub IsSmall : NetEdge → Type 0
-IsSmall e = (negsuc 9007199254740992 ≤ℤ e.most) × (e.most ≤ℤ pos 9007199254740993)
+abbrev pub IsSmallEdge : NetEdge → Type 0
+IsSmallEdge e = (negsuc 9007199254740992 ≤ℤ e.most) × (e.most ≤ℤ pos 9007199254740993)

@@ -1,11 +1,12 @@
 -- Tables of least distances between points, by the points that ways may go through.
-use Rattle.std.specs.Prelude.{◌≡◌, ◌≢◌, ℕ, ◌+◌, ◌<◌, ◌≤◌, ◌⊎◌, ℤ, pos, negsuc, ◌+ℤ◌, ◌*ℤ◌, ◌≤ℤ◌, List, [], ◌∷◌, length, Bool, false, ◌&&◌, eqb, cond, get_or, Option, Some, None}
+use Rattle.std.specs.Prelude.{◌≡◌, ◌≢◌, ℕ, ◌+◌, ◌<◌, ◌≤◌, ◌⊎◌, ℤ, pos, negsuc, ◌+ℤ◌, ◌*ℤ◌, ◌≤ℤ◌, List, [], ◌∷◌, length, Bool, false, ◌&&◌, eqb, cond, get_or}
+use Rattle.std.specs.Prelude.{Option, Some, None}
 use Rattle.std.specs.List.{All, Contains}
 use Rattle.std.specs.Int.Signed.{lt_z}
 use Rattle.std.specs.Ordering.{int_eq}
 use Rattle.temporal_net.specs.declared.edge.NetEdge.{NetEdge}
 use Rattle.temporal_net.specs.declared.distance.Distance.{Distance}
-use Rattle.temporal_net.specs.Networks.{IsAmong, IsSmall, edge_at}
+use Rattle.temporal_net.specs.Networks.{HasItsPoints, IsSmallEdge, edge_at}
 
 abbrev pub Table : Type 0
 Table = ℕ → ℕ → Option Distance
@@ -45,19 +46,19 @@ lowered known (Some first) None = known
 lowered known None second = known
 
 -- at most 15 edges, and a sum that as many edges can have
-pub record IsShort (d : Distance) : Type 0 where
+pub record IsShortDistance (d : Distance) : Type 0 where
   pub few : d.edges ≤ 15
   pub low : (negsuc 9007199254740992 *ℤ pos d.edges) ≤ℤ d.sum
   pub high : d.sum ≤ℤ (pos 9007199254740993 *ℤ pos d.edges)
 
 -- each known distance between two points is short
 abbrev pub AllShort : List (List (Option Distance)) → Type 0
-AllShort rows = (x y : ℕ) → x < length rows → y < length rows → (d : Distance) → cell rows x y ≡ Some d → IsShort d
+AllShort rows = (x y : ℕ) → x < length rows → y < length rows → (d : Distance) → cell rows x y ≡ Some d → IsShortDistance d
 
 -- some distance is known, and it costs at most c
-abbrev pub Reaches : Option Distance → ℤ → Type 0
-Reaches None c = ⊥
-Reaches (Some d) c = cost d ≤ℤ c
+abbrev pub ReachesWithin : Option Distance → ℤ → Type 0
+ReachesWithin None c = ⊥
+ReachesWithin (Some d) c = cost d ≤ℤ c
 
 -- e begins a way from x to y of distance d that goes through points below k alone, and the table has the rest of it
 pub record Begins (k : ℕ) (edges : List NetEdge) (t : Table) (x y : ℕ) (d : Distance) (e : NetEdge) : Type 0 where
@@ -72,20 +73,20 @@ pub record Begins (k : ℕ) (edges : List NetEdge) (t : Table) (x y : ℕ) (d : 
 -- each point is at no distance from itself, and each other distance is that of a way
 pub record HasWays (points k : ℕ) (edges : List NetEdge) (t : Table) : Type 0 where
   pub few : points ≤ 16
-  pub among : All (IsAmong points) edges
-  pub small : All IsSmall edges
+  pub among : All (HasItsPoints points) edges
+  pub small : All IsSmallEdge edges
   pub own : (p : ℕ) → p < points → t p p ≡ Some zero_distance
   pub begins : (x y : ℕ) → x < points → y < points → x ≢ y → (d : Distance) → t x y ≡ Some d → (e : NetEdge) × Begins k edges t x y d e
 
 -- the table has the least distances over ways that go through points below k alone
-pub record IsTable (points k : ℕ) (edges : List NetEdge) (t : Table) : Type 0 where
+pub record IsDistanceTable (points k : ℕ) (edges : List NetEdge) (t : Table) : Type 0 where
   pub ways : HasWays points k edges t
-  pub direct : (e : NetEdge) → Contains edges e → Reaches (t e.x e.y) (edge_cost e)
-  pub triangle : (i x y : ℕ) → i < k → x < points → y < points → (a b : ℤ) → Reaches (t x i) a → Reaches (t i y) b → Reaches (t x y) (a +ℤ b)
+  pub direct : (e : NetEdge) → Contains edges e → ReachesWithin (t e.x e.y) (edge_cost e)
+  pub triangle : (i x y : ℕ) → i < k → x < points → y < points → (a b : ℤ) → ReachesWithin (t x i) a → ReachesWithin (t i y) b → ReachesWithin (t x y) (a +ℤ b)
 
 -- rows, one for each point, that are a table
 abbrev pub AreTable : ℕ → List NetEdge → List (List (Option Distance)) → Type 0
-AreTable k edges rows = IsTable (length rows) k edges (cell rows)
+AreTable k edges rows = IsDistanceTable (length rows) k edges (cell rows)
 
 -- the same, where only the ways are asked for
 abbrev pub HaveWays : List NetEdge → List (List (Option Distance)) → Type 0
@@ -110,13 +111,13 @@ opens (Some whole) None most = false
 opens None rest most = false
 
 -- the edge with this number begins the way from x to y
-pub record Steps (points : ℕ) (edges : List NetEdge) (t : Table) (x y number : ℕ) : Type 0 where
+pub record StepsWay (points : ℕ) (edges : List NetEdge) (t : Table) (x y number : ℕ) : Type 0 where
   pub known : number < length edges
   pub distance : Distance
   pub here : t x y ≡ Some distance
   pub begins : Begins points edges t x y distance (edge_at edges number)
 
 -- the edges with these numbers are a way from x to y whose distances the table has
-abbrev pub Follows : ℕ → List NetEdge → Table → ℕ → ℕ → List ℕ → Type 0
-Follows points edges t x y [] = x ≡ y
-Follows points edges t x y (number ∷ numbers) = Steps points edges t x y number × Follows points edges t (edge_at edges number).y y numbers
+abbrev pub FollowsWay : ℕ → List NetEdge → Table → ℕ → ℕ → List ℕ → Type 0
+FollowsWay points edges t x y [] = x ≡ y
+FollowsWay points edges t x y (number ∷ numbers) = StepsWay points edges t x y number × FollowsWay points edges t (edge_at edges number).y y numbers

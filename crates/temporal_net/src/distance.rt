@@ -11,7 +11,7 @@ pub struct Distance {
 }
 
 impl Distance {
-    ghost use Rattle.temporal_net.specs.Tables.{cost, edge_distance, joined, lesser, zero_distance, IsShort};
+    ghost use Rattle.temporal_net.specs.Tables.{cost, edge_distance, joined, lesser, zero_distance, IsShortDistance};
 
     /// The distance of a point from itself.
     pub fn zero() -> Distance
@@ -32,8 +32,8 @@ impl Distance {
 
     /// The distance over a way and then another.
     pub fn then(self, next: Distance) -> Distance
-        requires first { IsShort self }
-        requires second { IsShort next }
+        requires first { IsShortDistance self }
+        requires second { IsShortDistance next }
         ensures { result ≡ joined self next }
     {
         Distance {

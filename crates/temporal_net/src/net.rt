@@ -1,7 +1,7 @@
 ghost use Rattle.std.specs.Prelude.{◌≡◌, ◌<◌, ◌≤◌, length, IfErr, IfOk, OnOk, true};
 ghost use Rattle.std.specs.List.{All};
-ghost use Rattle.temporal_net.specs.Faults.{Tells};
-ghost use Rattle.temporal_net.specs.Networks.{IsAmong, IsNegativeCycle, IsSmall, IsSolvable};
+ghost use Rattle.temporal_net.specs.Faults.{TellsNetFault};
+ghost use Rattle.temporal_net.specs.Networks.{HasItsPoints, IsNegativeCycle, IsSmallEdge, IsSolvable};
 ghost use Rattle.temporal_net.specs.Tables.{AreTable, HaveWays, loses_over};
 
 use crate::table::{self, Row};
@@ -46,11 +46,11 @@ impl Net {
     /// Meiri, Pearl 1991). It answers `NegativeCycle` exactly where there is no solution, and else `NoMemory` alone.
     pub fn solve(alloc: Global, points: u8, edges: &[NetEdge]) -> Result<Minimal, NetFault>
         requires few { points ≤ 16 }
-        requires among { All (IsAmong points) edges.now }
-        requires small { All IsSmall edges.now }
+        requires among { All (HasItsPoints points) edges.now }
+        requires small { All IsSmallEdge edges.now }
         ensures network { IfOk result (λ minimal. minimal ≡ record { points = points; edges = edges.now }) }
         ensures solvable { OnOk result (IsSolvable edges.now) }
-        ensures fault { IfErr result (Tells edges.now) }
+        ensures fault { IfErr result (TellsNetFault edges.now) }
     {
         let mut rows = direct_rows(alloc, points, edges)?;
         for via in 0..rows.len() {
@@ -66,11 +66,11 @@ impl Net {
 /// The table of the edges alone.
 fn direct_rows(alloc: Global, points: u8, edges: &[NetEdge]) -> Result<Vec<Row>, NetFault>
     requires few { points ≤ 16 }
-    requires among { All (IsAmong points) edges.now }
-    requires small { All IsSmall edges.now }
+    requires among { All (HasItsPoints points) edges.now }
+    requires small { All IsSmallEdge edges.now }
     ensures tall { IfOk result (λ rows. length rows.items ≡ points) }
     ensures table { IfOk result (λ rows. AreTable 0 edges.now rows.items) }
-    ensures fault { IfErr result (Tells edges.now) }
+    ensures fault { IfErr result (TellsNetFault edges.now) }
 {
     let mut rows = table::bare_rows(alloc, points)?;
     for (number, edge) in edges.iter().enumerate() {

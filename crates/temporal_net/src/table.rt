@@ -1,7 +1,7 @@
 ghost use Rattle.std.specs.Prelude.{◌≡◌, ◌≢◌, ℕ, ◌+◌, ◌<◌, ◌≤◌, List, [], map, length, take, get_or, Option, Some, None, true, false, IfNone, IfSome, IfOk, pos, ◌≤ℤ◌};
 ghost use Rattle.std.specs.List.{All};
-ghost use Rattle.temporal_net.specs.Networks.{IsAmong, IsSmall, edge_at};
-ghost use Rattle.temporal_net.specs.Tables.{cell, loses, loses_over, lowered, opens, AllShort, AreTable, HaveWays, IsShort, Steps, Follows};
+ghost use Rattle.temporal_net.specs.Networks.{HasItsPoints, IsSmallEdge, edge_at};
+ghost use Rattle.temporal_net.specs.Tables.{cell, loses, loses_over, lowered, opens, AllShort, AreTable, HaveWays, IsShortDistance, StepsWay, FollowsWay};
 
 use crate::NetEdge;
 use crate::distance::Distance;
@@ -32,8 +32,8 @@ pub fn bare_rows(alloc: Global, points: u8) -> Result<Vec<Row>, NoMemory>
 /// Takes the edge with this number into rows that have the edges before it.
 pub fn add_edge(rows: &mut [Row], edges: &[NetEdge], number: usize)
     requires known { number < length edges.now }
-    requires among { IsAmong (length rows.old) (edge_at edges.now number) }
-    requires small { IsSmall (edge_at edges.now number) }
+    requires among { HasItsPoints (length rows.old) (edge_at edges.now number) }
+    requires small { IsSmallEdge (edge_at edges.now number) }
     requires turn { (edge_at edges.now number).x ≡ (edge_at edges.now number).y → pos 0 ≤ℤ (edge_at edges.now number).most }
     requires table { AreTable 0 (take number edges.now) rows.old }
     ensures { AreTable 0 (take (number + 1) edges.now) rows.new }
@@ -63,8 +63,8 @@ pub fn losing_point(rows: &[Row], via: usize) -> Option<usize>
 
 /// Whether a way there and back has a sum below 0.
 fn loses_round(out: Option<Distance>, back: Option<Distance>) -> bool
-    requires out { IfSome out IsShort }
-    requires back { IfSome back IsShort }
+    requires out { IfSome out IsShortDistance }
+    requires back { IfSome back IsShortDistance }
     ensures { result ≡ loses out back }
 {
     match (out, back) {
@@ -94,9 +94,9 @@ pub fn lower_over(rows: &mut [Row], via: usize)
 /// Lowers the first distances of a row by a first way and then those of another row.
 fn lower_row(row: &mut Row, points: usize, first: Distance, through: &Row)
     requires few { points ≤ 16 }
-    requires first { IsShort first }
-    requires known { (y : ℕ) → y < points → IfSome (get_or row.old y None) IsShort }
-    requires second { (y : ℕ) → y < points → IfSome (get_or through.now y None) IsShort }
+    requires first { IsShortDistance first }
+    requires known { (y : ℕ) → y < points → IfSome (get_or row.old y None) IsShortDistance }
+    requires second { (y : ℕ) → y < points → IfSome (get_or through.now y None) IsShortDistance }
     ensures { (y : ℕ) → y < points → get_or row.new y None ≡ lowered (get_or row.old y None) (Some first) (get_or through.now y None) }
 {
     for y in 0..points {
@@ -119,7 +119,7 @@ pub fn way(
     requires from { from < length rows.now }
     requires to { to < length rows.now }
     requires known { cell rows.now from to ≢ None }
-    ensures { IfOk result (λ way. Follows (length rows.now) edges.now (cell rows.now) from to way.items) }
+    ensures { IfOk result (λ way. FollowsWay (length rows.now) edges.now (cell rows.now) from to way.items) }
 {
     let mut numbers = Vec::new(alloc);
     let mut at = from;
@@ -138,7 +138,7 @@ fn first_edge(edges: &[NetEdge], rows: &[Row], from: usize, to: usize) -> usize
     requires to { to < length rows.now }
     requires known { cell rows.now from to ≢ None }
     requires apart { from ≢ to }
-    ensures { Steps (length rows.now) edges.now (cell rows.now) from to result }
+    ensures { StepsWay (length rows.now) edges.now (cell rows.now) from to result }
 {
     for (number, edge) in edges.iter().enumerate() {
         if edge.x as usize == from && leaves_rest(rows[from][to], rows[edge.y as usize][to], edge) {
@@ -150,8 +150,8 @@ fn first_edge(edges: &[NetEdge], rows: &[Row], from: usize, to: usize) -> usize
 
 /// Whether the edge leaves the rest of the whole distance.
 fn leaves_rest(whole: Option<Distance>, rest: Option<Distance>, edge: &NetEdge) -> bool
-    requires small { IsSmall edge.now }
-    requires rest { IfSome rest IsShort }
+    requires small { IsSmallEdge edge.now }
+    requires rest { IfSome rest IsShortDistance }
     ensures { result ≡ opens whole rest edge.now.most }
 {
     match (whole, rest) {

@@ -1,11 +1,16 @@
 -- The edges of each word are those of an operator.
-use Rattle.temporal_ops.proofs.Common.{◌≡◌, ℤ, pos, ◌^◌, ◌≤◌, not, List, [], ◌∷◌, length, Option, Some, None, IfSome, map, option_map, refl, arith, lit≤, length-map, int_max, ints, clamps, Corner, AStart, AEnd, BStart, BEnd, OpEdge, OpWord, After, Before, Coincides, During, Includes, Finishes, FinishedBy, Starts, StartedBy, Meets, MetBy, Overlaps, OverlappedBy, is_tested, IsOp, near, tolerance, gap_edges, coincide_edges, during_edges, order_edges, overlaps_edges, opposite, opposite_edge, int_min, AllByRecursion, All-from_recursion, recursion_from_All, All-map, All-weaker, IsWithin, IsOpEdge, EdgesAreOps, at_most, at_least, earlier}
+use Rattle.temporal_ops.proofs.Common.{◌≡◌, ℤ, pos, ◌^◌, ◌≤◌, not, List, [], ◌∷◌, length, Option, Some, None, IfSome, map, option_map, refl, arith, lit≤}
+use Rattle.temporal_ops.proofs.Common.{length-map, int_max, ints, clamps, Corner, AStart, AEnd, BStart, BEnd, OpEdge, OpWord, After, Before, Coincides, During}
+use Rattle.temporal_ops.proofs.Common.{Includes, Finishes, FinishedBy, Starts, StartedBy, Meets, MetBy, Overlaps, OverlappedBy, is_tested, IsOp, near}
+use Rattle.temporal_ops.proofs.Common.{tolerance, gap_edges, coincide_edges, during_edges, order_edges, overlaps_edges, opposite, opposite_edge, int_min}
+use Rattle.temporal_ops.proofs.Common.{AllByRecursion, All-from_recursion, recursion_from_All, All-map, All-weaker, IsWithin, IsOpEdge, EdgesAreOps, at_most}
+use Rattle.temporal_ops.proofs.Common.{least_difference, earlier}
 use Rattle.temporal_ops.specs.Operators.{edges_of}
 
 pub upper : (x y : Corner) (most : ℤ) → is_tested x ≡ not (is_tested y) → IsWithin (2 ^ 53) most → IsOpEdge (at_most x y most)
 upper x y most j h = record { joins = j; sized = (omega (arith, ints), omega (arith, ints)) }
 
-pub lower : (x y : Corner) (least : ℤ) → is_tested y ≡ not (is_tested x) → IsWithin (2 ^ 53) least → IsOpEdge (at_least x y least)
+pub lower : (x y : Corner) (least : ℤ) → is_tested y ≡ not (is_tested x) → IsWithin (2 ^ 53) least → IsOpEdge (least_difference x y least)
 lower x y least j h = record { joins = j; sized = (omega (arith, ints), omega (arith, ints)) }
 
 op_of : (edges : List OpEdge) → length edges ≤ 5 → AllByRecursion IsOpEdge edges → IsOp edges

@@ -1,7 +1,11 @@
 -- What an edge takes out of the room, and what the room says of starts.
-use Rattle.temporal_ops.proofs.Common.{◌≡◌, ◌↔◌, ℕ, ℤ, ◌+◌, ◌<◌, ◌≤◌, ◌+ℤ◌, ◌-ℤ◌, ◌≤ℤ◌, Bool, true, false, ◌&&◌, List, length, take, get_or, Option, Some, None, refl, sym, ap, ◌∙◌, arith, int_max, list_all, ints, clamps, take_all, Times, Corner, AStart, AEnd, OpEdge, Limits, Room, corner, edge_holds, all_hold, IsLatest, IsPossible, IsUnbounded, is_empty, IsAbove, IsBelow, IsBetween, Fits, FitsEvent, AreStartLimits}
+use Rattle.temporal_ops.proofs.Common.{◌≡◌, ◌↔◌, ℕ, ℤ, ◌+◌, ◌<◌, ◌≤◌, ◌+ℤ◌, ◌-ℤ◌, ◌≤ℤ◌, Bool, true, false, ◌&&◌, List, length, take, get_or, Option, Some, None}
+use Rattle.temporal_ops.proofs.Common.{refl, sym, ap, ◌∙◌, arith, int_max, list_all, ints, clamps, take_all, Times, Corner, AStart, AEnd, OpEdge, Limits, Room}
+use Rattle.temporal_ops.proofs.Common.{corner, edge_holds, all_hold, IsLatest, ArePossibleTimes, AreStartsUnbounded, is_empty, IsAboveLimit, IsBelow}
+use Rattle.temporal_ops.proofs.Common.{LiesBetweenLimits, FitsRoom, FitsEvent, AreStartLimits}
+use Rattle.std.proofs.lemmas.Bool.{and_from, and_parts}
 use Rattle.std.proofs.lemmas.List.Folds.{list_all_more}
-use Rattle.temporal_ops.proofs.Rows.{both, joined, edge_bounds}
+use Rattle.temporal_ops.proofs.Rows.{edge_bounds}
 
 -- one test more of a list
 pub one_more : {X : Type 0} (p : X → Bool) (xs : List X) (i : ℕ) (x d : X) → i < length xs → x ≡ get_or xs i d
@@ -12,9 +16,9 @@ one_more {X} p xs i x d below is A B C old new =
       λ c.
           let n = new.0 c in
           let o = old.0 n.0 in
-          (o.0, e ∙ joined (list_all p (take i xs)) (p x) o.1 n.1),
+          (o.0, e ∙ and_from (list_all p (take i xs)) (p x) o.1 n.1),
       λ h.
-          let q = both (list_all p (take i xs)) (p x) (sym e ∙ h.1) in
+          let q = and_parts (list_all p (take i xs)) (p x) (sym e ∙ h.1) in
           new.1 (old.1 (h.0, q.0), q.1),
     )
 
@@ -29,8 +33,8 @@ edge_at t b edge x y is-x is-y =
 module _ (room : Room) (new : Limits) (b : Times) (edge : OpEdge) (z : Corner) (limit : ℤ) where
   -- as an upper limit of the start
   pub start_end_by : edge.x ≡ AStart → edge.y ≡ z → ((t : Times) → limit ≡ corner z t b +ℤ edge.most)
-      → ((p : ℤ) → IsBetween new p ↔ (IsBetween room.start p × (p ≤ℤ limit)))
-      → (t : Times) → Fits (record { start = new; end = room.end }) t ↔ (Fits room t × (edge_holds t b edge ≡ true))
+      → ((p : ℤ) → LiesBetweenLimits new p ↔ (LiesBetweenLimits room.start p × (p ≤ℤ limit)))
+      → (t : Times) → FitsRoom (record { start = new; end = room.end }) t ↔ (FitsRoom room t × (edge_holds t b edge ≡ true))
   start_end_by is-x is-y is new-is t =
       let e = edge_at t b edge AStart z is-x is-y in
       let l = is t in (
@@ -45,8 +49,8 @@ module _ (room : Room) (new : Limits) (b : Times) (edge : OpEdge) (z : Corner) (
 
   -- as an upper limit of the end
   pub end_end_by : edge.x ≡ AEnd → edge.y ≡ z → ((t : Times) → limit ≡ corner z t b +ℤ edge.most)
-      → ((p : ℤ) → IsBetween new p ↔ (IsBetween room.end p × (p ≤ℤ limit)))
-      → (t : Times) → Fits (record { start = room.start; end = new }) t ↔ (Fits room t × (edge_holds t b edge ≡ true))
+      → ((p : ℤ) → LiesBetweenLimits new p ↔ (LiesBetweenLimits room.end p × (p ≤ℤ limit)))
+      → (t : Times) → FitsRoom (record { start = room.start; end = new }) t ↔ (FitsRoom room t × (edge_holds t b edge ≡ true))
   end_end_by is-x is-y is new-is t =
       let e = edge_at t b edge AEnd z is-x is-y in
       let l = is t in (
@@ -61,8 +65,8 @@ module _ (room : Room) (new : Limits) (b : Times) (edge : OpEdge) (z : Corner) (
 
   -- as a lower limit of the start
   pub start_begin_at : edge.x ≡ z → edge.y ≡ AStart → ((t : Times) → limit ≡ corner z t b -ℤ edge.most)
-      → ((p : ℤ) → IsBetween new p ↔ (IsBetween room.start p × (limit ≤ℤ p)))
-      → (t : Times) → Fits (record { start = new; end = room.end }) t ↔ (Fits room t × (edge_holds t b edge ≡ true))
+      → ((p : ℤ) → LiesBetweenLimits new p ↔ (LiesBetweenLimits room.start p × (limit ≤ℤ p)))
+      → (t : Times) → FitsRoom (record { start = new; end = room.end }) t ↔ (FitsRoom room t × (edge_holds t b edge ≡ true))
   start_begin_at is-x is-y is new-is t =
       let e = edge_at t b edge z AStart is-x is-y in
       let l = is t in (
@@ -77,8 +81,8 @@ module _ (room : Room) (new : Limits) (b : Times) (edge : OpEdge) (z : Corner) (
 
   -- as a lower limit of the end
   pub end_begin_at : edge.x ≡ z → edge.y ≡ AEnd → ((t : Times) → limit ≡ corner z t b -ℤ edge.most)
-      → ((p : ℤ) → IsBetween new p ↔ (IsBetween room.end p × (limit ≤ℤ p)))
-      → (t : Times) → Fits (record { start = room.start; end = new }) t ↔ (Fits room t × (edge_holds t b edge ≡ true))
+      → ((p : ℤ) → LiesBetweenLimits new p ↔ (LiesBetweenLimits room.end p × (limit ≤ℤ p)))
+      → (t : Times) → FitsRoom (record { start = room.start; end = new }) t ↔ (FitsRoom room t × (edge_holds t b edge ≡ true))
   end_begin_at is-x is-y is new-is t =
       let e = edge_at t b edge z AEnd is-x is-y in
       let l = is t in (
@@ -96,7 +100,7 @@ abbrev raised : Option ℤ → ℤ → ℤ
 raised None s = s
 raised (Some least) s = int_max s least
 
-raised_above : (least : Option ℤ) (s : ℤ) → IsAbove least (raised least s)
+raised_above : (least : Option ℤ) (s : ℤ) → IsAboveLimit least (raised least s)
 raised_above None s = tt
 raised_above (Some least) s = omega (arith, ints, clamps)
 
@@ -104,7 +108,7 @@ raised_more : (least : Option ℤ) (s : ℤ) → s ≤ℤ raised least s
 raised_more None s = omega (arith, ints)
 raised_more (Some least) s = omega (arith, ints, clamps)
 
-raised_same : (least : Option ℤ) (s : ℤ) → IsAbove least s → raised least s ≡ s
+raised_same : (least : Option ℤ) (s : ℤ) → IsAboveLimit least s → raised least s ≡ s
 raised_same None s h = refl
 raised_same (Some least) s h = omega (arith, ints, clamps)
 
@@ -115,7 +119,7 @@ raised_below (Some least) None s room h = tt
 raised_below (Some least) (Some greatest) s room h =
     let k : least ≤ℤ greatest = grind (arith, ints) in omega (arith, ints, clamps)
 
-above_at : (least : Option ℤ) (greatest : ℤ) → is_empty least (Some greatest) ≡ false → IsAbove least greatest
+above_at : (least : Option ℤ) (greatest : ℤ) → is_empty least (Some greatest) ≡ false → IsAboveLimit least greatest
 above_at None greatest room = tt
 above_at (Some least) greatest room = grind (arith, ints)
 
@@ -125,7 +129,7 @@ below_less (Some greatest) s e h k = omega (arith, ints)
 
 -- the limits of the starts are met exactly by the starts of the events that fit
 module _ (room : Room) (point : Bool) (starts : Limits) (limits : AreStartLimits room point starts) where
-  pub event_starts : (y : Times) → FitsEvent room point y → IsBetween starts y.start
+  pub event_starts : (y : Times) → FitsEvent room point y → LiesBetweenLimits starts y.start
   event_starts y h = record {
     above = (limits.above y.start).1 (
       h.fits.start.above,
@@ -135,7 +139,7 @@ module _ (room : Room) (point : Bool) (starts : Limits) (limits : AreStartLimits
     below = (limits.below y.start).1 (h.fits.start.below, below_less room.end.greatest y.start y.end h.event.ordered h.fits.end.below);
   }
 
-  start_event : is_empty room.end.least room.end.greatest ≡ false → (s : ℤ) → IsBetween starts s
+  start_event : is_empty room.end.least room.end.greatest ≡ false → (s : ℤ) → LiesBetweenLimits starts s
       → (y : Times) × FitsEvent room point y × (y.start ≡ s)
   start_event space s h =
       let above = (limits.above s).0 h.above in
@@ -157,10 +161,10 @@ module _ (room : Room) (point : Bool) (starts : Limits) (limits : AreStartLimits
 
   -- without an upper limit there is a start beyond every number
   pub endless_starts : starts.greatest ≡ None → is_empty room.end.least room.end.greatest ≡ false
-      → IsUnbounded (FitsEvent room point)
+      → AreStartsUnbounded (FitsEvent room point)
   endless_starts none space n =
       let s : ℤ = raised starts.least n in
-      let between : IsBetween starts s = record { above = raised_above starts.least n; below = rw none tt } in
+      let between : LiesBetweenLimits starts s = record { above = raised_above starts.least n; below = rw none tt } in
       let found = start_event space s between in
       (found.0, found.1, rw found.2 (raised_more starts.least n))
 
@@ -169,7 +173,7 @@ module _ (room : Room) (point : Bool) (starts : Limits) (limits : AreStartLimits
       → is_empty room.end.least room.end.greatest ≡ false → IsLatest (FitsEvent room point) u
   latest_start u is some space =
       let same : u ≤ℤ u = omega (arith, ints) in
-      let between : IsBetween starts u = record { above = above_at starts.least u (rw is at some); below = rw is same } in
+      let between : LiesBetweenLimits starts u = record { above = above_at starts.least u (rw is at some); below = rw is same } in
       let found = start_event space u between in
       record {
         event = found.0;
@@ -180,9 +184,9 @@ module _ (room : Room) (point : Bool) (starts : Limits) (limits : AreStartLimits
 
 -- where the room is what all operators leave, the events that fit are the possible events
 pub fitting_is_possible : (bounds : List (List OpEdge × Times)) (point : Bool) (all room : Room) (i : ℕ)
-    → ((y : Times) → Fits all y) → length bounds ≤ i
-    → ((y : Times) → Fits room y ↔ (Fits all y × (all_hold (take i bounds) y ≡ true)))
-    → (y : Times) → FitsEvent room point y ↔ IsPossible bounds point y
+    → ((y : Times) → FitsRoom all y) → length bounds ≤ i
+    → ((y : Times) → FitsRoom room y ↔ (FitsRoom all y × (all_hold (take i bounds) y ≡ true)))
+    → (y : Times) → FitsEvent room point y ↔ ArePossibleTimes bounds point y
 fitting_is_possible bounds point all room i whole past left y =
     let e : all_hold (take i bounds) y ≡ all_hold bounds y = ap (λ (b : List (List OpEdge × Times)). all_hold b y) (take_all i bounds past) in (
       λ h. record { event = h.event; holds = sym e ∙ ((left y).0 h.fits).1 },

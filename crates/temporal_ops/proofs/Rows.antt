@@ -1,15 +1,12 @@
 -- The edges of each word mean its row of the table.
-use Rattle.temporal_ops.proofs.Common.{◌≡◌, ℤ, ◌-ℤ◌, ◌≤ℤ◌, Bool, true, false, ◌&&◌, List, [], ◌∷◌, Option, Some, None, map, option_map, refl, sym, ◌∙◌, arith, ◌↔◌, list_all, ints, clamps, Times, Corner, AStart, AEnd, BStart, BEnd, OpEdge, After, Before, Coincides, During, Includes, Finishes, FinishedBy, Starts, StartedBy, Meets, MetBy, Overlaps, OverlappedBy, corner, Means, near, tolerance, gap_edges, coincide_edges, during_edges, order_edges, overlaps_edges, opposite, opposite_edge, Row, says, no_row, row_of, EdgesMeanRows, exchanged, during, overlaps}
+use Rattle.temporal_ops.proofs.Common.{◌≡◌, ℤ, ◌-ℤ◌, ◌≤ℤ◌, true, List, [], ◌∷◌, Option, Some, None, map, option_map, refl, sym, ◌∙◌, arith, ◌↔◌, list_all, ints}
+use Rattle.temporal_ops.proofs.Common.{clamps, Times, Corner, AStart, AEnd, BStart, BEnd, OpEdge, After, Before, Coincides, During, Includes, Finishes}
+use Rattle.temporal_ops.proofs.Common.{FinishedBy, Starts, StartedBy, Meets, MetBy, Overlaps, OverlappedBy, corner, Means, near, tolerance, gap_edges}
+use Rattle.temporal_ops.proofs.Common.{coincide_edges, during_edges, order_edges, overlaps_edges, opposite, opposite_edge, Row, says, no_row, table_row_of}
+use Rattle.temporal_ops.proofs.Common.{EdgesMeanRows, exchanged, during, overlaps}
+use Rattle.std.proofs.lemmas.Bool.{and_from, and_parts}
 use Rattle.temporal_ops.specs.Edges.{edge_holds, edges_hold}
 use Rattle.temporal_ops.specs.Operators.{edges_of}
-
-pub both : (p q : Bool) → (p && q) ≡ true → (p ≡ true) × (q ≡ true)
-both true q h = (refl, h)
-both false q h = absurd cc
-
-pub joined : (p q : Bool) → p ≡ true → q ≡ true → (p && q) ≡ true
-joined true q h k = k
-joined false q h k = absurd cc
 
 -- the edges as bounds on numbers
 abbrev pub Bounds : List OpEdge → Times → Times → Type 0
@@ -23,13 +20,13 @@ edge_bounds a b edge = (λ h. grind (arith, ints), λ h. grind (arith, ints))
 pub from_bounds : (edges : List OpEdge) (a b : Times) → Bounds edges a b → edges_hold edges a b ≡ true
 unfolding edges_hold
 from_bounds [] a b h = refl
-from_bounds (edge ∷ edges) a b h = joined _ _ ((edge_bounds a b edge).1 h.0) (from_bounds edges a b h.1)
+from_bounds (edge ∷ edges) a b h = and_from _ _ ((edge_bounds a b edge).1 h.0) (from_bounds edges a b h.1)
 
 pub to_bounds : (edges : List OpEdge) (a b : Times) → edges_hold edges a b ≡ true → Bounds edges a b
 unfolding edges_hold
 to_bounds [] a b h = tt
 to_bounds (edge ∷ edges) a b h =
-    let k = both (edge_holds a b edge) (list_all (edge_holds a b) edges) h in
+    let k = and_parts (edge_holds a b edge) (list_all (edge_holds a b) edges) h in
     ((edge_bounds a b edge).0 k.0, to_bounds edges a b k.1)
 
 -- a row is met where the bounds of its edges are
@@ -37,19 +34,19 @@ by_bounds : (edges : List OpEdge) (P : Times → Times → Type 0) → ((a b : T
     → (a b : Times) → (edges_hold edges a b ≡ true) ↔ P a b
 by_bounds edges P f g a b = (λ h. f a b (to_bounds edges a b h), λ h. from_bounds edges a b (g a b h))
 
-after_rows : (params : List ℤ) → Means (gap_edges AStart BEnd params) (row_of After params)
+after_rows : (params : List ℤ) → Means (gap_edges AStart BEnd params) (table_row_of After params)
 after_rows [] = by_bounds _ _ (λ a b h. omega (arith, ints)) (λ a b h. (omega (arith, ints), tt))
 after_rows (least ∷ []) = by_bounds _ _ (λ a b h. omega (arith, ints)) (λ a b h. (omega (arith, ints), tt))
 after_rows (p ∷ q ∷ []) = by_bounds _ _ (λ a b h. (omega (arith, ints, clamps), omega (arith, ints, clamps))) (λ a b h. (omega (arith, ints, clamps), (omega (arith, ints, clamps), tt)))
 after_rows (p ∷ q ∷ more ∷ others) = tt
 
-before_rows : (params : List ℤ) → Means (gap_edges BStart AEnd params) (row_of Before params)
+before_rows : (params : List ℤ) → Means (gap_edges BStart AEnd params) (table_row_of Before params)
 before_rows [] = by_bounds _ _ (λ a b h. omega (arith, ints)) (λ a b h. (omega (arith, ints), tt))
 before_rows (least ∷ []) = by_bounds _ _ (λ a b h. omega (arith, ints)) (λ a b h. (omega (arith, ints), tt))
 before_rows (p ∷ q ∷ []) = by_bounds _ _ (λ a b h. (omega (arith, ints, clamps), omega (arith, ints, clamps))) (λ a b h. (omega (arith, ints, clamps), (omega (arith, ints, clamps), tt)))
 before_rows (p ∷ q ∷ more ∷ others) = tt
 
-coincide_rows : (params : List ℤ) → Means (coincide_edges params) (row_of Coincides params)
+coincide_rows : (params : List ℤ) → Means (coincide_edges params) (table_row_of Coincides params)
 coincide_rows [] = by_bounds _ _ (λ a b h. (omega (arith, ints), omega (arith, ints))) (λ a b h. (omega (arith, ints), (omega (arith, ints), (omega (arith, ints), (omega (arith, ints), tt)))))
 coincide_rows (most ∷ []) = by_bounds _ _ (λ a b h. ((omega (arith, ints), omega (arith, ints)), (omega (arith, ints), omega (arith, ints)))) (λ a b h. (omega (arith, ints), (omega (arith, ints), (omega (arith, ints), (omega (arith, ints), tt)))))
 coincide_rows (most ∷ end_most ∷ []) = by_bounds _ _ (λ a b h. ((omega (arith, ints), omega (arith, ints)), (omega (arith, ints), omega (arith, ints)))) (λ a b h. (omega (arith, ints), (omega (arith, ints), (omega (arith, ints), (omega (arith, ints), tt)))))
@@ -63,32 +60,32 @@ during_rows (least ∷ most ∷ end_least ∷ []) = tt
 during_rows (least ∷ most ∷ end_least ∷ end_most ∷ []) = by_bounds _ _ (λ a b h. ((omega (arith, ints), omega (arith, ints)), (omega (arith, ints), omega (arith, ints)))) (λ a b h. (omega (arith, ints), (omega (arith, ints), (omega (arith, ints), (omega (arith, ints), tt)))))
 during_rows (least ∷ most ∷ end_least ∷ end_most ∷ more ∷ others) = tt
 
-finish_rows : (params : List ℤ) → Means (order_edges BStart AStart AEnd BEnd params) (row_of Finishes params)
+finish_rows : (params : List ℤ) → Means (order_edges BStart AStart AEnd BEnd params) (table_row_of Finishes params)
 finish_rows [] = by_bounds _ _ (λ a b h. (omega (arith, ints), omega (arith, ints))) (λ a b h. (omega (arith, ints), (omega (arith, ints), (omega (arith, ints), tt))))
 finish_rows (most ∷ []) = by_bounds _ _ (λ a b h. (omega (arith, ints), (omega (arith, ints), omega (arith, ints)))) (λ a b h. (omega (arith, ints), (omega (arith, ints), (omega (arith, ints), tt))))
 finish_rows (most ∷ more ∷ others) = tt
 
-finished_rows : (params : List ℤ) → Means (order_edges AStart BStart AEnd BEnd params) (row_of FinishedBy params)
+finished_rows : (params : List ℤ) → Means (order_edges AStart BStart AEnd BEnd params) (table_row_of FinishedBy params)
 finished_rows [] = by_bounds _ _ (λ a b h. (omega (arith, ints), omega (arith, ints))) (λ a b h. (omega (arith, ints), (omega (arith, ints), (omega (arith, ints), tt))))
 finished_rows (most ∷ []) = by_bounds _ _ (λ a b h. (omega (arith, ints), (omega (arith, ints), omega (arith, ints)))) (λ a b h. (omega (arith, ints), (omega (arith, ints), (omega (arith, ints), tt))))
 finished_rows (most ∷ more ∷ others) = tt
 
-start_rows : (params : List ℤ) → Means (order_edges AEnd BEnd AStart BStart params) (row_of Starts params)
+start_rows : (params : List ℤ) → Means (order_edges AEnd BEnd AStart BStart params) (table_row_of Starts params)
 start_rows [] = by_bounds _ _ (λ a b h. (omega (arith, ints), omega (arith, ints))) (λ a b h. (omega (arith, ints), (omega (arith, ints), (omega (arith, ints), tt))))
 start_rows (most ∷ []) = by_bounds _ _ (λ a b h. ((omega (arith, ints), omega (arith, ints)), omega (arith, ints))) (λ a b h. (omega (arith, ints), (omega (arith, ints), (omega (arith, ints), tt))))
 start_rows (most ∷ more ∷ others) = tt
 
-started_rows : (params : List ℤ) → Means (order_edges BEnd AEnd AStart BStart params) (row_of StartedBy params)
+started_rows : (params : List ℤ) → Means (order_edges BEnd AEnd AStart BStart params) (table_row_of StartedBy params)
 started_rows [] = by_bounds _ _ (λ a b h. (omega (arith, ints), omega (arith, ints))) (λ a b h. (omega (arith, ints), (omega (arith, ints), (omega (arith, ints), tt))))
 started_rows (most ∷ []) = by_bounds _ _ (λ a b h. ((omega (arith, ints), omega (arith, ints)), omega (arith, ints))) (λ a b h. (omega (arith, ints), (omega (arith, ints), (omega (arith, ints), tt))))
 started_rows (most ∷ more ∷ others) = tt
 
-meet_rows : (params : List ℤ) → Means (option_map (near AEnd BStart) (tolerance params)) (row_of Meets params)
+meet_rows : (params : List ℤ) → Means (option_map (near AEnd BStart) (tolerance params)) (table_row_of Meets params)
 meet_rows [] = by_bounds _ _ (λ a b h. omega (arith, ints)) (λ a b h. (omega (arith, ints), (omega (arith, ints), tt)))
 meet_rows (most ∷ []) = by_bounds _ _ (λ a b h. (omega (arith, ints), omega (arith, ints))) (λ a b h. (omega (arith, ints), (omega (arith, ints), tt)))
 meet_rows (most ∷ more ∷ others) = tt
 
-met_rows : (params : List ℤ) → Means (option_map (near AStart BEnd) (tolerance params)) (row_of MetBy params)
+met_rows : (params : List ℤ) → Means (option_map (near AStart BEnd) (tolerance params)) (table_row_of MetBy params)
 met_rows [] = by_bounds _ _ (λ a b h. omega (arith, ints)) (λ a b h. (omega (arith, ints), (omega (arith, ints), tt)))
 met_rows (most ∷ []) = by_bounds _ _ (λ a b h. (omega (arith, ints), omega (arith, ints))) (λ a b h. (omega (arith, ints), (omega (arith, ints), tt)))
 met_rows (most ∷ more ∷ others) = tt

@@ -1,5 +1,6 @@
 -- Whether events of one kind are of another, their starts are the same; and no events have two windows.
-use Rattle.temporal_ops.proofs.Common.{◌≡◌, ◌↔◌, ℤ, pos, ◌+ℤ◌, refl, subst, ap, arith, ints, Times, Never, UpTo, Unbounded, AreStarts, IsLatest, IsPossible, IsUnbounded, OneWindow}
+use Rattle.temporal_ops.proofs.Common.{◌≡◌, ◌↔◌, ℤ, pos, ◌+ℤ◌, refl, subst, ap, arith, ints, Times, Never, UpTo, Unbounded, AreStarts, IsLatest}
+use Rattle.temporal_ops.proofs.Common.{ArePossibleTimes, AreStartsUnbounded, OneWindow}
 use Rattle.temporal_ops.specs.declared.window.Window.{Window}
 
 pub starts_too : (P Q : Times → Type 0) → ((y : Times) → P y ↔ Q y) → (window : Window) → AreStarts P window → AreStarts Q window
@@ -20,7 +21,7 @@ latest_once P u v h k =
     let d = k.starts in
     omega (arith, ints)
 
-bounded : (P : Times → Type 0) (u : ℤ) → IsLatest P u → IsUnbounded P → ⊥
+bounded : (P : Times → Type 0) (u : ℤ) → IsLatest P u → AreStartsUnbounded P → ⊥
 bounded P u h k =
     let later = k (u +ℤ pos 1) in
     let a = h.latest later.0 later.1 in
@@ -44,4 +45,4 @@ pub which_window : (P : Times → Type 0) (v w : Window) → AreStarts P v → (
 which_window P v w h = (λ e. subst (λ (x : Window). AreStarts P x) e h, λ k. one_window P v w h k)
 
 pub one_window_each : OneWindow
-one_window_each bounds point v w h k = one_window (IsPossible bounds point) v w h k
+one_window_each bounds point v w h k = one_window (ArePossibleTimes bounds point) v w h k

@@ -7,9 +7,9 @@ use Rattle.temporal_ops.specs.declared.word.OpWord.{OpWord}
 use Rattle.temporal_ops.specs.declared.window.Window.{Window}
 use Rattle.temporal_ops.specs.Edges.{edges_hold, IsOp, IsWithin, Joins}
 use Rattle.temporal_ops.specs.Operators.{edges_of}
-use Rattle.temporal_ops.specs.Possible.{IsWindow}
-use Rattle.temporal_ops.specs.Starts.{window_of}
-use Rattle.temporal_ops.specs.Table.{Row, says, no_row, row_of}
+use Rattle.temporal_ops.specs.Possible.{IsStartWindow}
+use Rattle.temporal_ops.specs.Starts.{starts_window}
+use Rattle.temporal_ops.specs.Table.{Row, says, no_row, table_row_of}
 
 -- the edges hold of exactly the events of which the row says so, and there are none where there is no row
 abbrev pub Means : Option (List OpEdge) → Row → Type 0
@@ -20,7 +20,7 @@ Means None no_row = Unit {0}
 
 -- the edges of a word mean its row of the table
 abbrev pub EdgesMeanRows : Type 0
-EdgesMeanRows = (word : OpWord) (params : List ℤ) → Means (edges_of word params) (row_of word params)
+EdgesMeanRows = (word : OpWord) (params : List ℤ) → Means (edges_of word params) (table_row_of word params)
 
 -- the edges of a word with parameters of at most 2^53 in size are those of an operator
 abbrev pub EdgesAreOps : Type 0
@@ -28,8 +28,8 @@ EdgesAreOps = (word : OpWord) (params : List ℤ) → All (IsWithin (2 ^ 53)) pa
 
 -- possible events have the starts of one window
 abbrev pub OneWindow : Type 0
-OneWindow = (bounds : List (List OpEdge × Times)) (point : Bool) (v w : Window) → IsWindow bounds point v → IsWindow bounds point w → v ≡ w
+OneWindow = (bounds : List (List OpEdge × Times)) (point : Bool) (v w : Window) → IsStartWindow bounds point v → IsStartWindow bounds point w → v ≡ w
 
 -- where each edge joins the two events, the window that the edges give is that of the possible events
 abbrev pub WindowIsOfEdges : Type 0
-WindowIsOfEdges = (bounds : List (List OpEdge × Times)) (point : Bool) → All (λ bound. All Joins bound.0) bounds → IsWindow bounds point (window_of bounds point)
+WindowIsOfEdges = (bounds : List (List OpEdge × Times)) (point : Bool) → All (λ bound. All Joins bound.0) bounds → IsStartWindow bounds point (starts_window bounds point)

@@ -5,15 +5,16 @@ use Rattle.temporal_ops.specs.declared.edge.Corner.{Corner}
 use Rattle.temporal_ops.specs.declared.edge.Corner.TheVariants.{AStart, AEnd, BStart, BEnd}
 use Rattle.temporal_ops.specs.declared.edge.OpEdge.{OpEdge}
 use Rattle.temporal_ops.specs.declared.word.OpWord.{OpWord}
-use Rattle.temporal_ops.specs.declared.word.OpWord.TheVariants.{After, Before, Coincides, During, Includes, Finishes, FinishedBy, Starts, StartedBy, Meets, MetBy, Overlaps, OverlappedBy}
+use Rattle.temporal_ops.specs.declared.word.OpWord.TheVariants.{After, Before, Coincides, During, Includes, Finishes, FinishedBy, Starts, StartedBy, Meets}
+use Rattle.temporal_ops.specs.declared.word.OpWord.TheVariants.{MetBy, Overlaps, OverlappedBy}
 
 -- x - y ≤ most
 abbrev pub at_most : Corner → Corner → ℤ → OpEdge
 at_most x y most = record { x = x; y = y; most = most }
 
 -- least ≤ x - y
-abbrev pub at_least : Corner → Corner → ℤ → OpEdge
-at_least x y least = at_most y x (neg_ℤ least)
+abbrev pub least_difference : Corner → Corner → ℤ → OpEdge
+least_difference x y least = at_most y x (neg_ℤ least)
 
 -- x < y
 abbrev pub earlier : Corner → Corner → OpEdge
@@ -25,7 +26,7 @@ near x y most = at_most x y most ∷ at_most y x most ∷ []
 
 -- least ≤ x - y ≤ most
 abbrev pub between : ℤ → Corner → Corner → ℤ → List OpEdge
-between least x y most = at_least x y least ∷ at_most x y most ∷ []
+between least x y most = least_difference x y least ∷ at_most x y most ∷ []
 
 -- how far apart two points may be that no parameter, or one, allows
 abbrev pub tolerance : List ℤ → Option ℤ
@@ -35,8 +36,8 @@ tolerance _ = None
 
 -- the distance from y to x
 abbrev pub gap_edges : Corner → Corner → List ℤ → Option (List OpEdge)
-gap_edges x y [] = Some (at_least x y (pos 1) ∷ [])
-gap_edges x y (least ∷ []) = Some (at_least x y least ∷ [])
+gap_edges x y [] = Some (least_difference x y (pos 1) ∷ [])
+gap_edges x y (least ∷ []) = Some (least_difference x y least ∷ [])
 gap_edges x y (p ∷ q ∷ []) = Some (between (int_min p q) x y (int_max p q))
 gap_edges _ _ _ = None
 
@@ -49,7 +50,7 @@ coincide_edges _ = None
 -- the distances of the starts and of the ends, where A is inside B
 abbrev pub inside_edges : ℤ → ℤ → ℤ → ℤ → List OpEdge
 inside_edges least most end_least end_most =
-    at_least AStart BStart least ∷ at_most AStart BStart most ∷ between end_least BEnd AEnd end_most
+    least_difference AStart BStart least ∷ at_most AStart BStart most ∷ between end_least BEnd AEnd end_most
 
 abbrev pub during_edges : List ℤ → Option (List OpEdge)
 during_edges [] = Some (earlier BStart AStart ∷ earlier AEnd BEnd ∷ [])

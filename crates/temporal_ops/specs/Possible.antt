@@ -18,7 +18,7 @@ pub record IsEvent (point : Bool) (times : Times) : Type 0 where
   pub ends : point ≡ true → times.end ≡ times.start
 
 -- y is a possible event: all operators hold of it
-pub record IsPossible (bounds : List (List OpEdge × Times)) (point : Bool) (y : Times) : Type 0 where
+pub record ArePossibleTimes (bounds : List (List OpEdge × Times)) (point : Bool) (y : Times) : Type 0 where
   pub event : IsEvent point y
   pub holds : all_hold bounds y ≡ true
 
@@ -33,15 +33,15 @@ pub record IsLatest (P : Times → Type 0) (u : ℤ) : Type 0 where
   pub latest : (y : Times) → P y → y.start ≤ℤ u
 
 -- some event starts at n or later, for every n
-abbrev pub IsUnbounded : (Times → Type 0) → Type 0
-IsUnbounded P = (n : ℤ) → (y : Times) × P y × (n ≤ℤ y.start)
+abbrev pub AreStartsUnbounded : (Times → Type 0) → Type 0
+AreStartsUnbounded P = (n : ℤ) → (y : Times) × P y × (n ≤ℤ y.start)
 
 -- the starts of these events
 abbrev pub AreStarts : (Times → Type 0) → Window → Type 0
 AreStarts P Never = IsNone P
 AreStarts P (UpTo u) = IsLatest P u
-AreStarts P Unbounded = IsUnbounded P
+AreStarts P Unbounded = AreStartsUnbounded P
 
 -- the starts of the possible events
-abbrev pub IsWindow : List (List OpEdge × Times) → Bool → Window → Type 0
-IsWindow bounds point window = AreStarts (IsPossible bounds point) window
+abbrev pub IsStartWindow : List (List OpEdge × Times) → Bool → Window → Type 0
+IsStartWindow bounds point window = AreStarts (ArePossibleTimes bounds point) window

@@ -66,5 +66,5 @@ abbrev pub window_in : Room → Limits → Window
 window_in room starts = window_by (is_empty starts.least starts.greatest || is_empty room.end.least room.end.greatest) starts.greatest
 
 -- the starts of the possible events, where each edge joins the two events
-unfoldable pub window_of : List (List OpEdge × Times) → Bool → Window
-window_of bounds point = window_in (room_of bounds) (starts_of (room_of bounds) point)
+unfoldable pub starts_window : List (List OpEdge × Times) → Bool → Window
+starts_window bounds point = window_in (room_of bounds) (starts_of (room_of bounds) point)

@@ -3,7 +3,7 @@ ghost use Rattle.std.specs.List.{All};
 ghost use Rattle.temporal_ops.specs.Edges.{edges_hold, IsOp, IsWithin};
 ghost use Rattle.temporal_ops.specs.Laws.{Means};
 ghost use Rattle.temporal_ops.specs.Operators.{edges_of, opposite_edge};
-ghost use Rattle.temporal_ops.specs.Table.{row_of, takes_negative, HasRow};
+ghost use Rattle.temporal_ops.specs.Table.{table_row_of, takes_negative, HasRow};
 
 use crate::{Edges, OpEdge, OpWord, table};
 use fx_base::{Copies, Millis, NoMemory, Times};
@@ -69,10 +69,10 @@ impl Op {
     pub fn of(word: OpWord, params: &[Millis]) -> Result<Op, OpFault>
         requires { All (IsWithin (2 ^ 53)) params.now }
         ensures edges { IfOk result (λ op. edges_of word params.now ≡ Some op) }
-        ensures meaning { IfOk result (λ op. Means (Some op) (row_of word params.now)) }
-        ensures param_count { (result ≡ Err OpFault.ParamCount) ↔ (¬ HasRow (row_of word params.now)) }
+        ensures meaning { IfOk result (λ op. Means (Some op) (table_row_of word params.now)) }
+        ensures param_count { (result ≡ Err OpFault.ParamCount) ↔ (¬ HasRow (table_row_of word params.now)) }
         ensures negative { (result ≡ Err OpFault.Negative)
-            ↔ (HasRow (row_of word params.now) × (takes_negative word ≡ false) × Any (λ p. p <ℤ pos 0) params.now) }
+            ↔ (HasRow (table_row_of word params.now) × (takes_negative word ≡ false) × Any (λ p. p <ℤ pos 0) params.now) }
     {
         match table::row(word, params) {
             None => Err(OpFault::ParamCount),

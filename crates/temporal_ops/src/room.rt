@@ -1,5 +1,5 @@
 ghost use Rattle.std.specs.Prelude.{◌↔◌, ℤ};
-ghost use Rattle.temporal_ops.specs.Room.{IsAbove, IsBelow};
+ghost use Rattle.temporal_ops.specs.Room.{IsAboveLimit, IsBelow};
 
 use crate::edge::Corner::{AEnd, AStart, BEnd, BStart};
 use crate::window::Window;
@@ -15,11 +15,11 @@ pub(crate) struct Limits {
 
 impl Limits {
     ghost use Rattle.std.specs.Prelude.{◌≡◌, ◌↔◌, ◌≤ℤ◌, ℤ};
-    ghost use Rattle.temporal_ops.specs.Room.{IsBetween, is_empty as is_empty_of};
+    ghost use Rattle.temporal_ops.specs.Room.{LiesBetweenLimits, is_empty as is_empty_of};
 
     /// Takes out what lies before `least`.
     fn begin_at(&mut self, least: i128)
-        ensures { (z : ℤ) → IsBetween self.new z ↔ (IsBetween self.old z × (least ≤ℤ z)) }
+        ensures { (z : ℤ) → LiesBetweenLimits self.new z ↔ (LiesBetweenLimits self.old z × (least ≤ℤ z)) }
     {
         self.least = higher(self.least, Some(least));
     }
@@ -33,7 +33,7 @@ impl Limits {
 
     /// Takes out what lies after `greatest`.
     fn end_by(&mut self, greatest: i128)
-        ensures { (z : ℤ) → IsBetween self.new z ↔ (IsBetween self.old z × (z ≤ℤ greatest)) }
+        ensures { (z : ℤ) → LiesBetweenLimits self.new z ↔ (LiesBetweenLimits self.old z × (z ≤ℤ greatest)) }
     {
         self.greatest = lower(self.greatest, Some(greatest));
     }
@@ -41,7 +41,7 @@ impl Limits {
 
 /// The greater of two lower limits.
 fn higher(a: Option<i128>, b: Option<i128>) -> Option<i128>
-    ensures { (z : ℤ) → IsAbove result z ↔ (IsAbove a z × IsAbove b z) }
+    ensures { (z : ℤ) → IsAboveLimit result z ↔ (IsAboveLimit a z × IsAboveLimit b z) }
 {
     match (a, b) {
         (Some(a), Some(b)) => Some(a.max(b)),
@@ -73,11 +73,11 @@ impl Room {
     ghost use Rattle.fx_base.specs.declared.times.Times.{Times};
     ghost use Rattle.temporal_ops.specs.Edges.{edge_holds, edges_hold, IsOpEdge};
     ghost use Rattle.temporal_ops.specs.Possible.{AreStarts};
-    ghost use Rattle.temporal_ops.specs.Room.{AreStartLimits, Fits, FitsEvent};
+    ghost use Rattle.temporal_ops.specs.Room.{AreStartLimits, FitsRoom, FitsEvent};
 
     /// All events.
     pub(crate) fn new() -> Room
-        ensures { (y : Times) → Fits result y }
+        ensures { (y : Times) → FitsRoom result y }
     {
         let all = Limits {
             least: None,
@@ -92,7 +92,7 @@ impl Room {
     /// Takes out the events of which the operator does not hold with the bound event `b`.
     #[tactic(auto, unfolding(crate::specs::Edges::edges_hold))]
     pub(crate) fn keep(&mut self, op: &Op, b: Times)
-        ensures { (y : Times) → Fits self.new y ↔ (Fits self.old y × (edges_hold op.now y b ≡ true)) }
+        ensures { (y : Times) → FitsRoom self.new y ↔ (FitsRoom self.old y × (edges_hold op.now y b ≡ true)) }
     {
         for edge in op.as_slice() {
             self.keep_edge(edge, b);
@@ -102,7 +102,7 @@ impl Room {
     /// Takes out the events of which the edge does not hold with the bound event `b`.
     fn keep_edge(&mut self, edge: &OpEdge, b: Times)
         requires { IsOpEdge edge.now }
-        ensures { (y : Times) → Fits self.new y ↔ (Fits self.old y × (edge_holds y b edge.now ≡ true)) }
+        ensures { (y : Times) → FitsRoom self.new y ↔ (FitsRoom self.old y × (edge_holds y b edge.now ≡ true)) }
     {
         let (start, end) = (i128::from(b.start), i128::from(b.end));
         let most = i128::from(edge.most);

@@ -3,7 +3,7 @@
 ghost use Rattle.std.specs.Prelude.{◌≡◌, ◌^◌, not, option_map, IfSome};
 ghost use Rattle.std.specs.List.{All};
 ghost use Rattle.temporal_ops.specs.Edges.{is_tested, IsOpEdge, IsWithin};
-ghost use Rattle.temporal_ops.specs.Operators.{at_most as upper_edge, at_least as lower_edge, earlier as order_edge, near as near_edges, tolerance as tolerance_of, gap_edges, coincide_edges, during_edges, inside_edges, order_edges, overlaps_edges, edges_of};
+ghost use Rattle.temporal_ops.specs.Operators.{at_most as upper_edge, least_difference as lower_edge, earlier as order_edge, near as near_edges, tolerance as tolerance_of, gap_edges, coincide_edges, during_edges, inside_edges, order_edges, overlaps_edges, edges_of};
 
 use crate::Corner::{self, AEnd, AStart, BEnd, BStart};
 use crate::{Op, OpEdge, OpWord};

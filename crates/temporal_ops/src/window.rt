@@ -1,5 +1,5 @@
 ghost use Rattle.std.specs.Prelude.{◌≡◌, ◌↔◌, ℤ};
-ghost use Rattle.temporal_ops.specs.Possible.{IsLatest, IsNone, IsPossible, IsUnbounded, IsWindow};
+ghost use Rattle.temporal_ops.specs.Possible.{IsLatest, IsNone, ArePossibleTimes, AreStartsUnbounded, IsStartWindow};
 
 use crate::Op;
 use crate::room::Room;
@@ -19,10 +19,10 @@ pub enum Window {
 /// The starts of the possible events of a negative pattern: the pairs of whole numbers, of a point type those
 /// that end where they start, of which each operator holds with its bound event. Takes no memory.
 pub fn possible_start(bounds: &[(Op, Times)], point: bool) -> Window
-    ensures window { IsWindow bounds.now point result }
-    ensures never { (result ≡ Window.Never) ↔ IsNone (IsPossible bounds.now point) }
-    ensures up_to { (u : ℤ) → (result ≡ Window.UpTo u) ↔ IsLatest (IsPossible bounds.now point) u }
-    ensures unbounded { (result ≡ Window.Unbounded) ↔ IsUnbounded (IsPossible bounds.now point) }
+    ensures window { IsStartWindow bounds.now point result }
+    ensures never { (result ≡ Window.Never) ↔ IsNone (ArePossibleTimes bounds.now point) }
+    ensures up_to { (u : ℤ) → (result ≡ Window.UpTo u) ↔ IsLatest (ArePossibleTimes bounds.now point) u }
+    ensures unbounded { (result ≡ Window.Unbounded) ↔ AreStartsUnbounded (ArePossibleTimes bounds.now point) }
 {
     let mut room = Room::new();
     for (op, times) in bounds {

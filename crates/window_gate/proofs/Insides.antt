@@ -1,5 +1,7 @@
 -- What is inside a window, and what a change makes of the versions.
-use Rattle.window_gate.proofs.Common.{◌≡◌, ◌∙◌, sym, ap, refl, subst, ℕ, ℤ, ◌+◌, ◌-ℤ◌, ◌<◌, ◌≤◌, min, List, [], ◌∷◌, ◌++◌, map, filter, length, Bool, true, false, cond, not, arith, int_lt, nat_tests, length-map, length-append, map-append, Named, Whole, Time, Length, GateChange, Come, Gone, Clock, Arrival, named_of, has_tag, inside, after, TagsDiffer, MayChange, nat_lt}
+use Rattle.window_gate.proofs.Common.{◌≡◌, ◌∙◌, sym, ap, refl, subst, ℕ, ℤ, ◌+◌, ◌-ℤ◌, ◌<◌, ◌≤◌, min, List, [], ◌∷◌, ◌++◌, map, filter, length, Bool, true}
+use Rattle.window_gate.proofs.Common.{false, cond, not, arith, int_lt, nat_lt, nat_tests, length-map, length-append, map-append, Named, Whole, Time, Length}
+use Rattle.window_gate.proofs.Common.{GateChange, Come, Gone, Clock, Arrival, named_of, has_tag, inside, after, TagsDiffer, MayChange}
 use Rattle.window_gate.specs.declared.change.WindowKind.{WindowKind}
 use Rattle.window_gate.proofs.Names.{without, differ_push, differ_without}
 

@@ -1,11 +1,19 @@
 -- The steps of a length window.
-use Rattle.window_gate.proofs.Common.{◌≡◌, ◌∙◌, sym, ap, refl, subst, ℕ, zero, suc, ℤ, ◌+◌, min, List, [], ◌∷◌, ◌++◌, map, length, Bool, true, false, cond, not, ◌==◌, ◌&&◌, ◌||◌, Option, Some, None, arith, append_assoc, append-nil, ◌⊎◌, inl, inr, ⊎_elim, option_to_list, option_or, insert_entry, is_at, get, BTreeMap, list_any, IsStrictlySortedBy, keys_of, values_of, lookup, remove_entry, nat_cmp, eq_by_cmp, Decides-eqb, nat_tests, length-append, length-map, list_any-append, name_cmp, IsBetween, Named, Delta, Length, Come, Gone, Arrival, named_of, has_tag, single, inside, after, rows_inside, has_name, TagsDiffer, number_of, KeepsLength, Numbered, MatchOption, numbered, MakesRoom, BringsBack, Removes}
+use Rattle.window_gate.proofs.Common.{◌≡◌, ◌∙◌, sym, ap, refl, subst, ℕ, zero, suc, ℤ, ◌+◌, min, List, [], ◌∷◌, ◌++◌, map, length, Bool, true, false, cond, not}
+use Rattle.window_gate.proofs.Common.{◌==◌, ◌&&◌, ◌||◌, Option, Some, None, arith, append_assoc, append-nil, ◌⊎◌, inl, inr, ⊎_elim, option_to_list, option_or}
+use Rattle.window_gate.proofs.Common.{MatchOption, insert_entry, is_at, get, BTreeMap, list_any, IsStrictlySortedBy, keys_of, values_of, lookup, remove_entry}
+use Rattle.window_gate.proofs.Common.{nat_cmp, eq_by_cmp, Decides-eqb, nat_tests, length-append, length-map, list_any-append, name_cmp, IsBetween, Named, Delta}
+use Rattle.window_gate.proofs.Common.{Length, Come, Gone, Arrival, named_of, has_tag, single, inside, after, rows_inside, has_version, TagsDiffer, number_of}
+use Rattle.window_gate.proofs.Common.{KeepsLength, numbered, Numbered, MakesRoom, BringsBack, Removes, and_not_self}
 use Rattle.window_gate.specs.declared.length_window.LengthWindow.{LengthWindow}
-use Rattle.window_gate.proofs.Names.{same_name, same_itself, equal_names, none_with_tag, names_apart, names-without, only_one, without, differ_right, absent_right}
+use Rattle.window_gate.proofs.Names.{same_name, same_itself, equal_names, none_with_tag, names_apart, names-without, only_one, without, differ_right}
+use Rattle.window_gate.proofs.Names.{absent_right}
 use Rattle.window_gate.proofs.Singles.{between_names}
 use Rattle.window_gate.proofs.Insides.{latest, length-latest, latest_split, inside_length, named-filter, named-push}
-use Rattle.window_gate.proofs.Wholes.{one_in_order, none_in_order, only_it, same_stays, nothing_goes, one_comes}
-use Rattle.window_gate.proofs.Numbers.{others, values-others, others-append, others-absent, others_rise, head_rise, keys-append, values-append, put_behind, put_before, rising_left, rising_right, rising_next, less_next, number_of-append, number_of-others, none_numbered, not_numbered, InOlder, InNewer, in_either}
+use Rattle.window_gate.proofs.Wholes.{one_in_order, none_in_order, only_it, nothing_goes, one_comes}
+use Rattle.window_gate.proofs.Numbers.{others, values-others, others-append, others-absent, others_rise, head_rise, keys-append, values-append, put_behind}
+use Rattle.window_gate.proofs.Numbers.{put_before, rising_left, rising_right, rising_next, less_next, number_of-append, number_of-others, none_numbered}
+use Rattle.window_gate.proofs.Numbers.{not_numbered, InOlder, InNewer, in_either}
 
 -- a list of one or none is in order
 pub few_in_order : (o : Option Named) → IsStrictlySortedBy name_cmp (option_to_list o)
@@ -51,7 +59,7 @@ keeps_still window arrivals was now keeps = record {
 between_newer : (size : ℕ) (was now : ℤ) (arrivals next : List Arrival) (old new gone come : List Named) (delta : Delta)
     → old ≡ map named_of (inside (Length size) was arrivals) → new ≡ map named_of (inside (Length size) now next)
     → IsStrictlySortedBy name_cmp gone → IsStrictlySortedBy name_cmp come
-    → ((named : Named) → has_name gone named ≡ (has_name old named && not (has_name new named))) → ((named : Named) → has_name come named ≡ (has_name new named && not (has_name old named)))
+    → ((named : Named) → has_version gone named ≡ (has_version old named && not (has_version new named))) → ((named : Named) → has_version come named ≡ (has_version new named && not (has_version old named)))
     → delta.gone ≡ map single gone → delta.come ≡ map single come → IsBetween (rows_inside (Length size) was arrivals) (rows_inside (Length size) now next) delta
 between_newer size was now arrivals next old new gone come delta is_old is_new gone_sorted come_sorted goes comes is_gone is_come =
     subst (λ names. IsBetween (map single names) (rows_inside (Length size) now next) delta) is_old
@@ -160,8 +168,8 @@ came window window_now arrivals was now named start keeps absent same_size next 
 -- ---- the difference where one comes
 
 -- a version with a new tag is none that is there
-new_name : (names : List Named) (named other : Named) → list_any (has_tag named.tag.0) names ≡ false → same_name other named ≡ true → has_name names other ≡ false
-new_name names named other absent e = ap (has_name names) (equal_names other named e) ∙ none_with_tag names named absent
+new_name : (names : List Named) (named other : Named) → list_any (has_tag named.tag.0) names ≡ false → same_name other named ≡ true → has_version names other ≡ false
+new_name names named other absent e = ap (has_version names) (equal_names other named e) ∙ none_with_tag names named absent
 
 exchange_goes : (y s x : Bool) → (y ≡ true → s ≡ false) → (x ≡ true → (y || s) ≡ false) → y ≡ ((y || s) && not (s || x))
 exchange_goes true true x e f = let g : true ≡ false = e refl in cc
@@ -180,18 +188,18 @@ exchange_comes false true false f = refl
 exchange_comes false false false f = refl
 
 -- the newer versions with one more
-pushed : (es : Numbered) (number : ℕ) (named other : Named) → has_name (values_of (es ++ (number, named) ∷ [])) other ≡ (has_name (values_of es) other || same_name other named)
+pushed : (es : Numbered) (number : ℕ) (named other : Named) → has_version (values_of (es ++ (number, named) ∷ [])) other ≡ (has_version (values_of es) other || same_name other named)
 pushed es number named other =
-    ap (λ xs. has_name xs other) (values-append es ((number, named) ∷ [])) ∙ list_any-append (eq_by_cmp name_cmp other) (values_of es) (named ∷ [])
-    ∙ ap (λ b. has_name (values_of es) other || b) (only_it other named)
+    ap (λ xs. has_version xs other) (values-append es ((number, named) ∷ [])) ∙ list_any-append (eq_by_cmp name_cmp other) (values_of es) (named ∷ [])
+    ∙ ap (λ b. has_version (values_of es) other || b) (only_it other named)
 
 -- the difference of two lists of versions
 pub record Differ (old new gone come : List Named) : Type 0 where
-  pub goes : (other : Named) → has_name gone other ≡ (has_name old other && not (has_name new other))
-  pub comes : (other : Named) → has_name come other ≡ (has_name new other && not (has_name old other))
+  pub goes : (other : Named) → has_version gone other ≡ (has_version old other && not (has_version new other))
+  pub comes : (other : Named) → has_version come other ≡ (has_version new other && not (has_version old other))
 
 no_difference : (names : List Named) → Differ names names [] []
-no_difference names = record { goes = λ other. same_stays (has_name names other); comes = λ other. same_stays (has_name names other) }
+no_difference names = record { goes = λ other. and_not_self (has_version names other); comes = λ other. and_not_self (has_version names other) }
 
 module _ (size next following : ℕ) (named : Named) (older newer older_now newer_now : Numbered) (left : Option Named) (rising : IsStrictlySortedBy nat_cmp (keys_of (older ++ newer) ++ next ∷ []))
     (full : IsFull size older newer) (made : MakesRoom size older newer older_now newer_now left) where
@@ -205,26 +213,26 @@ enters_differ_at : (size next : ℕ) (named : Named) (older newer older_now newe
     → TagsDiffer (values_of newer) → list_any (has_tag named.tag.0) (values_of newer) ≡ false
     → MakesRoom size older newer older_now newer_now left → Differ (values_of newer) (values_of newest) (option_to_list left) (named ∷ [])
 enters_differ_at size next named older newer older_now newer_now newest None put differ absent (o, n, room) =
-    let has : (other : Named) → has_name (values_of newest) other ≡ (has_name (values_of newer) other || same_name other named) =
-    λ other. ap (λ (es : Numbered). has_name (values_of es) other) put ∙ pushed newer_now next named other ∙ ap (λ (es : Numbered). has_name (values_of es) other || same_name other named) n in
+    let has : (other : Named) → has_version (values_of newest) other ≡ (has_version (values_of newer) other || same_name other named) =
+    λ other. ap (λ (es : Numbered). has_version (values_of es) other) put ∙ pushed newer_now next named other ∙ ap (λ (es : Numbered). has_version (values_of es) other || same_name other named) n in
     record {
-      goes = λ other. nothing_goes (has_name (values_of newer) other) (same_name other named) ∙ ap (λ b. has_name (values_of newer) other && not b) (sym (has other));
+      goes = λ other. nothing_goes (has_version (values_of newer) other) (same_name other named) ∙ ap (λ b. has_version (values_of newer) other && not b) (sym (has other));
       comes = λ other.
-          only_it other named ∙ one_comes (has_name (values_of newer) other) (same_name other named) (new_name (values_of newer) named other absent)
-          ∙ ap (λ b. b && not (has_name (values_of newer) other)) (sym (has other));
+          only_it other named ∙ one_comes (has_version (values_of newer) other) (same_name other named) (new_name (values_of newer) named other absent)
+          ∙ ap (λ b. b && not (has_version (values_of newer) other)) (sym (has other));
     }
 enters_differ_at size next named older newer older_now newer_now newest (Some y) put differ absent (number, is, moved, enough) =
-    let has : (other : Named) → has_name (values_of newest) other ≡ (has_name (values_of newer_now) other || same_name other named) = λ other. ap (λ (es : Numbered). has_name (values_of es) other) put ∙ pushed newer_now next named other in
-    let had : (other : Named) → has_name (values_of newer) other ≡ (same_name other y || has_name (values_of newer_now) other) = λ other. ap (λ (es : Numbered). has_name (values_of es) other) is in
+    let has : (other : Named) → has_version (values_of newest) other ≡ (has_version (values_of newer_now) other || same_name other named) = λ other. ap (λ (es : Numbered). has_version (values_of es) other) put ∙ pushed newer_now next named other in
+    let had : (other : Named) → has_version (values_of newer) other ≡ (same_name other y || has_version (values_of newer_now) other) = λ other. ap (λ (es : Numbered). has_version (values_of es) other) is in
     let apart : TagsDiffer (y ∷ values_of newer_now) = subst TagsDiffer (ap (λ (es : Numbered). values_of es) is) differ in
-    let new : (other : Named) → same_name other named ≡ true → (same_name other y || has_name (values_of newer_now) other) ≡ false = λ other e. sym (had other) ∙ new_name (values_of newer) named other absent e in
+    let new : (other : Named) → same_name other named ≡ true → (same_name other y || has_version (values_of newer_now) other) ≡ false = λ other e. sym (had other) ∙ new_name (values_of newer) named other absent e in
     record {
       goes = λ other.
-          only_it other y ∙ exchange_goes (same_name other y) (has_name (values_of newer_now) other) (same_name other named) (new_name (values_of newer_now) y other apart.0) (new other)
-          ∙ ap (λ b. b && not (has_name (values_of newer_now) other || same_name other named)) (sym (had other)) ∙ ap (λ b. has_name (values_of newer) other && not b) (sym (has other));
+          only_it other y ∙ exchange_goes (same_name other y) (has_version (values_of newer_now) other) (same_name other named) (new_name (values_of newer_now) y other apart.0) (new other)
+          ∙ ap (λ b. b && not (has_version (values_of newer_now) other || same_name other named)) (sym (had other)) ∙ ap (λ b. has_version (values_of newer) other && not b) (sym (has other));
       comes = λ other.
-          only_it other named ∙ exchange_comes (same_name other y) (has_name (values_of newer_now) other) (same_name other named) (new other)
-          ∙ ap (λ b. b && not (same_name other y || has_name (values_of newer_now) other)) (sym (has other)) ∙ ap (λ b. has_name (values_of newest) other && not b) (sym (had other));
+          only_it other named ∙ exchange_comes (same_name other y) (has_version (values_of newer_now) other) (same_name other named) (new other)
+          ∙ ap (λ b. b && not (same_name other y || has_version (values_of newer_now) other)) (sym (has other)) ∙ ap (λ b. has_version (values_of newest) other && not b) (sym (had other));
     }
 
 module _ (size next following : ℕ) (named : Named) (older newer older_now newer_now : Numbered) (left : Option Named) (rising : IsStrictlySortedBy nat_cmp (keys_of (older ++ newer) ++ next ∷ []))
@@ -297,11 +305,11 @@ leave_comes false true false f = refl
 leave_comes false false t f = refl
 
 -- what a look-up finds is there
-looked_up : (test : ℕ → Bool) (es : Numbered) (named : Named) → lookup test es ≡ Some named → has_name (values_of es) named ≡ true
+looked_up : (test : ℕ → Bool) (es : Numbered) (named : Named) → lookup test es ≡ Some named → has_version (values_of es) named ≡ true
 looked_up test [] named e = let f : None ≡ Some named = e in absurd (cc)
 looked_up test (x ∷ es) named e =
-    elim (test x.0) as (λ b. cond b (Some x.1) (lookup test es) ≡ Some named → (same_name named x.1 || has_name (values_of es) named) ≡ true) [
-      | true ↦ λ h. let same : x.1 ≡ named = cc in ap (λ y. same_name named y || has_name (values_of es) named) same ∙ ap (λ b. b || has_name (values_of es) named) (same_itself named)
+    elim (test x.0) as (λ b. cond b (Some x.1) (lookup test es) ≡ Some named → (same_name named x.1 || has_version (values_of es) named) ≡ true) [
+      | true ↦ λ h. let same : x.1 ≡ named = cc in ap (λ y. same_name named y || has_version (values_of es) named) same ∙ ap (λ b. b || has_version (values_of es) named) (same_itself named)
       | false ↦ λ h. ap (λ b. same_name named x.1 || b) (looked_up test es named h) ∙ or_true (same_name named x.1)
     ] e
   where
@@ -316,15 +324,15 @@ module _ (tag number size : ℕ) (older newer older_now newer_now : Numbered) (r
   g = is.it.named
 
   -- those with the tag are the one that goes
-  only_g : (other : Named) → (has_name (values_of newer) other && (tag == other.tag.0)) ≡ same_name other g
+  only_g : (other : Named) → (has_version (values_of newer) other && (tag == other.tag.0)) ≡ same_name other g
   unfolding g
   only_g other =
-      ap (λ t. has_name (values_of newer) other && (t == other.tag.0)) ((Decides-eqb tag is.it.named.tag.0).0 is.it.tagged)
+      ap (λ t. has_version (values_of newer) other && (t == other.tag.0)) ((Decides-eqb tag is.it.named.tag.0).0 is.it.tagged)
       ∙ only_one (values_of newer) is.it.named other (differ_right (values_of older) (values_of newer) differ) (looked_up (is_at (nat_cmp number)) newer is.it.named is.it.found)
 
   -- the others are left
-  left_others : (other : Named) → has_name (values_of (others tag newer)) other ≡ (has_name (values_of newer) other && not (tag == other.tag.0))
-  left_others other = ap (λ names. has_name names other) (values-others tag newer) ∙ names-without tag (values_of newer) other
+  left_others : (other : Named) → has_version (values_of (others tag newer)) other ≡ (has_version (values_of newer) other && not (tag == other.tag.0))
+  left_others other = ap (λ names. has_version names other) (values-others tag newer) ∙ names-without tag (values_of newer) other
 
   others_now : (behind : Numbered) → behind ≡ others tag newer → older ++ behind ≡ others tag (older ++ newer)
   others_now behind e = ap (λ es. older ++ es) e ∙ ap (λ es. es ++ others tag newer) (sym is.stay) ∙ sym (others-append tag older newer)
@@ -336,17 +344,17 @@ module _ (tag number size : ℕ) (older newer older_now newer_now : Numbered) (r
       let b = ap (λ (es : Numbered). length es) n in
       let d = ap (λ (es : Numbered). length es) none in
       let k = is.it.fewer in
-      let has : (other : Named) → has_name (values_of newer_now) other ≡ (has_name (values_of newer) other && not (tag == other.tag.0)) = λ other. ap (λ (es : Numbered). has_name (values_of es) other) (n ∙ is.it.left) ∙ left_others other in
+      let has : (other : Named) → has_version (values_of newer_now) other ≡ (has_version (values_of newer) other && not (tag == other.tag.0)) = λ other. ap (λ (es : Numbered). has_version (values_of es) other) (n ∙ is.it.left) ∙ left_others other in
       record {
         entries = ap (λ es. es ++ newer_now) o ∙ others_now newer_now (n ∙ is.it.left);
         full = λ full. omega arith;
         differ = record {
           goes = λ other.
-              only_it other g ∙ leave_goes false (has_name (values_of newer) other) (tag == other.tag.0) (same_name other g) (only_g other) (λ e. let f : false ≡ true = e in cc)
-              ∙ ap (λ b. has_name (values_of newer) other && not b) (sym (has other));
+              only_it other g ∙ leave_goes false (has_version (values_of newer) other) (tag == other.tag.0) (same_name other g) (only_g other) (λ e. let f : false ≡ true = e in cc)
+              ∙ ap (λ b. has_version (values_of newer) other && not b) (sym (has other));
           comes = λ other.
-              leave_comes false (has_name (values_of newer) other) (tag == other.tag.0) (λ e. let f : false ≡ true = e in cc)
-              ∙ ap (λ b. b && not (has_name (values_of newer) other)) (sym (has other));
+              leave_comes false (has_version (values_of newer) other) (tag == other.tag.0) (λ e. let f : false ≡ true = e in cc)
+              ∙ ap (λ b. b && not (has_version (values_of newer) other)) (sym (has other));
         };
       }
   removed_newer (Some o) (at, split, put) =
@@ -360,22 +368,22 @@ module _ (tag number size : ℕ) (older newer older_now newer_now : Numbered) (r
       let d = ap (λ (es : Numbered). length es) front in
       let l = ap (λ (es : Numbered). length es) is.it.left in
       let k = is.it.fewer in
-      let has : (other : Named) → has_name (values_of newer_now) other ≡ (same_name other o || (has_name (values_of newer) other && not (tag == other.tag.0))) =
-      λ other. ap (λ (es : Numbered). has_name (values_of es) other) front ∙ ap (λ b. same_name other o || b) (left_others other) in
-      let there : has_name (values_of older) o ≡ true =
-      ap (λ (es : Numbered). has_name (values_of es) o) split ∙ pushed older_now at o o ∙ ap (λ b. has_name (values_of older_now) o || b) (same_itself o) ∙ or_true (has_name (values_of older_now) o) in
-      let not_inside : (other : Named) → same_name other o ≡ true → has_name (values_of newer) other ≡ false =
-      λ other e. ap (has_name (values_of newer)) (equal_names other o e) ∙ names_apart (values_of older) (values_of newer) o differ there in
+      let has : (other : Named) → has_version (values_of newer_now) other ≡ (same_name other o || (has_version (values_of newer) other && not (tag == other.tag.0))) =
+      λ other. ap (λ (es : Numbered). has_version (values_of es) other) front ∙ ap (λ b. same_name other o || b) (left_others other) in
+      let there : has_version (values_of older) o ≡ true =
+      ap (λ (es : Numbered). has_version (values_of es) o) split ∙ pushed older_now at o o ∙ ap (λ b. has_version (values_of older_now) o || b) (same_itself o) ∙ or_true (has_version (values_of older_now) o) in
+      let not_inside : (other : Named) → same_name other o ≡ true → has_version (values_of newer) other ≡ false =
+      λ other e. ap (has_version (values_of newer)) (equal_names other o e) ∙ names_apart (values_of older) (values_of newer) o differ there in
       record {
         entries = ap (λ es. older_now ++ es) front ∙ sym (append_assoc older_now ((at, o) ∷ []) (others tag newer)) ∙ ap (λ es. es ++ others tag newer) (sym split) ∙ others_now (others tag newer) refl;
         full = λ full. omega arith;
         differ = record {
           goes = λ other.
-              only_it other g ∙ leave_goes (same_name other o) (has_name (values_of newer) other) (tag == other.tag.0) (same_name other g) (only_g other) (not_inside other)
-              ∙ ap (λ b. has_name (values_of newer) other && not b) (sym (has other));
+              only_it other g ∙ leave_goes (same_name other o) (has_version (values_of newer) other) (tag == other.tag.0) (same_name other g) (only_g other) (not_inside other)
+              ∙ ap (λ b. has_version (values_of newer) other && not b) (sym (has other));
           comes = λ other.
-              only_it other o ∙ leave_comes (same_name other o) (has_name (values_of newer) other) (tag == other.tag.0) (not_inside other)
-              ∙ ap (λ b. b && not (has_name (values_of newer) other)) (sym (has other));
+              only_it other o ∙ leave_comes (same_name other o) (has_version (values_of newer) other) (tag == other.tag.0) (not_inside other)
+              ∙ ap (λ b. b && not (has_version (values_of newer) other)) (sym (has other));
         };
       }
     where

@@ -1,21 +1,17 @@
 -- Versions by their tags: which of a list have a tag, and lists whose tags differ.
-use Rattle.window_gate.proofs.Common.{◌≡◌, ◌∙◌, sym, ap, refl, ℕ, List, [], ◌∷◌, ◌++◌, filter, Bool, true, false, cond, not, ◌==◌, ◌&&◌, ◌||◌, arith, nat_cmp, ordering_then, eq_by_cmp, is_eq, Ordering, Less, Equal, Greater, list_any, unsigned_tied, Decides-eqb, nat_tests, list_any-append, name_cmp, Named, has_tag, has_name, TagsDiffer, name_equiv, name_exact}
+use Rattle.window_gate.proofs.Common.{◌≡◌, ◌∙◌, sym, ap, refl, ℕ, List, [], ◌∷◌, ◌++◌, filter, Bool, true, false, cond, not, ◌==◌, ◌&&◌, ◌||◌, arith, nat_cmp}
+use Rattle.window_gate.proofs.Common.{eq_by_cmp, is_eq, list_any, unsigned_tied, Decides-eqb, nat_tests, list_any-append, name_cmp, name_equiv, name_exact}
+use Rattle.window_gate.proofs.Common.{Named, has_tag, has_version, TagsDiffer, is_eq-then, or_first_false, or_second_false}
 use Rattle.std.proofs.lemmas.Map.Views.{tells_apart}
 
 -- whether two versions are the same
 abbrev pub same_name : Named → Named → Bool
 same_name a b = eq_by_cmp name_cmp a b
 
--- two orders in turn say Equal where both do
-pub both_equal : (o p : Ordering) → is_eq (ordering_then o p) ≡ (is_eq o && is_eq p)
-both_equal Less p = refl
-both_equal Equal p = refl
-both_equal Greater p = refl
-
 -- versions are the same where tags and ids are
 pub same_name-parts : (a b : Named) → same_name a b ≡ ((a.tag.0 == b.tag.0) && (a.id.0 == b.id.0))
 same_name-parts a b =
-    both_equal (nat_cmp a.tag.0 b.tag.0) (nat_cmp a.id.0 b.id.0)
+    is_eq-then (nat_cmp a.tag.0 b.tag.0) (nat_cmp a.id.0 b.id.0)
     ∙ ap (λ t. t && is_eq (nat_cmp a.id.0 b.id.0)) (unsigned_tied a.tag.0 b.tag.0)
     ∙ ap (λ t. (a.tag.0 == b.tag.0) && t) (unsigned_tied a.id.0 b.id.0)
 
@@ -28,10 +24,10 @@ pub equal_names : (a b : Named) → same_name a b ≡ true → a ≡ b
 equal_names a b e = tells_apart name_exact a b e
 
 -- a version that is there has its tag
-pub tag_there : (names : List Named) (named : Named) → has_name names named ≡ true → list_any (has_tag named.tag.0) names ≡ true
+pub tag_there : (names : List Named) (named : Named) → has_version names named ≡ true → list_any (has_tag named.tag.0) names ≡ true
 tag_there [] named e = e
 tag_there (x ∷ names) named e =
-    elim (same_name named x) as (λ b. same_name named x ≡ b → (b || has_name names named) ≡ true → list_any (has_tag named.tag.0) (x ∷ names) ≡ true) [
+    elim (same_name named x) as (λ b. same_name named x ≡ b → (b || has_version names named) ≡ true → list_any (has_tag named.tag.0) (x ∷ names) ≡ true) [
       | true ↦ λ is h. ap (λ (y : Named). (named.tag.0 == y.tag.0) || list_any (has_tag named.tag.0) names) (sym (equal_names named x is)) ∙ ap (λ b. b || list_any (has_tag named.tag.0) names) ((Decides-eqb named.tag.0 named.tag.0).1 refl)
       | false ↦ λ is h. ap (λ b. has_tag named.tag.0 x || b) (tag_there names named h) ∙ or_true (has_tag named.tag.0 x)
     ] refl e
@@ -41,9 +37,9 @@ tag_there (x ∷ names) named e =
     or_true false = refl
 
 -- a version whose tag is not there is not there
-pub none_with_tag : (names : List Named) (named : Named) → list_any (has_tag named.tag.0) names ≡ false → has_name names named ≡ false
+pub none_with_tag : (names : List Named) (named : Named) → list_any (has_tag named.tag.0) names ≡ false → has_version names named ≡ false
 none_with_tag names named e =
-    elim (has_name names named) as (λ b. has_name names named ≡ b → b ≡ false) [
+    elim (has_version names named) as (λ b. has_version names named ≡ b → b ≡ false) [
       | true ↦ λ h. let f : true ≡ false = sym (tag_there names named h) ∙ e in cc
       | false ↦ λ h. refl
     ] refl
@@ -54,20 +50,11 @@ has_tag-same a b names e = ap (λ t. list_any (has_tag t) names) ((Decides-eqb a
 
 -- ---- lists whose tags differ
 
--- a tag that is not in a longer list
-pub left_or : (a b : Bool) → (a || b) ≡ false → a ≡ false
-left_or false b e = refl
-left_or true b e = e
-
-pub right_or : (a b : Bool) → (a || b) ≡ false → b ≡ false
-right_or false b e = e
-right_or true b e = let f : true ≡ false = e in cc
-
 pub absent_left : (tag : ℕ) (xs ys : List Named) → list_any (has_tag tag) (xs ++ ys) ≡ false → list_any (has_tag tag) xs ≡ false
-absent_left tag xs ys e = left_or (list_any (has_tag tag) xs) (list_any (has_tag tag) ys) (sym (list_any-append (has_tag tag) xs ys) ∙ e)
+absent_left tag xs ys e = or_first_false (list_any (has_tag tag) xs) (list_any (has_tag tag) ys) (sym (list_any-append (has_tag tag) xs ys) ∙ e)
 
 pub absent_right : (tag : ℕ) (xs ys : List Named) → list_any (has_tag tag) (xs ++ ys) ≡ false → list_any (has_tag tag) ys ≡ false
-absent_right tag xs ys e = right_or (list_any (has_tag tag) xs) (list_any (has_tag tag) ys) (sym (list_any-append (has_tag tag) xs ys) ∙ e)
+absent_right tag xs ys e = or_second_false (list_any (has_tag tag) xs) (list_any (has_tag tag) ys) (sym (list_any-append (has_tag tag) xs ys) ∙ e)
 
 -- the parts of such a list
 pub differ_left : (xs ys : List Named) → TagsDiffer (xs ++ ys) → TagsDiffer xs
@@ -88,15 +75,15 @@ apart (x ∷ xs) ys tag d e =
     ] refl e
 
 -- a version of the one part is not in the other
-pub names_apart : (xs ys : List Named) (named : Named) → TagsDiffer (xs ++ ys) → has_name xs named ≡ true → has_name ys named ≡ false
+pub names_apart : (xs ys : List Named) (named : Named) → TagsDiffer (xs ++ ys) → has_version xs named ≡ true → has_version ys named ≡ false
 names_apart xs ys named d e = none_with_tag ys named (apart xs ys named.tag.0 d (tag_there xs named e))
 
 -- one version more, with a new tag
 pub differ_push : (xs : List Named) (y : Named) → TagsDiffer xs → list_any (has_tag y.tag.0) xs ≡ false → TagsDiffer (xs ++ y ∷ [])
 differ_push [] y d e = (refl, tt)
 differ_push (x ∷ xs) y d e = (
-  list_any-append (has_tag x.tag.0) xs (y ∷ []) ∙ ap (λ b. b || ((x.tag.0 == y.tag.0) || false)) d.0 ∙ ap (λ b. b || false) (turned x.tag.0 y.tag.0 ∙ left_or (y.tag.0 == x.tag.0) (list_any (has_tag y.tag.0) xs) e),
-  differ_push xs y d.1 (right_or (y.tag.0 == x.tag.0) (list_any (has_tag y.tag.0) xs) e),
+  list_any-append (has_tag x.tag.0) xs (y ∷ []) ∙ ap (λ b. b || ((x.tag.0 == y.tag.0) || false)) d.0 ∙ ap (λ b. b || false) (turned x.tag.0 y.tag.0 ∙ or_first_false (y.tag.0 == x.tag.0) (list_any (has_tag y.tag.0) xs) e),
+  differ_push xs y d.1 (or_second_false (y.tag.0 == x.tag.0) (list_any (has_tag y.tag.0) xs) e),
 )
   where
     turned : (a b : ℕ) → (a == b) ≡ (b == a)
@@ -111,8 +98,8 @@ pub tags-without : (tag q : ℕ) (names : List Named) → list_any (has_tag q) n
 tags-without tag q [] e = refl
 tags-without tag q (x ∷ names) e =
     elim (has_tag tag x) as (λ b. list_any (has_tag q) (cond (not b) (x ∷ without tag names) (without tag names)) ≡ false) [
-      | true ↦ tags-without tag q names (right_or (q == x.tag.0) (list_any (has_tag q) names) e)
-      | false ↦ ap (λ b. b || list_any (has_tag q) (without tag names)) (left_or (q == x.tag.0) (list_any (has_tag q) names) e) ∙ tags-without tag q names (right_or (q == x.tag.0) (list_any (has_tag q) names) e)
+      | true ↦ tags-without tag q names (or_second_false (q == x.tag.0) (list_any (has_tag q) names) e)
+      | false ↦ ap (λ b. b || list_any (has_tag q) (without tag names)) (or_first_false (q == x.tag.0) (list_any (has_tag q) names) e) ∙ tags-without tag q names (or_second_false (q == x.tag.0) (list_any (has_tag q) names) e)
     ]
 
 pub differ_without : (tag : ℕ) (names : List Named) → TagsDiffer names → TagsDiffer (without tag names)
@@ -124,12 +111,12 @@ differ_without tag (x ∷ names) d =
     ]
 
 -- which versions are left
-pub names-without : (tag : ℕ) (names : List Named) (named : Named) → has_name (without tag names) named ≡ (has_name names named && not (tag == named.tag.0))
+pub names-without : (tag : ℕ) (names : List Named) (named : Named) → has_version (without tag names) named ≡ (has_version names named && not (tag == named.tag.0))
 names-without tag [] named = refl
 names-without tag (x ∷ names) named =
-    elim (has_tag tag x) as (λ b. has_tag tag x ≡ b → has_name (cond (not b) (x ∷ without tag names) (without tag names)) named ≡ ((same_name named x || has_name names named) && not (tag == named.tag.0))) [
-      | true ↦ λ is. names-without tag names named ∙ dropped (same_name named x) (has_name names named) (tag == named.tag.0) (λ e. ap (λ (y : Named). tag == y.tag.0) (equal_names named x e) ∙ is)
-      | false ↦ λ is. ap (λ b. same_name named x || b) (names-without tag names named) ∙ kept (same_name named x) (has_name names named) (tag == named.tag.0) (λ e. ap (λ (y : Named). tag == y.tag.0) (equal_names named x e) ∙ is)
+    elim (has_tag tag x) as (λ b. has_tag tag x ≡ b → has_version (cond (not b) (x ∷ without tag names) (without tag names)) named ≡ ((same_name named x || has_version names named) && not (tag == named.tag.0))) [
+      | true ↦ λ is. names-without tag names named ∙ dropped (same_name named x) (has_version names named) (tag == named.tag.0) (λ e. ap (λ (y : Named). tag == y.tag.0) (equal_names named x e) ∙ is)
+      | false ↦ λ is. ap (λ b. same_name named x || b) (names-without tag names named) ∙ kept (same_name named x) (has_version names named) (tag == named.tag.0) (λ e. ap (λ (y : Named). tag == y.tag.0) (equal_names named x e) ∙ is)
     ] refl
   where
     dropped : (s h t : Bool) → (s ≡ true → t ≡ true) → (h && not t) ≡ ((s || h) && not t)
@@ -147,17 +134,17 @@ names-without tag (x ∷ names) named =
     kept true h true e = let f : true ≡ false = e refl in cc
 
 -- of versions whose tags differ, those with the tag of one that is there are that one
-pub only_one : (names : List Named) (one named : Named) → TagsDiffer names → has_name names one ≡ true → (has_name names named && (one.tag.0 == named.tag.0)) ≡ same_name named one
+pub only_one : (names : List Named) (one named : Named) → TagsDiffer names → has_version names one ≡ true → (has_version names named && (one.tag.0 == named.tag.0)) ≡ same_name named one
 only_one [] one named d e = let f : false ≡ true = e in cc
 only_one (x ∷ names) one named d e =
-    elim (same_name one x) as (λ b. same_name one x ≡ b → (b || has_name names one) ≡ true → ((same_name named x || has_name names named) && (one.tag.0 == named.tag.0)) ≡ same_name named one) [
+    elim (same_name one x) as (λ b. same_name one x ≡ b → (b || has_version names one) ≡ true → ((same_name named x || has_version names named) && (one.tag.0 == named.tag.0)) ≡ same_name named one) [
       | true ↦ λ is h.
           let same : one ≡ x = equal_names one x is in
-          here named one x (same_name named x) (has_name names named) (one.tag.0 == named.tag.0) (same_name named one) (ap (λ (y : Named). same_name named y) (sym same))
+          here named one x (same_name named x) (has_version names named) (one.tag.0 == named.tag.0) (same_name named one) (ap (λ (y : Named). same_name named y) (sym same))
           (λ t. none_with_tag names named (has_tag-same named.tag.0 x.tag.0 names ((Decides-eqb named.tag.0 x.tag.0).1 (sym ((Decides-eqb one.tag.0 named.tag.0).0 t) ∙ ap (λ (y : Named). y.tag.0) same)) ∙ d.0))
           (λ s. ap (λ (y : Named). one.tag.0 == y.tag.0) (equal_names named one s) ∙ (Decides-eqb one.tag.0 one.tag.0).1 refl)
       | false ↦ λ is h.
-          later (same_name named x) (has_name names named) (one.tag.0 == named.tag.0) (same_name named one) (only_one names one named d.1 h)
+          later (same_name named x) (has_version names named) (one.tag.0 == named.tag.0) (same_name named one) (only_one names one named d.1 h)
           (λ s t. clash names x one named s t d.0 h)
     ] refl e
   where
@@ -180,7 +167,7 @@ only_one (x ∷ names) one named d e =
         and_no false = refl
     later true h true n e f = absurd (f refl refl)
 
-    clash : (names : List Named) (x one named : Named) → same_name named x ≡ true → (one.tag.0 == named.tag.0) ≡ true → list_any (has_tag x.tag.0) names ≡ false → has_name names one ≡ true → ⊥
+    clash : (names : List Named) (x one named : Named) → same_name named x ≡ true → (one.tag.0 == named.tag.0) ≡ true → list_any (has_tag x.tag.0) names ≡ false → has_version names one ≡ true → ⊥
     clash names x one named s t absent there =
         let tag : one.tag.0 ≡ x.tag.0 = (Decides-eqb one.tag.0 named.tag.0).0 t ∙ ap (λ (y : Named). y.tag.0) (equal_names named x s) in
         let f : true ≡ false = sym (tag_there names one there) ∙ ap (λ q. list_any (has_tag q) names) tag ∙ absent in cc

@@ -1,7 +1,10 @@
 -- Versions under rising numbers: one put in at an end, one taken out by its number, and the numbers by their tags.
-use Rattle.window_gate.proofs.Common.{◌≡◌, ◌∙◌, sym, ap, refl, subst, ℕ, ◌+◌, List, [], ◌∷◌, ◌++◌, filter, length, Bool, true, false, cond, not, ◌==◌, ◌||◌, Option, Some, None, arith, append-nil, ◌⊎◌, inl, inr, Less, Greater, insert_entry, is_at, unsigned_tied, list_any, AllByRecursion, keys_of, values_of, lookup, remove_entry, option_or, nat_cmp, is_eq, Decides-eqb, nat_tests, map-append, Named, has_tag, TagsDiffer, number_of, Numbered, match_ordering}
+use Rattle.window_gate.proofs.Common.{◌≡◌, ◌∙◌, sym, ap, refl, subst, ℕ, ◌+◌, List, [], ◌∷◌, ◌++◌, filter, length, Bool, true, false, cond, not, ◌==◌, ◌||◌}
+use Rattle.window_gate.proofs.Common.{Option, Some, None, arith, append-nil, ◌⊎◌, inl, inr, Less, Greater, insert_entry, is_at, unsigned_tied, list_any}
+use Rattle.window_gate.proofs.Common.{AllByRecursion, keys_of, values_of, lookup, remove_entry, option_or, nat_cmp, is_eq, match_ordering, Decides-eqb}
+use Rattle.window_gate.proofs.Common.{nat_tests, map-append, Named, has_tag, TagsDiffer, number_of, Numbered, or_first_false, or_second_false}
 use Rattle.std.specs.List.Sorted.{IsStrictlySortedBy}
-use Rattle.window_gate.proofs.Names.{without, left_or, right_or, apart, differ_left, differ_right}
+use Rattle.window_gate.proofs.Names.{without, apart, differ_left, differ_right}
 
 -- ---- the order of numbers
 
@@ -114,8 +117,8 @@ others-append tag (e ∷ xs) ys =
 pub others-absent : (tag : ℕ) (es : Numbered) → list_any (has_tag tag) (values_of es) ≡ false → others tag es ≡ es
 others-absent tag [] absent = refl
 others-absent tag (e ∷ es) absent =
-    ap (λ b. cond (not b) (e ∷ others tag es) (others tag es)) (left_or (has_tag tag e.1) (list_any (has_tag tag) (values_of es)) absent)
-    ∙ ap (λ xs. e ∷ xs) (others-absent tag es (right_or (has_tag tag e.1) (list_any (has_tag tag) (values_of es)) absent))
+    ap (λ b. cond (not b) (e ∷ others tag es) (others tag es)) (or_first_false (has_tag tag e.1) (list_any (has_tag tag) (values_of es)) absent)
+    ∙ ap (λ xs. e ∷ xs) (others-absent tag es (or_second_false (has_tag tag e.1) (list_any (has_tag tag) (values_of es)) absent))
 
 -- rising numbers of other tags rise up to the same next one
 others_all : (P : ℕ → Type 0) (tag : ℕ) (es : Numbered) (ks : List ℕ) → AllByRecursion P (keys_of es ++ ks) → AllByRecursion P (keys_of (others tag es) ++ ks)
@@ -166,8 +169,8 @@ none_numbered tag (x ∷ es) e =
 pub not_numbered : (tag : ℕ) (es : Numbered) → list_any (has_tag tag) (values_of es) ≡ false → number_of tag es ≡ None
 not_numbered tag [] e = refl
 not_numbered tag (x ∷ es) e =
-    ap (λ b. cond b (Some x.0) (number_of tag es)) (left_or (has_tag tag x.1) (list_any (has_tag tag) (values_of es)) e)
-    ∙ not_numbered tag es (right_or (has_tag tag x.1) (list_any (has_tag tag) (values_of es)) e)
+    ap (λ b. cond b (Some x.0) (number_of tag es)) (or_first_false (has_tag tag x.1) (list_any (has_tag tag) (values_of es)) e)
+    ∙ not_numbered tag es (or_second_false (has_tag tag x.1) (list_any (has_tag tag) (values_of es)) e)
 
 some_numbered : (tag number : ℕ) (es : Numbered) → number_of tag es ≡ Some number → list_any (has_tag tag) (values_of es) ≡ true
 some_numbered tag number [] e = let f : None ≡ Some number = e in absurd (cc)

@@ -1,5 +1,7 @@
 -- Rows of one version: their order is that of the versions, and a difference of versions is one of rows.
-use Rattle.window_gate.proofs.Common.{◌≡◌, ◌∙◌, sym, ap, refl, subst, ℕ, ℤ, List, [], ◌∷◌, map, Bool, false, not, ◌&&◌, ◌||◌, Ordering, Less, Equal, Greater, nat_cmp, ordering_then, eq_by_cmp, is_eq, AllByRecursion, name_cmp, has, IsBetween, Named, Row, Delta, single, has_name, int_cmp, row_cmp, InOrder}
+use Rattle.window_gate.proofs.Common.{◌≡◌, ◌∙◌, sym, ap, refl, subst, ℕ, ℤ, List, [], ◌∷◌, map, Bool, false, not, ◌&&◌, ◌||◌, Ordering, Less, Equal, Greater}
+use Rattle.window_gate.proofs.Common.{nat_cmp, ordering_then, eq_by_cmp, is_eq, int_cmp, AllByRecursion, name_cmp, has, row_cmp, InOrder, IsBetween, Named, Row}
+use Rattle.window_gate.proofs.Common.{Delta, single, has_version}
 use mathlib.Core.Path.{fun_ext}
 use Rattle.std.specs.Cmp.Lexicographic.{slice_cmp}
 use Rattle.std.specs.List.Sorted.{IsStrictlySortedBy}
@@ -61,12 +63,12 @@ none row [] e = refl
 none row (x ∷ xs) e = ap (λ b. b || has (map single xs) row) (e x) ∙ none row xs e
 
 -- a version's row stands where the version does
-pub has-single : (named : Named) (xs : List Named) → has (map single xs) (single named) ≡ has_name xs named
+pub has-single : (named : Named) (xs : List Named) → has (map single xs) (single named) ≡ has_version xs named
 has-single named [] = refl
 has-single named (x ∷ xs) = ap (λ o. is_eq o || has (map single xs) (single named)) (row_cmp-single named x) ∙ ap (λ b. eq_by_cmp name_cmp named x || b) (has-single named xs)
 
 -- what holds of membership of each version holds of each row
-shaped : (P : (List Named → Bool) → Type 0) → P (λ xs. false) → ((named : Named) → P (λ xs. has_name xs named)) → (facts : List Named) (values : List ℤ) → P (λ xs. has (map single xs) (row_of facts values))
+shaped : (P : (List Named → Bool) → Type 0) → P (λ xs. false) → ((named : Named) → P (λ xs. has_version xs named)) → (facts : List Named) (values : List ℤ) → P (λ xs. has (map single xs) (row_of facts values))
 shaped P nowhere there [] values = subst P (sym (fun_ext (λ xs. none (row_of [] values) xs (no_facts values)))) nowhere
 shaped P nowhere there (fact ∷ []) [] = subst P (sym (fun_ext (λ xs. has-single fact xs))) (there fact)
 shaped P nowhere there (fact ∷ []) (value ∷ values) = subst P (sym (fun_ext (λ xs. none (row_of (fact ∷ []) (value ∷ values)) xs (some_values fact value values)))) nowhere
@@ -74,7 +76,7 @@ shaped P nowhere there (fact ∷ other ∷ facts) values = subst P (sym (fun_ext
 
 -- a difference of versions, in order, is one of their rows
 pub between_names : (old new gone come : List Named) → IsStrictlySortedBy name_cmp gone → IsStrictlySortedBy name_cmp come
-    → ((named : Named) → has_name gone named ≡ (has_name old named && not (has_name new named))) → ((named : Named) → has_name come named ≡ (has_name new named && not (has_name old named)))
+    → ((named : Named) → has_version gone named ≡ (has_version old named && not (has_version new named))) → ((named : Named) → has_version come named ≡ (has_version new named && not (has_version old named)))
     → (delta : Delta) → delta.gone ≡ map single gone → delta.come ≡ map single come → IsBetween (map single old) (map single new) delta
 between_names old new gone come gone_sorted come_sorted goes comes delta is_gone is_come = record {
   gone_in_order = subst InOrder (sym is_gone) (rows_in_order gone gone_sorted);

@@ -1,11 +1,16 @@
 -- The step of a time window, tag by tag.
-use Rattle.window_gate.proofs.Common.{◌≡◌, ◌∙◌, sym, ap, refl, subst, inl, inr, ◌⊎◌, ℕ, ℤ, pos, ◌+ℤ◌, ◌-ℤ◌, ◌≤ℤ◌, List, [], ◌∷◌, map, filter, Bool, true, false, cond, not, ◌==◌, ◌&&◌, ◌||◌, Option, Some, None, arith, negsuc, FitsSigned, w64, int_lt, int_le, IsStrictlySortedBy, list_any, option_or, option_to_list, Decides-eqb, ints, IsBetween, name_cmp, Delta, Named, Time, GateChange, Come, Gone, Clock, TimeWindow, Arrival, named_of, has_tag, inside, after, single, rows_inside, has_name, TagsDiffer, MayChange, with_tag, KeepsTime, Holds, is_id, has_come, leaves, brings, Leave, Enter, find-append, most}
+use Rattle.window_gate.proofs.Common.{◌≡◌, ◌∙◌, sym, ap, refl, subst, inl, inr, ◌⊎◌, ℕ, ℤ, pos, ◌+ℤ◌, ◌-ℤ◌, ◌≤ℤ◌, List, [], ◌∷◌, map, filter, Bool, true, false}
+use Rattle.window_gate.proofs.Common.{cond, not, ◌==◌, ◌&&◌, ◌||◌, Option, Some, None, arith, negsuc, FitsSigned, w64, int_lt, int_le, IsStrictlySortedBy}
+use Rattle.window_gate.proofs.Common.{list_any, option_or, option_to_list, Decides-eqb, ints, IsBetween, name_cmp, Delta, Named, Time, GateChange, Come, Gone}
+use Rattle.window_gate.proofs.Common.{Clock, TimeWindow, Arrival, named_of, has_tag, inside, after, single, rows_inside, has_version, TagsDiffer, MayChange}
+use Rattle.window_gate.proofs.Common.{with_tag, KeepsTime, HoldsArrivals, most, is_id, has_time_come, leaves, brings, Leave, Enter, find-append, and-false}
+use Rattle.window_gate.proofs.Common.{or-false, eqb-flip, or_first_false, or_second_false}
 use Rattle.std.specs.Int.{saturate_signed}
-use Rattle.window_gate.proofs.Names.{same_name, same_name-parts, none_with_tag, has_tag-same, left_or, right_or}
+use Rattle.window_gate.proofs.Names.{same_name, same_name-parts, none_with_tag, has_tag-same}
 use Rattle.window_gate.proofs.Insides.{is_recent, inside_time, differ_after}
 use Rattle.window_gate.proofs.Lengths.{few_in_order}
 use Rattle.window_gate.proofs.Singles.{between_names}
-use Rattle.window_gate.proofs.Holding.{holds_same, or_false, and_false, turned, arrival_of}
+use Rattle.window_gate.proofs.Holding.{holds_same, arrival_of}
 
 -- ---- the arrival with a tag, where it passes a test
 
@@ -18,8 +23,8 @@ only p (Some arrival) = cond (p arrival) (Some arrival) None
 no_arrival : (tag : ℕ) (arrivals : List Arrival) → list_any (has_tag tag) (map named_of arrivals) ≡ false → with_tag tag arrivals ≡ None
 no_arrival tag [] e = refl
 no_arrival tag (x ∷ arrivals) e =
-    ap (λ b. cond b (Some x) (with_tag tag arrivals)) (left_or (has_tag tag x.named) (list_any (has_tag tag) (map named_of arrivals)) e)
-    ∙ no_arrival tag arrivals (right_or (has_tag tag x.named) (list_any (has_tag tag) (map named_of arrivals)) e)
+    ap (λ b. cond b (Some x) (with_tag tag arrivals)) (or_first_false (has_tag tag x.named) (list_any (has_tag tag) (map named_of arrivals)) e)
+    ∙ no_arrival tag arrivals (or_second_false (has_tag tag x.named) (list_any (has_tag tag) (map named_of arrivals)) e)
 
 -- the tag of the first is not that of another
 later_absent : (tag : ℕ) (x : Arrival) (arrivals : List Arrival) → has_tag tag x.named ≡ true → list_any (has_tag x.named.tag.0) (map named_of arrivals) ≡ false → list_any (has_tag tag) (map named_of arrivals) ≡ false
@@ -48,9 +53,9 @@ filter_absent : (p : Arrival → Bool) (tag : ℕ) (arrivals : List Arrival) →
 filter_absent p tag [] e = refl
 filter_absent p tag (x ∷ arrivals) e =
     elim (p x) as (λ b. list_any (has_tag tag) (map named_of (cond b (x ∷ filter p arrivals) (filter p arrivals))) ≡ false) [
-      | true ↦ ap (λ b. b || list_any (has_tag tag) (map named_of (filter p arrivals))) (left_or (has_tag tag x.named) (list_any (has_tag tag) (map named_of arrivals)) e)
-          ∙ filter_absent p tag arrivals (right_or (has_tag tag x.named) (list_any (has_tag tag) (map named_of arrivals)) e)
-      | false ↦ filter_absent p tag arrivals (right_or (has_tag tag x.named) (list_any (has_tag tag) (map named_of arrivals)) e)
+      | true ↦ ap (λ b. b || list_any (has_tag tag) (map named_of (filter p arrivals))) (or_first_false (has_tag tag x.named) (list_any (has_tag tag) (map named_of arrivals)) e)
+          ∙ filter_absent p tag arrivals (or_second_false (has_tag tag x.named) (list_any (has_tag tag) (map named_of arrivals)) e)
+      | false ↦ filter_absent p tag arrivals (or_second_false (has_tag tag x.named) (list_any (has_tag tag) (map named_of arrivals)) e)
     ]
 
 filter_differ : (p : Arrival → Bool) (arrivals : List Arrival) → TagsDiffer (map named_of arrivals) → TagsDiffer (map named_of (filter p arrivals))
@@ -62,21 +67,21 @@ filter_differ p (x ∷ arrivals) differ =
     ]
 
 -- a version is there where the arrival with its tag has its id
-has_name-with_tag : (arrivals : List Arrival) (named : Named) → TagsDiffer (map named_of arrivals) → has_name (map named_of arrivals) named ≡ is_id named.id.0 (with_tag named.tag.0 arrivals)
+has_name-with_tag : (arrivals : List Arrival) (named : Named) → TagsDiffer (map named_of arrivals) → has_version (map named_of arrivals) named ≡ is_id named.id.0 (with_tag named.tag.0 arrivals)
 has_name-with_tag [] named differ = refl
 has_name-with_tag (x ∷ arrivals) named differ =
-    elim (has_tag named.tag.0 x.named) as (λ b. has_tag named.tag.0 x.named ≡ b → (same_name named x.named || has_name (map named_of arrivals) named) ≡ is_id named.id.0 (cond b (Some x) (with_tag named.tag.0 arrivals))) [
+    elim (has_tag named.tag.0 x.named) as (λ b. has_tag named.tag.0 x.named ≡ b → (same_name named x.named || has_version (map named_of arrivals) named) ≡ is_id named.id.0 (cond b (Some x) (with_tag named.tag.0 arrivals))) [
       | true ↦ λ is.
           ap (λ b. same_name named x.named || b) (none_with_tag (map named_of arrivals) named (later_absent named.tag.0 x arrivals is differ.0))
-          ∙ or_false (same_name named x.named) ∙ same_name-parts named x.named ∙ ap (λ b. b && (named.id.0 == x.named.id.0)) is
+          ∙ or-false (same_name named x.named) ∙ same_name-parts named x.named ∙ ap (λ b. b && (named.id.0 == x.named.id.0)) is
       | false ↦ λ is.
-          ap (λ b. b || has_name (map named_of arrivals) named) (same_name-parts named x.named ∙ ap (λ b. b && (named.id.0 == x.named.id.0)) is)
+          ap (λ b. b || has_version (map named_of arrivals) named) (same_name-parts named x.named ∙ ap (λ b. b && (named.id.0 == x.named.id.0)) is)
           ∙ has_name-with_tag arrivals named differ.1
     ] refl
 
 -- a version is inside where the arrival inside with its tag has its id
 name_inside : (millis now : ℤ) (arrivals : List Arrival) (named : Named) → TagsDiffer (map named_of arrivals)
-    → has_name (map named_of (inside (Time millis) now arrivals)) named ≡ is_id named.id.0 (with_tag named.tag.0 (inside (Time millis) now arrivals))
+    → has_version (map named_of (inside (Time millis) now arrivals)) named ≡ is_id named.id.0 (with_tag named.tag.0 (inside (Time millis) now arrivals))
 name_inside millis now arrivals named differ =
     has_name-with_tag (inside (Time millis) now arrivals) named
     (subst (λ (xs : List Arrival). TagsDiffer (map named_of xs)) (sym (inside_time millis now arrivals)) (filter_differ (is_recent millis now) arrivals differ))
@@ -91,7 +96,7 @@ only_other tag q [] = either_way (q == tag) None
     either_way false o = refl
 only_other tag q (x ∷ arrivals) =
     elim (has_tag q x.named) as (λ b. has_tag q x.named ≡ b → only (λ arrival. not (has_tag tag arrival.named)) (cond b (Some x) (with_tag q arrivals)) ≡ cond (q == tag) None (cond b (Some x) (with_tag q arrivals))) [
-      | true ↦ λ is. ap (λ k. cond (not (tag == k)) (Some x) None) (sym ((Decides-eqb q x.named.tag.0).0 is)) ∙ ap (λ b. cond (not b) (Some x) None) (turned tag q) ∙ flipped (q == tag) x
+      | true ↦ λ is. ap (λ k. cond (not (tag == k)) (Some x) None) (sym ((Decides-eqb q x.named.tag.0).0 is)) ∙ ap (λ b. cond (not b) (Some x) None) (eqb-flip tag q) ∙ flipped (q == tag) x
       | false ↦ λ is. only_other tag q arrivals
     ] refl
   where
@@ -130,13 +135,13 @@ still_recent millis now start = grind (arith, ints)
 
 module _ (millis was now : ℤ) (pass : was ≤ℤ now) where
   -- what stays inside
-  stays : (t : Bool) (o : Option Arrival) → only (is_recent millis now) (cond t None o) ≡ cond (has_come millis now (only (is_recent millis was) o) || t) None (only (is_recent millis was) o)
+  stays : (t : Bool) (o : Option Arrival) → only (is_recent millis now) (cond t None o) ≡ cond (has_time_come millis now (only (is_recent millis was) o) || t) None (only (is_recent millis was) o)
   stays true None = refl
   stays false None = refl
   stays t (Some a) = by t (is_recent millis was a) (is_recent millis now a) (int_le (a.start +ℤ millis) now) refl (recent_until millis now a.start) refl (recent_before millis was now a.start pass)
     where
       by : (t before later d : Bool) → int_le (a.start +ℤ millis) now ≡ d → later ≡ not d → is_recent millis now a ≡ later → (later ≡ true → before ≡ true)
-          → only (is_recent millis now) (cond t None (Some a)) ≡ cond (has_come millis now (cond before (Some a) None) || t) None (cond before (Some a) None)
+          → only (is_recent millis now) (cond t None (Some a)) ≡ cond (has_time_come millis now (cond before (Some a) None) || t) None (cond before (Some a) None)
       by true true later d due e l g = either d ∙ ap (λ b. cond (b || true) None (Some a)) (sym due)
         where
           either : (d : Bool) → None ≡ cond (d || true) None (Some a)
@@ -153,8 +158,8 @@ module _ (millis was now : ℤ) (pass : was ≤ℤ now) where
     abbrev before : ℕ → Option Arrival
     before tag = with_tag tag (inside (Time millis) was arrivals)
 
-    stays_inside : (t : Bool) (tag : ℕ) → only (is_recent millis now) (cond t None (with_tag tag arrivals)) ≡ cond (has_come millis now (before tag) || t) None (before tag)
-    stays_inside t tag = stays t (with_tag tag arrivals) ∙ ap (λ o. cond (has_come millis now o || t) None o) (sym (with_tag-inside millis was tag arrivals differ))
+    stays_inside : (t : Bool) (tag : ℕ) → only (is_recent millis now) (cond t None (with_tag tag arrivals)) ≡ cond (has_time_come millis now (before tag) || t) None (before tag)
+    stays_inside t tag = stays t (with_tag tag arrivals) ∙ ap (λ o. cond (has_time_come millis now o || t) None o) (sym (with_tag-inside millis was tag arrivals differ))
 
     -- what is inside after
     inside_after : (change : GateChange) → MayChange (Time millis) (map named_of arrivals) change → (tag : ℕ)
@@ -172,7 +177,7 @@ module _ (millis was now : ℤ) (pass : was ≤ℤ now) where
             → only (is_recent millis now) (with_tag tag (after arrivals change)) ≡ option_or (brings millis now change tag) (cond (leaves millis now change tag (before tag)) None (before tag))
         by (Come named start) may =
             ap (only (is_recent millis now)) (with_tag-come named start tag arrivals may.0)
-            ∙ joined (tag == named.tag.0) (int_lt now (start +ℤ millis)) (arrival_of named start) (with_tag tag arrivals) (cond (has_come millis now (before tag) || false) None (before tag)) (still_recent millis now start)
+            ∙ joined (tag == named.tag.0) (int_lt now (start +ℤ millis)) (arrival_of named start) (with_tag tag arrivals) (cond (has_time_come millis now (before tag) || false) None (before tag)) (still_recent millis now start)
             (λ e. sym (stays_inside false tag) ∙ ap (only (is_recent millis now)) (ap (λ k. with_tag k arrivals) ((Decides-eqb tag named.tag.0).0 e) ∙ no_arrival named.tag.0 arrivals may.0))
             (stays_inside false tag)
         by (Gone named) may = ap (only (is_recent millis now)) (with_tag-gone named tag arrivals differ) ∙ stays_inside (tag == named.tag.0) tag
@@ -204,7 +209,7 @@ goes id l new o (inl e) = either l (is_id id o) ∙ ap (λ b. is_id id o && not 
     moved : (l : Bool) → cond l false (is_id id o) ≡ is_id id (cond l None o)
     moved true = refl
     moved false = refl
-goes id l new o (inr e) = ap (λ p. l && is_id id p) e ∙ and_false l ∙ ap (λ p. is_id id p && not (is_id id (option_or new (cond l None o)))) (sym e)
+goes id l new o (inr e) = ap (λ p. l && is_id id p) e ∙ and-false l ∙ ap (λ p. is_id id p && not (is_id id (option_or new (cond l None o)))) (sym e)
 
 -- and what is brought the other way round
 comes : (id : ℕ) (l : Bool) (new o : Option Arrival) → (new ≡ None) ⊎ (o ≡ None) → is_id id new ≡ (is_id id (option_or new (cond l None o)) && not (is_id id o))
@@ -236,15 +241,15 @@ module _ (old mid new : TimeWindow) (arrivals : List Arrival) (was now : ℤ) (p
     (enter : Enter mid new (brings mid.millis now change) come) (same : new.millis ≡ mid.millis) where
   pub step_keeps : KeepsTime new (after arrivals change) now
   step_keeps =
-      subst (λ m. Holds new (λ tag. with_tag tag (inside (Time m) now (after arrivals change)))) (sym (same ∙ leave.millis))
+      subst (λ m. HoldsArrivals new (λ tag. with_tag tag (inside (Time m) now (after arrivals change)))) (sym (same ∙ leave.millis))
       (holds_same new _ _ (λ tag. ap (λ m. option_or (brings m now change tag) (cond (leaves old.millis now change tag (with_tag tag (inside (Time old.millis) was arrivals))) None (with_tag tag (inside (Time old.millis) was arrivals)))) leave.millis
       ∙ sym (inside_after old.millis was now pass arrivals differ change may tag)) (enter.rest _ (leave.rest _ keeps)))
 
   -- the versions inside before and after
-  was_named : (named : Named) → has_name (map named_of (inside (Time old.millis) was arrivals)) named ≡ is_id named.id.0 (before old.millis was now pass arrivals differ named.tag.0)
+  was_named : (named : Named) → has_version (map named_of (inside (Time old.millis) was arrivals)) named ≡ is_id named.id.0 (before old.millis was now pass arrivals differ named.tag.0)
   was_named named = name_inside old.millis was arrivals named differ
 
-  now_named : (named : Named) → has_name (map named_of (inside (Time old.millis) now (after arrivals change))) named
+  now_named : (named : Named) → has_version (map named_of (inside (Time old.millis) now (after arrivals change))) named
       ≡ is_id named.id.0 (option_or (brings old.millis now change named.tag.0) (cond (leaves old.millis now change named.tag.0 (before old.millis was now pass arrivals differ named.tag.0)) None (before old.millis was now pass arrivals differ named.tag.0)))
   now_named named =
       name_inside old.millis now (after arrivals change) named (differ_after (Time old.millis) arrivals change differ may)

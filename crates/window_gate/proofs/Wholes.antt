@@ -1,5 +1,7 @@
 -- The difference of a window that is whole is the change.
-use Rattle.window_gate.proofs.Common.{◌≡◌, ◌∙◌, sym, ap, refl, subst, ℤ, ◌<◌, arith, length, List, [], ◌∷◌, map, Bool, true, false, not, ◌==◌, ◌&&◌, ◌||◌, Result, Ok, Err, IfOk, list_any, eq_by_cmp, list_any-append, name_cmp, IsBetween, Named, Delta, Whole, GateChange, Come, Gone, Clock, Arrival, named_of, has_tag, single, after, rows_inside, has_name, TagsDiffer, MayChange}
+use Rattle.window_gate.proofs.Common.{◌≡◌, ◌∙◌, sym, ap, refl, subst, ℤ, ◌<◌, arith, length, List, [], ◌∷◌, map, Bool, true, false, not, ◌==◌, ◌&&◌, ◌||◌}
+use Rattle.window_gate.proofs.Common.{Result, Ok, Err, IfOk, list_any, eq_by_cmp, list_any-append, name_cmp, IsBetween, Named, Delta, Whole, GateChange, Come}
+use Rattle.window_gate.proofs.Common.{Gone, Clock, Arrival, named_of, has_tag, single, after, rows_inside, has_version, TagsDiffer, MayChange, and_not_self}
 use Rattle.std.specs.List.Sorted.{IsStrictlySortedBy}
 use Rattle.window_gate.proofs.Names.{same_name, equal_names, none_with_tag, names-without, only_one}
 use Rattle.window_gate.proofs.Singles.{between_names}
@@ -21,17 +23,12 @@ short_in_order (x ∷ []) short = one_in_order x
 short_in_order (x ∷ y ∷ xs) short = absurd (omega arith)
 
 -- one version is there where it is asked for
-pub only_it : (named one : Named) → has_name (one ∷ []) named ≡ same_name named one
+pub only_it : (named one : Named) → has_version (one ∷ []) named ≡ same_name named one
 only_it named one = or_false (same_name named one)
   where
     or_false : (a : Bool) → (a || false) ≡ a
     or_false true = refl
     or_false false = refl
-
--- nothing changes
-pub same_stays : (h : Bool) → false ≡ (h && not h)
-same_stays true = refl
-same_stays false = refl
 
 -- what comes was not there
 pub nothing_goes : (h x : Bool) → false ≡ (h && not (h || x))
@@ -61,8 +58,8 @@ rows_are now arrivals = ap (λ xs. map single (map named_of xs)) (sym (inside_wh
 
 -- a difference of all versions
 pub whole_between : {E : Type 0} (arrivals : List Arrival) (was now : ℤ) (change : GateChange) (gone come : List Named) (r : Result Delta E) → IsStrictlySortedBy name_cmp gone → IsStrictlySortedBy name_cmp come
-    → ((named : Named) → has_name gone named ≡ (has_name (map named_of arrivals) named && not (has_name (map named_of (after arrivals change)) named)))
-    → ((named : Named) → has_name come named ≡ (has_name (map named_of (after arrivals change)) named && not (has_name (map named_of arrivals) named)))
+    → ((named : Named) → has_version gone named ≡ (has_version (map named_of arrivals) named && not (has_version (map named_of (after arrivals change)) named)))
+    → ((named : Named) → has_version come named ≡ (has_version (map named_of (after arrivals change)) named && not (has_version (map named_of arrivals) named)))
     → IfOk r (λ delta. delta.gone ≡ map single gone) → IfOk r (λ delta. delta.come ≡ map single come)
     → IfOk r (IsBetween (rows_inside Whole was arrivals) (rows_inside Whole now (after arrivals change)))
 whole_between arrivals was now change gone come (Ok delta) gone_sorted come_sorted goes comes is_gone is_come =
@@ -79,15 +76,15 @@ pub whole_come : {E : Type 0} (arrivals : List Arrival) (was now : ℤ) (named :
 whole_come {E} arrivals was now named start change r is differ may is_gone is_come =
     let P : GateChange → Type 0 = λ change. MayChange Whole (map named_of arrivals) change → IfOk r (IsBetween (rows_inside Whole was arrivals) (rows_inside Whole now (after arrivals change))) in
     subst P is (λ fits. whole_between arrivals was now (Come named start) [] (named ∷ []) r none_in_order (one_in_order named)
-    (λ other. nothing_goes (has_name (map named_of arrivals) other) (has_name (named ∷ []) other) ∙ ap (λ b. has_name (map named_of arrivals) other && not b) (sym (all other)))
-    (λ other. one_comes (has_name (map named_of arrivals) other) (has_name (named ∷ []) other) (λ e. new other (fits.0) (sym (only_it other named) ∙ e)) ∙ ap (λ b. b && not (has_name (map named_of arrivals) other)) (sym (all other)))
+    (λ other. nothing_goes (has_version (map named_of arrivals) other) (has_version (named ∷ []) other) ∙ ap (λ b. has_version (map named_of arrivals) other && not b) (sym (all other)))
+    (λ other. one_comes (has_version (map named_of arrivals) other) (has_version (named ∷ []) other) (λ e. new other (fits.0) (sym (only_it other named) ∙ e)) ∙ ap (λ b. b && not (has_version (map named_of arrivals) other)) (sym (all other)))
     is_gone is_come) may
   where
-    all : (other : Named) → has_name (map named_of (after arrivals (Come named start))) other ≡ (has_name (map named_of arrivals) other || has_name (named ∷ []) other)
-    all other = ap (λ xs. has_name xs other) (named-push arrivals (record { named = named; start = start })) ∙ list_any-append (eq_by_cmp name_cmp other) (map named_of arrivals) (named ∷ [])
+    all : (other : Named) → has_version (map named_of (after arrivals (Come named start))) other ≡ (has_version (map named_of arrivals) other || has_version (named ∷ []) other)
+    all other = ap (λ xs. has_version xs other) (named-push arrivals (record { named = named; start = start })) ∙ list_any-append (eq_by_cmp name_cmp other) (map named_of arrivals) (named ∷ [])
 
-    new : (other : Named) → list_any (has_tag named.tag.0) (map named_of arrivals) ≡ false → same_name other named ≡ true → has_name (map named_of arrivals) other ≡ false
-    new other absent e = ap (has_name (map named_of arrivals)) (equal_names other named e) ∙ none_with_tag (map named_of arrivals) named absent
+    new : (other : Named) → list_any (has_tag named.tag.0) (map named_of arrivals) ≡ false → same_name other named ≡ true → has_version (map named_of arrivals) other ≡ false
+    new other absent e = ap (has_version (map named_of arrivals)) (equal_names other named e) ∙ none_with_tag (map named_of arrivals) named absent
 
 -- a version goes
 pub whole_gone : {E : Type 0} (arrivals : List Arrival) (was now : ℤ) (named : Named) (change : GateChange) (r : Result Delta E) → Gone named ≡ change
@@ -97,13 +94,13 @@ pub whole_gone : {E : Type 0} (arrivals : List Arrival) (was now : ℤ) (named :
 whole_gone {E} arrivals was now named change r is differ may is_gone is_come =
     let P : GateChange → Type 0 = λ change. MayChange Whole (map named_of arrivals) change → IfOk r (IsBetween (rows_inside Whole was arrivals) (rows_inside Whole now (after arrivals change))) in
     subst P is (λ there. whole_between arrivals was now (Gone named) (named ∷ []) [] r (one_in_order named) none_in_order
-    (λ other. only_it other named ∙ one_goes (has_name (map named_of arrivals) other) (named.tag.0 == other.tag.0) (same_name other named) (only_one (map named_of arrivals) named other differ there)
-    ∙ ap (λ b. has_name (map named_of arrivals) other && not b) (sym (left other)))
-    (λ other. nothing_comes (has_name (map named_of arrivals) other) (named.tag.0 == other.tag.0) ∙ ap (λ b. b && not (has_name (map named_of arrivals) other)) (sym (left other)))
+    (λ other. only_it other named ∙ one_goes (has_version (map named_of arrivals) other) (named.tag.0 == other.tag.0) (same_name other named) (only_one (map named_of arrivals) named other differ there)
+    ∙ ap (λ b. has_version (map named_of arrivals) other && not b) (sym (left other)))
+    (λ other. nothing_comes (has_version (map named_of arrivals) other) (named.tag.0 == other.tag.0) ∙ ap (λ b. b && not (has_version (map named_of arrivals) other)) (sym (left other)))
     is_gone is_come) may
   where
-    left : (other : Named) → has_name (map named_of (after arrivals (Gone named))) other ≡ (has_name (map named_of arrivals) other && not (named.tag.0 == other.tag.0))
-    left other = ap (λ xs. has_name xs other) (named-filter named.tag.0 arrivals) ∙ names-without named.tag.0 (map named_of arrivals) other
+    left : (other : Named) → has_version (map named_of (after arrivals (Gone named))) other ≡ (has_version (map named_of arrivals) other && not (named.tag.0 == other.tag.0))
+    left other = ap (λ xs. has_version xs other) (named-filter named.tag.0 arrivals) ∙ names-without named.tag.0 (map named_of arrivals) other
 
 -- the clock moves
 pub whole_clock : {E : Type 0} (arrivals : List Arrival) (was now : ℤ) (change : GateChange) (r : Result Delta E) → Clock ≡ change
@@ -112,4 +109,4 @@ pub whole_clock : {E : Type 0} (arrivals : List Arrival) (was now : ℤ) (change
 whole_clock arrivals was now change r is is_gone is_come =
     let P : GateChange → Type 0 = λ change. IfOk r (IsBetween (rows_inside Whole was arrivals) (rows_inside Whole now (after arrivals change))) in
     subst P is (whole_between arrivals was now Clock [] [] r none_in_order none_in_order
-    (λ other. same_stays (has_name (map named_of arrivals) other)) (λ other. same_stays (has_name (map named_of arrivals) other)) is_gone is_come)
+    (λ other. and_not_self (has_version (map named_of arrivals) other)) (λ other. and_not_self (has_version (map named_of arrivals) other)) is_gone is_come)

@@ -1,5 +1,6 @@
 -- The steps of the two windows that keep something.
-use Rattle.std.specs.Prelude.{◌≡◌, ℕ, ℤ, ◌<◌, ◌≤◌, ◌+ℤ◌, ◌⊎◌, ◌==◌, ◌&&◌, ◌||◌, Bool, false, cond, List, [], ◌∷◌, ◌++◌, Option, Some, None, option_to_list, length, int_le, int_lt}
+use Rattle.std.specs.Prelude.{◌≡◌, ℕ, ℤ, ◌<◌, ◌≤◌, ◌+ℤ◌, ◌⊎◌, ◌==◌, ◌&&◌, ◌||◌, Bool, false, cond, List, [], ◌∷◌, ◌++◌, Option, Some, None, option_to_list}
+use Rattle.std.specs.Prelude.{length, int_le, int_lt}
 use Rattle.std.specs.BTreeMap.{insert_entry, is_at}
 use Rattle.std.specs.Map.{lookup, remove_entry}
 use Rattle.std.specs.Option.{option_or}
@@ -9,7 +10,7 @@ use Rattle.window_gate.specs.declared.change.GateChange.{GateChange}
 use Rattle.window_gate.specs.declared.change.GateChange.TheVariants.{Come, Gone, Clock}
 use Rattle.window_gate.specs.declared.time_window.TimeWindow.{TimeWindow}
 use Rattle.window_gate.specs.Windows.{Arrival}
-use Rattle.window_gate.specs.Standing.{Held, Holds, has_name}
+use Rattle.window_gate.specs.Standing.{HeldArrivals, HoldsArrivals, has_version}
 
 -- versions under their numbers
 abbrev pub Numbered : Type 0
@@ -36,9 +37,9 @@ is_id id None = false
 is_id id (Some arrival) = id == arrival.named.id.0
 
 -- whether there is an arrival and the moment when it leaves has come
-abbrev pub has_come : ℤ → ℤ → Option Arrival → Bool
-has_come millis now None = false
-has_come millis now (Some arrival) = int_le (arrival.start +ℤ millis) now
+abbrev pub has_time_come : ℤ → ℤ → Option Arrival → Bool
+has_time_come millis now None = false
+has_time_come millis now (Some arrival) = int_le (arrival.start +ℤ millis) now
 
 -- whether the change takes out this tag
 abbrev pub takes_out : GateChange → ℕ → Bool
@@ -48,10 +49,10 @@ takes_out Clock tag = false
 
 -- those leave whose moment has come, and the one that goes
 abbrev pub leaves : ℤ → ℤ → GateChange → ℕ → Option Arrival → Bool
-leaves millis now change tag one = has_come millis now one || takes_out change tag
+leaves millis now change tag one = has_time_come millis now one || takes_out change tag
 
 -- the arrival with this tag that the change brings inside
-abbrev pub brings : ℤ → ℤ → GateChange → Held
+abbrev pub brings : ℤ → ℤ → GateChange → HeldArrivals
 brings millis now (Come named start) tag = cond (int_lt now (start +ℤ millis) && (tag == named.tag.0)) (Some (record { named = named; start = start })) None
 brings millis now (Gone named) tag = None
 brings millis now Clock tag = None
@@ -59,10 +60,10 @@ brings millis now Clock tag = None
 -- of what a time window holds those leave for which the test is true, and these are their versions
 pub record Leave (old new : TimeWindow) (test : ℕ → Option Arrival → Bool) (left : List Named) : Type 0 where
   pub millis : new.millis ≡ old.millis
-  pub versions : (held : Held) → Holds old held → (named : Named) → has_name left named ≡ (test named.tag.0 (held named.tag.0) && is_id named.id.0 (held named.tag.0))
-  pub rest : (held : Held) → Holds old held → Holds new (λ tag. cond (test tag (held tag)) None (held tag))
+  pub versions : (held : HeldArrivals) → HoldsArrivals old held → (named : Named) → has_version left named ≡ (test named.tag.0 (held named.tag.0) && is_id named.id.0 (held named.tag.0))
+  pub rest : (held : HeldArrivals) → HoldsArrivals old held → HoldsArrivals new (λ tag. cond (test tag (held tag)) None (held tag))
 
 -- these enter a time window, each in place of what it holds with its tag, and this is their version
-pub record Enter (old new : TimeWindow) (these : Held) (come : Option Named) : Type 0 where
-  pub version : (named : Named) → has_name (option_to_list come) named ≡ is_id named.id.0 (these named.tag.0)
-  pub rest : (held : Held) → Holds old held → Holds new (λ tag. option_or (these tag) (held tag))
+pub record Enter (old new : TimeWindow) (these : HeldArrivals) (come : Option Named) : Type 0 where
+  pub version : (named : Named) → has_version (option_to_list come) named ≡ is_id named.id.0 (these named.tag.0)
+  pub rest : (held : HeldArrivals) → HoldsArrivals old held → HoldsArrivals new (λ tag. option_or (these tag) (held tag))

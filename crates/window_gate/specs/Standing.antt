@@ -4,8 +4,8 @@ use Rattle.std.specs.BTreeMap.{get}
 use Rattle.std.specs.List.{list_any, find}
 use Rattle.std.specs.List.Sorted.{IsStrictlySortedBy}
 use Rattle.std.specs.Map.{keys_of, values_of}
-use Rattle.std.specs.declared.cmp.Ordering.{Ordering}
-use Rattle.std.specs.Ordering.{nat_cmp, int_cmp, ordering_then, eq_by_cmp}
+use Rattle.std.specs.Ordering.{nat_cmp, eq_by_cmp}
+use Rattle.due_queue.specs.Moments.{found}
 use Rattle.fx_base.specs.declared.ids.FactId.{FactId}
 use Rattle.row_delta.specs.NameOrder.{name_cmp}
 use Rattle.row_delta.specs.declared.row.Named.{Named}
@@ -21,8 +21,8 @@ use Rattle.window_gate.specs.declared.time_window.TimeWindow.{TimeWindow}
 use Rattle.window_gate.specs.Windows.{Arrival, named_of, has_tag, inside}
 
 -- whether a version stands in a list
-abbrev pub has_name : List Named → Named → Bool
-has_name names named = list_any (eq_by_cmp name_cmp named) names
+abbrev pub has_version : List Named → Named → Bool
+has_version names named = list_any (eq_by_cmp name_cmp named) names
 
 -- no two versions have the same tag
 abbrev pub TagsDiffer : List Named → Type 0
@@ -39,26 +39,20 @@ number_of tag [] = None
 number_of tag (numbered ∷ later) = cond (has_tag tag numbered.1) (Some numbered.0) (number_of tag later)
 
 -- arrivals by their tags
-abbrev pub Held : Type 0
-Held = ℕ → Option Arrival
+abbrev pub HeldArrivals : Type 0
+HeldArrivals = ℕ → Option Arrival
 
--- the id of an arrival, where there is one and it leaves at this moment
-abbrev pub id_at : ℤ → ℤ → Option Arrival → Option FactId
-id_at millis at None = None
-id_at millis at (Some arrival) = cond (eq_by_cmp int_cmp (arrival.start +ℤ millis) at) (Some arrival.named.id) None
+-- when an arrival leaves a time window, with its id
+abbrev pub leaves_at : ℤ → Arrival → ℤ × FactId
+leaves_at millis arrival = (arrival.start +ℤ millis, arrival.named.id)
 
--- moments with tags are ordered by the moments, then by the tags
-abbrev pub leaving_cmp : ℤ × ℕ → ℤ × ℕ → Ordering
-leaving_cmp a b = ordering_then (int_cmp a.0 b.0) (nat_cmp a.1 b.1)
+-- a time window holds these and no others: by the tag when each leaves, with its id
+pub record HoldsArrivals (window : TimeWindow) (held : HeldArrivals) : Type 0 where
+  pub leaving : (tag : ℕ) → found nat_cmp window.leaving tag ≡ option_map (leaves_at window.millis) (held tag)
 
--- a time window holds these and no others: by the tag when each leaves, and by that moment and the tag its id
-pub record Holds (window : TimeWindow) (held : Held) : Type 0 where
-  pub moments : (tag : ℕ) → get nat_cmp window.moments tag ≡ option_map (λ arrival. arrival.start +ℤ window.millis) (held tag)
-  pub leaving : (at : ℤ) (tag : ℕ) → get leaving_cmp window.leaving (at, tag) ≡ id_at window.millis at (held tag)
-
--- a time window keeps the arrivals inside and no others: by its tag when each leaves, and by both its id
+-- a time window keeps the arrivals inside and no others: by the tag when each leaves, with its id
 abbrev pub KeepsTime : TimeWindow → List Arrival → ℤ → Type 0
-KeepsTime window arrivals now = Holds window (λ tag. with_tag tag (inside (Time window.millis) now arrivals))
+KeepsTime window arrivals now = HoldsArrivals window (λ tag. with_tag tag (inside (Time window.millis) now arrivals))
 
 -- the numbered versions that a length window keeps, the older ones first
 abbrev pub numbered : LengthWindow → List (ℕ × Named)
@@ -72,10 +66,10 @@ pub record KeepsLength (window : LengthWindow) (arrivals : List Arrival) (now : 
   pub numbers : (tag : ℕ) → get nat_cmp window.numbers tag ≡ number_of tag (numbered window)
 
 -- what a gate keeps of the arrivals: nothing, where all are inside
-abbrev pub Keeps : Kept → List Arrival → ℤ → Type 0
-Keeps kept.Whole arrivals now = Unit {0}
-Keeps (kept.Time window) arrivals now = KeepsTime window arrivals now
-Keeps (kept.Length window) arrivals now = KeepsLength window arrivals now
+abbrev pub KeepsWindow : Kept → List Arrival → ℤ → Type 0
+KeepsWindow kept.Whole arrivals now = Unit {0}
+KeepsWindow (kept.Time window) arrivals now = KeepsTime window arrivals now
+KeepsWindow (kept.Length window) arrivals now = KeepsLength window arrivals now
 
 -- the window of what is kept
 abbrev pub window_kept : Kept → WindowKind
@@ -88,9 +82,9 @@ abbrev pub window_of : Gate → WindowKind
 window_of gate = window_kept gate.kept
 
 -- the gate stands for these arrivals at this moment: their tags differ, and it keeps what its window needs of them and no more
-pub record Stands (gate : Gate) (arrivals : List Arrival) (now : ℤ) : Type 0 where
+pub record StandsForArrivals (gate : Gate) (arrivals : List Arrival) (now : ℤ) : Type 0 where
   pub tags : TagsDiffer (map named_of arrivals)
-  pub keeps : Keeps gate.kept arrivals now
+  pub keeps : KeepsWindow gate.kept arrivals now
 
 -- the greatest start and length of a time window, in milliseconds
 abbrev pub most : ℤ
@@ -110,7 +104,7 @@ MayStart (Length size) start = Unit {0}
 
 -- what a gate that keeps nothing alone asks of a version that goes: it came, and has not gone since
 abbrev pub MayGo : WindowKind → List Named → Named → Type 0
-MayGo Whole names named = has_name names named ≡ true
+MayGo Whole names named = has_version names named ≡ true
 MayGo (Time millis) names named = Unit {0}
 MayGo (Length size) names named = Unit {0}
 
@@ -121,7 +115,7 @@ MayChange window names (Gone named) = MayGo window names named
 MayChange window names Clock = Unit {0}
 
 -- a change at this moment that a gate takes, which stands for these arrivals at the moment before
-pub record Takes (window : WindowKind) (arrivals : List Arrival) (was : ℤ) (change : GateChange) (now : ℤ) : Type 0 where
+pub record TakesChange (window : WindowKind) (arrivals : List Arrival) (was : ℤ) (change : GateChange) (now : ℤ) : Type 0 where
   pub passes : MayPass window was now
   pub changes : MayChange window (map named_of arrivals) change
 

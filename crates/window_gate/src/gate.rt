@@ -6,7 +6,7 @@ ghost use Rattle.row_delta.specs.declared.row.Row.{Row};
 ghost use Rattle.window_gate.specs.declared.change.WindowKind.TheVariants.{Whole};
 ghost use Rattle.window_gate.specs.declared.gate.Kept.TheVariants as kept;
 ghost use Rattle.window_gate.specs.Windows.{Arrival, named_of, after, inside, rows_inside};
-ghost use Rattle.window_gate.specs.Standing.{Stands, Takes, TagsDiffer, MayChange, LeavesAt, window_of};
+ghost use Rattle.window_gate.specs.Standing.{StandsForArrivals, TakesChange, TagsDiffer, MayChange, LeavesAt, window_of};
 
 use crate::change::{GateChange, WindowKind};
 use crate::length_window::LengthWindow;
@@ -36,7 +36,7 @@ impl Gate {
     /// A gate to which no fact has come. Takes no memory.
     pub fn new(alloc: Global, window: WindowKind) -> Gate
         ensures window { window_of result ≡ window }
-        ensures stands { (now : ℤ) → Stands result [] now }
+        ensures stands { (now : ℤ) → StandsForArrivals result [] now }
     {
         let kept = match window {
             WindowKind::Whole => Kept::Whole,
@@ -60,11 +60,11 @@ impl Gate {
     /// The moment of the clock from which a fact that is inside leaves by the clock alone; `None` where none ever does. Until then
     /// a move of the clock changes nothing. Takes no memory.
     pub fn quiet_until(&self) -> Option<Millis>
-        ensures stands { (arrivals : List Arrival) (was now : ℤ) → Stands self.now arrivals was → was ≤ℤ now → IfSome result (λ at. now <ℤ at)
-            → Stands self.now arrivals now }
-        ensures leaves { (arrivals : List Arrival) (was : ℤ) → Stands self.now arrivals was
+        ensures stands { (arrivals : List Arrival) (was now : ℤ) → StandsForArrivals self.now arrivals was → was ≤ℤ now → IfSome result (λ at. now <ℤ at)
+            → StandsForArrivals self.now arrivals now }
+        ensures leaves { (arrivals : List Arrival) (was : ℤ) → StandsForArrivals self.now arrivals was
             → IfSome result (λ at. (arrival : Arrival) × In arrival (inside (window_of self.now) was arrivals) × LeavesAt (window_of self.now) arrival at) }
-        ensures inside { (arrivals : List Arrival) (was now : ℤ) → Stands self.now arrivals was → was ≤ℤ now → IfSome result (λ at. now <ℤ at)
+        ensures inside { (arrivals : List Arrival) (was now : ℤ) → StandsForArrivals self.now arrivals was → was ≤ℤ now → IfSome result (λ at. now <ℤ at)
             → (row : Row) → has (rows_inside (window_of self.now) now arrivals) row ≡ has (rows_inside (window_of self.now) was arrivals) row }
     {
         match &self.kept {
@@ -84,11 +84,11 @@ impl Gate {
         now: Millis,
     ) -> Result<(Gate, Delta), NoMemory>
         ensures window { IfOk result (λ r. window_of r.0 ≡ window_of self) }
-        ensures stands { (arrivals : List Arrival) (was : ℤ) → Stands self arrivals was → Takes (window_of self) arrivals was change.now now
-            → IfOk result (λ r. Stands r.0 (after arrivals change.now) now) }
-        ensures between { (arrivals : List Arrival) (was : ℤ) → Stands self arrivals was → Takes (window_of self) arrivals was change.now now
+        ensures stands { (arrivals : List Arrival) (was : ℤ) → StandsForArrivals self arrivals was → TakesChange (window_of self) arrivals was change.now now
+            → IfOk result (λ r. StandsForArrivals r.0 (after arrivals change.now) now) }
+        ensures between { (arrivals : List Arrival) (was : ℤ) → StandsForArrivals self arrivals was → TakesChange (window_of self) arrivals was change.now now
             → IfOk result (λ r. IsBetween (rows_inside (window_of self) was arrivals) (rows_inside (window_of self) now (after arrivals change.now)) r.1) }
-        ensures disjoint { (arrivals : List Arrival) (was : ℤ) → Stands self arrivals was → Takes (window_of self) arrivals was change.now now
+        ensures disjoint { (arrivals : List Arrival) (was : ℤ) → StandsForArrivals self arrivals was → TakesChange (window_of self) arrivals was change.now now
             → IfOk result (λ r. IsDisjoint r.1) }
     {
         match self.kept {
@@ -125,11 +125,11 @@ impl Gate {
         now: Millis,
     ) -> Result<Delta, NoMemory>
         ensures window { OnOk result (window_of self.new ≡ window_of self.old) }
-        ensures stands { (arrivals : List Arrival) (was : ℤ) → Stands self.old arrivals was → Takes (window_of self.old) arrivals was change.now now
-            → OnOk result (Stands self.new (after arrivals change.now) now) }
-        ensures between { (arrivals : List Arrival) (was : ℤ) → Stands self.old arrivals was → Takes (window_of self.old) arrivals was change.now now
+        ensures stands { (arrivals : List Arrival) (was : ℤ) → StandsForArrivals self.old arrivals was → TakesChange (window_of self.old) arrivals was change.now now
+            → OnOk result (StandsForArrivals self.new (after arrivals change.now) now) }
+        ensures between { (arrivals : List Arrival) (was : ℤ) → StandsForArrivals self.old arrivals was → TakesChange (window_of self.old) arrivals was change.now now
             → IfOk result (IsBetween (rows_inside (window_of self.old) was arrivals) (rows_inside (window_of self.old) now (after arrivals change.now))) }
-        ensures disjoint { (arrivals : List Arrival) (was : ℤ) → Stands self.old arrivals was → Takes (window_of self.old) arrivals was change.now now
+        ensures disjoint { (arrivals : List Arrival) (was : ℤ) → StandsForArrivals self.old arrivals was → TakesChange (window_of self.old) arrivals was change.now now
             → IfOk result IsDisjoint }
     {
         if self.is_whole() {

@@ -9,23 +9,23 @@ ghost use Rattle.row_delta.specs.declared.row.Row.{Row};
 ghost use Rattle.window_gate.specs.declared.change.GateChange.TheVariants.{Come};
 ghost use Rattle.window_gate.specs.declared.change.WindowKind.TheVariants.{Time};
 ghost use Rattle.window_gate.specs.Windows.{Arrival, named_of, after, inside, rows_inside};
-ghost use Rattle.window_gate.specs.Standing.{Held, Holds, TagsDiffer, KeepsTime, MayPass, MayStart, MayChange, LeavesAt, has_name, most};
-ghost use Rattle.window_gate.specs.Pieces.{Leave, Enter, has_come, takes_out, leaves, brings};
+ghost use Rattle.window_gate.specs.Standing.{HeldArrivals, HoldsArrivals, TagsDiffer, KeepsTime, MayPass, MayStart, MayChange, LeavesAt, has_version, most};
+ghost use Rattle.window_gate.specs.Pieces.{Leave, Enter, has_time_come, takes_out, leaves, brings};
 
 use crate::change::GateChange;
 use crate::rows::difference;
+use due_queue::DueMap;
 use fx_base::{FactId, Millis, NoMemory, Tag};
 use row_delta::{Delta, Named};
 use std::alloc::Global;
-use std::collections::{BTreeMap, BTreeSet};
+use std::collections::BTreeSet;
+use std::ops::Bound;
 
-/// The facts whose start is less than `millis` milliseconds ago: their ids by the moment when each leaves and its tag, and
-/// that moment by the tag.
+/// The facts whose start is less than `millis` milliseconds ago: their tags, which wait for the moment when each leaves, with the ids.
 #[derive(Drop)]
 pub(crate) struct TimeWindow {
     pub(crate) millis: Millis,
-    leaving: BTreeMap<(Millis, u64), FactId>,
-    moments: BTreeMap<u64, Millis>,
+    leaving: DueMap<Millis, u64, FactId>,
 }
 
 impl TimeWindow {
@@ -35,8 +35,7 @@ impl TimeWindow {
     {
         TimeWindow {
             millis,
-            leaving: BTreeMap::new(alloc),
-            moments: BTreeMap::new(alloc),
+            leaving: DueMap::new(alloc),
         }
     }
 
@@ -51,8 +50,8 @@ impl TimeWindow {
             → TagsDiffer (map named_of arrivals) → was ≤ℤ now → IfSome result (λ at. now <ℤ at)
             → (row : Row) → has (rows_inside (Time self.now.millis) now arrivals) row ≡ has (rows_inside (Time self.now.millis) was arrivals) row }
     {
-        match self.leaving.first_key_value() {
-            Some((key, _)) => Some(key.0),
+        match self.leaving.first() {
+            Some(first) => Some(first.0),
             None => None,
         }
     }
@@ -99,7 +98,7 @@ impl TimeWindow {
 
     /// Takes out what is due, and answers it in the order in which it leaves.
     fn leave_by_time(&mut self, alloc: Global, now: Millis) -> Result<Vec<Named>, NoMemory>
-        ensures { IfOk result (λ left. Leave self.old self.new (λ _ one. has_come self.old.millis now one) left.items) }
+        ensures { IfOk result (λ left. Leave self.old self.new (λ _ one. has_time_come self.old.millis now one) left.items) }
     {
         let mut left = Vec::new(alloc);
         'due: while let Some(named) = self.take_due(now) {
@@ -110,18 +109,13 @@ impl TimeWindow {
 
     /// Takes out the first that leaves, where its moment has come.
     fn take_due(&mut self, now: Millis) -> Option<Named>
-        ensures due { IfSome result (λ named. (held : Held) → Holds self.old held → has_come self.old.millis now (held named.tag.0) ≡ true) }
+        ensures due { IfSome result (λ named. (held : HeldArrivals) → HoldsArrivals self.old held → has_time_come self.old.millis now (held named.tag.0) ≡ true) }
         ensures leave { IfSome result (λ named. Leave self.old self.new (λ tag _. tag == named.tag.0) (named ∷ [])) }
-        ensures smaller { IfSome result (λ named. length self.new.leaving.entries < length self.old.leaving.entries) }
-        ensures none { IfNone result ((held : Held) → Holds self.old held → (tag : ℕ) → has_come self.old.millis now (held tag) ≡ false) }
+        ensures smaller { IfSome result (λ named. length self.new.leaving < length self.old.leaving) }
+        ensures none { IfNone result ((held : HeldArrivals) → HoldsArrivals self.old held → (tag : ℕ) → has_time_come self.old.millis now (held tag) ≡ false) }
         ensures unchanged { IfNone result (self.new ≡ self.old) }
     {
-        let (key, _) = self.leaving.first_key_value()?;
-        if key.0 > now {
-            return None;
-        }
-        let ((_, tag), id) = self.leaving.pop_first()?;
-        self.moments.remove(&tag);
+        let (_, tag, id) = self.leaving.take_due(Bound::Included(now))?;
         Some(Named { id, tag: Tag(tag) })
     }
 
@@ -139,8 +133,7 @@ impl TimeWindow {
     fn take_out(&mut self, tag: Tag) -> Option<Named>
         ensures { Leave self.old self.new (λ other _. other == tag.0) (option_to_list result) }
     {
-        let at = self.moments.remove(&tag.0)?;
-        let id = self.leaving.remove(&(at, tag.0))?;
+        let (_, id) = self.leaving.cancel(tag.0)?;
         Some(Named { id, tag })
     }
 
@@ -173,10 +166,7 @@ impl TimeWindow {
         if moment <= now {
             return Ok(None);
         }
-        if let Some(at) = self.moments.insert(named.tag.0, moment)? {
-            self.leaving.remove(&(at, named.tag.0));
-        }
-        self.leaving.insert((moment, named.tag.0), named.id)?;
+        self.leaving.put(moment, named.tag.0, named.id)?;
         Ok(Some(named))
     }
 }
@@ -184,7 +174,7 @@ impl TimeWindow {
 /// These versions in the order of names. One or none stays as it is, and takes no memory.
 fn in_order(alloc: Global, versions: Vec<Named>) -> Result<Vec<Named>, NoMemory>
     ensures in_order { IfOk result (λ ordered. IsStrictlySortedBy name_cmp ordered.items) }
-    ensures same { IfOk result (λ ordered. (named : Named) → has_name ordered.items named ≡ has_name versions.items named) }
+    ensures same { IfOk result (λ ordered. (named : Named) → has_version ordered.items named ≡ has_version versions.items named) }
 {
     if versions.len() < 2 {
         return Ok(versions);

@@ -9,10 +9,10 @@ ghost use Rattle.row_delta.specs.NameOrder.{name_cmp};
 ghost use Rattle.join_tests.specs.Joins.{Look};
 ghost use Rattle.row_change.specs.Changes.{IsDifference};
 ghost use Rattle.pair_memory.specs.Joined.{has_name};
-ghost use Rattle.pair_memory.specs.Memories.{has_left, has_right, Keeps};
-ghost use Rattle.tally_node.specs.Extras.{extra_for, rows_of_extras, IsLaden, AllLaden, AreExtrasOf};
+ghost use Rattle.pair_memory.specs.Memories.{has_left, has_right, KeepsMemories};
+ghost use Rattle.tally_node.specs.Extras.{extra_for, rows_of_extras, IsTallyLaden, AllLaden, AreExtrasOf};
 ghost use Rattle.tally_node.specs.Parts.{PartStep, AllLoaded};
-ghost use Rattle.tally_node.specs.Beside.{IsBeside, one_or_none};
+ghost use Rattle.tally_node.specs.Beside.{TellsBeside, one_or_none};
 ghost use Rattle.tally_node.specs.Tallies.{shown, SeeAlike};
 
 use super::{TallyNode, note, tally_of};
@@ -57,7 +57,7 @@ fn laden_tally<T: Tally, F: Facts>(
 ) -> Result<T, NoMemory>
     requires { IsStrictlySortedBy name_cmp names.now }
     ensures { IfOk result (λ tally. (world : Look) → SeeAlike (has_name names.now) (F.map facts.now) world
-        → IsLaden (T.holds plan.now) (T.laden plan.now) tally world (has_name names.now) (option_map (λ e. e.now) extra.entry)) }
+        → IsTallyLaden (T.holds plan.now) (T.laden plan.now) tally world (has_name names.now) (option_map (λ e. e.now) extra.entry)) }
 {
     let tally: T = tally_of(alloc, plan, names, facts)?;
     match extra {
@@ -82,7 +82,7 @@ impl<T: Tally> TallyNode<T> {
         extras: &[Extra],
         facts: &F,
     ) -> Result<Delta, NoMemory>
-        ensures kept { OnOk result (Keeps self.old.memories self.new.memories (F.map facts.now)
+        ensures kept { OnOk result (KeepsMemories self.old.memories self.new.memories (F.map facts.now)
             (λ r. has_left self.old.memories (F.map facts.now) r || has left.now r) (λ c. has_right self.old.memories (F.map facts.now) c || has_name right.now c)) }
         ensures laden { OnOk result (AllLaden (T.holds plan.now) (T.laden plan.now) (F.map facts.now) extras.now (has left.now) self.old.memories self.new.memories) }
         ensures difference { IfOk result (λ delta. IsDifference (shown T.origin T.gives (T.output plan.now) self.old.memories (F.map facts.now)) (shown T.origin T.gives (T.output plan.now) self.new.memories (F.map facts.now)) delta) }
@@ -168,7 +168,7 @@ impl<T: Tally> TallyNode<T> {
         row: &Row,
         facts: &F,
     ) -> Result<Option<Extra>, NoMemory>
-        ensures { IfOk result (λ found. IsBeside (T.holds plan.now) (T.gathered plan.now) self.now.memories (F.map facts.now) rule condition row.now found) }
+        ensures { IfOk result (λ found. TellsBeside (T.holds plan.now) (T.gathered plan.now) self.now.memories (F.map facts.now) rule condition row.now found) }
     {
         match self.memories.kept_for(row, facts) {
             Some(tally) => {

@@ -1,4 +1,4 @@
-use Rattle.checkpoint.proofs.Common.{arith, Tells, items_at}
+use Rattle.checkpoint.proofs.Common.{arith, TellsDecodeFault, read_items}
 use Rattle.checkpoint.proofs.Loops.{begins, goes_on, stops, passed_on, ends}
 use Rattle.checkpoint.proofs.lists.items_at.Goals as goal
 
@@ -7,7 +7,7 @@ loop-init g c = record { read = rw c.in_ok-items.ensures.items (begins _ _ _); f
 
 pub returns-in_err-item-clause-bad : goal.returns-in_err-item-clause-bad
 returns-in_err-item-clause-bad g c =
-    passed_on _ _ (Tells (items_at g.T.Readable.at c.args.count c.args.from.now)) c.from_residual-in_err-item.ensures.1
+    passed_on _ _ (TellsDecodeFault (read_items g.T.Readable.at c.args.count c.args.from.now)) c.from_residual-in_err-item.ensures.1
     (stops _ _ _ _ _ _ _ c.loop-test.true c.in_err-item.ensures.bad c.loop.invariant.read)
 
 pub loop-preserved : goal.loop-preserved

@@ -1,4 +1,5 @@
-use Rattle.command_words.proofs.Common.{◌≡◌, ◌∙◌, true, false, map, string_bytes, sym, ap, subst, inl, inr, App, IsAmong, fault_of, is_simple, is_simple_and_free, kind_of, matches_of, ErrorKind}
+use Rattle.command_words.proofs.Common.{◌≡◌, ◌∙◌, true, false, map, string_bytes, sym, ap, subst, inl, inr, App, IsAmong, fault_of, is_simple}
+use Rattle.command_words.proofs.Common.{is_simple_and_free, kind_of, matches_of, ErrorKind}
 use denote.Enum.Bare.{sameb}
 use Rattle.clap.specs.contracts.error.kind.ErrorKind.{the_type}
 use Rattle.clap.specs.declared.error.kind.ErrorKind.TheVariants.{OutOfMemory}

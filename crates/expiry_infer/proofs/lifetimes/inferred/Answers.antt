@@ -1,4 +1,5 @@
-use Rattle.expiry_infer.proofs.Common.{◌≡◌, ◌<◌, ℕ, Some, List, length, get_or, refl, subst, sym, slice_get, slice_get_read, Condition, Rule, in_place, HaveLives, limit_of, GivesAt, Among, IsTop}
+use Rattle.expiry_infer.proofs.Common.{◌≡◌, ◌<◌, ℕ, Some, List, length, get_or, refl, subst, sym, slice_get, slice_get_read, Condition, Rule, in_place}
+use Rattle.expiry_infer.proofs.Common.{HaveLives, limit_of, GivesAt, Among, IsTop}
 use Rattle.expiry_infer.proofs.Given.{is_life}
 use Rattle.life_edges.proofs.Runnable.{rule_has_lives}
 use Rattle.expiry_infer.proofs.Tops.{top_next}

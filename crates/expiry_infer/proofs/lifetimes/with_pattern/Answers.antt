@@ -1,4 +1,4 @@
-use Rattle.expiry_infer.proofs.Common.{Pattern, finite, limit_of, HaveLives, IsSmall, ◌≡◌, ap, subst, sym, ◌∙◌, lent, HasShortWindow, StandsIn}
+use Rattle.expiry_infer.proofs.Common.{Pattern, finite, limit_of, HaveLives, IsSmallLimit, ◌≡◌, ap, subst, sym, ◌∙◌, lent, HasShortWindow, StandsIn}
 use Rattle.expiry_infer.proofs.Tops.{top_small, span_small, span_whole}
 use Rattle.life_edges.proofs.Scopes.{scope_lives, scope_at}
 use Rattle.expiry_infer.proofs.lifetimes.with_pattern.Goals as goal
@@ -18,4 +18,4 @@ returns-in-Time-clause-small c =
     let i = lent c.args.i.now in
     let window = sym (ap (λ (q : Pattern). q.window) c.pattern.ensures) ∙ c.in-Time.is in
     let span = subst HasShortWindow window (c.requires.conditions.windows i.place i.condition c.requires.i) in
-    top_small (λ l. l ≡ finite _) (limit_of c.args.most) (limit_of c.greater.result) c.greater.ensures (λ l e. subst IsSmall (sym e) (rw (span_whole c.in-Time.span span) (span_small c.in-Time.span span)))
+    top_small (λ l. l ≡ finite _) (limit_of c.args.most) (limit_of c.greater.result) c.greater.ensures (λ l e. subst IsSmallLimit (sym e) (rw (span_whole c.in-Time.span span) (span_small c.in-Time.span span)))

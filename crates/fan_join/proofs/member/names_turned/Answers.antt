@@ -1,4 +1,5 @@
-use Rattle.fan_join.proofs.Common.{◌∙◌, sym, ap, ◌&&◌, is_some, at, same_value, name_cmp, candidate_value, List, Named, joins, joined, has_name, has_left, beside, Pattern}
+use Rattle.fan_join.proofs.Common.{◌∙◌, sym, ap, ◌&&◌, is_some, at, same_value, name_cmp, candidate_value, List, Named, joins, joined, has_name, has_left}
+use Rattle.fan_join.proofs.Common.{beside, Pattern}
 use Rattle.fan_join.proofs.Halves.{names_turn, under_turned}
 use Rattle.fan_join.proofs.member.names_turned.Goals as goal
 

@@ -1,4 +1,4 @@
-use Rattle.fan_join.proofs.Common.{◌≡◌, ◌∙◌, ap, subst, true, List, eq_by_cmp, Row, row_cmp, value_by, has_place, is_under, AreAmong}
+use Rattle.fan_join.proofs.Common.{◌≡◌, ◌∙◌, ap, subst, true, List, eq_by_cmp, Row, row_cmp, value_by, has_place, is_member_under, AreAmong}
 use Rattle.std.proofs.lemmas.List.{take_all}
 use Rattle.pair_memory.proofs.Joining.{row_decides}
 use Rattle.fan_join.proofs.Reaches.{among_more}
@@ -14,9 +14,9 @@ loop-row-preserved g c =
       stays = λ k was. c.in_ok-add_under.ensures.stays k (c.loop-row.invariant.stays k was);
       among = λ row k there.
           among_more (eq_by_cmp row_cmp) (λ a b. (row_decides a b).0) c.args.rows.now c.loop-row.row-index c.loop-row-test.true c.row-item.result c.row-item.result c.row-item.is
-          (λ row. is_under c.args.reached.now (value_by c.args.key.now look row) k ≡ true → has_place c.add_under.new.places.keys k ≡ true)
+          (λ row. is_member_under c.args.reached.now (value_by c.args.key.now look row) k ≡ true → has_place c.add_under.new.places.keys k ≡ true)
           (λ row before reaches. c.in_ok-add_under.ensures.stays k (c.loop-row.invariant.among row k before reaches))
-          (λ reaches. c.in_ok-add_under.ensures.added k (ap (λ v. is_under c.args.reached.now v k) (c.value.ensures ∙ c.row_value-value.ensures) ∙ reaches)) row there;
+          (λ reaches. c.in_ok-add_under.ensures.added k (ap (λ v. is_member_under c.args.reached.now v k) (c.value.ensures ∙ c.row_value-value.ensures) ∙ reaches)) row there;
     }
 
 pub returns-clause-among : goal.returns-clause-among

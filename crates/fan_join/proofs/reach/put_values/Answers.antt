@@ -1,4 +1,4 @@
-use Rattle.fan_join.proofs.Common.{◌≡◌, ◌∙◌, sym, ap, refl, true, eq_by_cmp, Named, name_cmp, candidate_value, is_under}
+use Rattle.fan_join.proofs.Common.{◌≡◌, ◌∙◌, sym, ap, refl, true, eq_by_cmp, Named, name_cmp, candidate_value, is_member_under}
 use Rattle.pair_memory.proofs.Joining.{name_decides}
 use Rattle.pair_memory.proofs.Turning.{any_name}
 use Rattle.fan_join.proofs.Reaches.{among_more, under_here, under_stays}
@@ -12,7 +12,7 @@ loop-who-preserved g c =
     record {
       stays = λ v k was. stays v k (c.loop-who.invariant.stays v k was);
       put =
-          among_more (eq_by_cmp name_cmp) (λ a b. (name_decides a b).0) c.args.come.now c.loop-who.who-index c.loop-who-test.true any_name _ refl (λ who. is_under c.put.new.self (value who) c.args.place ≡ true)
+          among_more (eq_by_cmp name_cmp) (λ a b. (name_decides a b).0) c.args.come.now c.loop-who.who-index c.loop-who-test.true any_name _ refl (λ who. is_member_under c.put.new.self (value who) c.args.place ≡ true)
           (λ who before. stays (value who) c.args.place (c.loop-who.invariant.put who before))
-          (ap (λ v. is_under c.put.new.self v c.args.place) (sym (c.in_ok-value.ensures ∙ c.value.ensures)) ∙ here);
+          (ap (λ v. is_member_under c.put.new.self v c.args.place) (sym (c.in_ok-value.ensures ∙ c.value.ensures)) ∙ here);
     }

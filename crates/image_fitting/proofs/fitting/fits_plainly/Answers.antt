@@ -1,4 +1,4 @@
-use Rattle.image_fitting.proofs.Common.{◌↔◌, Result, Ok, Err, IsTrue, OnOk, subst, sym, IfOk-weaker, FitsPlainly, FitByParts, IsTable}
+use Rattle.image_fitting.proofs.Common.{◌↔◌, Result, Ok, Err, IsTrue, OnOk, subst, sym, IfOk-weaker, FitsPlainly, FitByParts, IsPlaceTable}
 use Rattle.image_fitting.proofs.Exactly.{exact_is}
 use Rattle.image_fitting.proofs.Placing.{table_owners}
 use Rattle.image_fitting.proofs.fitting.fits_plainly.Goals as goal
@@ -10,8 +10,8 @@ on_ok (Err e) P h = tt
 pub returns-clause-exact : goal.returns-clause-exact
 returns-clause-exact c =
     let p = c.args.program.now in
-    let whole : IsTable p c.as_slice.result.now = subst (IsTable p) (sym c.as_slice.ensures.value) c.in_ok-table.ensures in
-    IfOk-weaker c.fits_by_table.result (λ yes. IsTable p c.as_slice.result.now → (IsTrue yes ↔ FitByParts p c.args.lives.now c.args.image.now)) (λ yes. IsTrue yes ↔ FitsPlainly p c.args.lives.now c.args.image.now)
+    let whole : IsPlaceTable p c.as_slice.result.now = subst (IsPlaceTable p) (sym c.as_slice.ensures.value) c.in_ok-table.ensures in
+    IfOk-weaker c.fits_by_table.result (λ yes. IsPlaceTable p c.as_slice.result.now → (IsTrue yes ↔ FitByParts p c.args.lives.now c.args.image.now)) (λ yes. IsTrue yes ↔ FitsPlainly p c.args.lives.now c.args.image.now)
     (λ yes h. exact_is p c.args.lives.now c.args.image.now yes (h whole)) c.fits_by_table.ensures
 
 pub returns-clause-owners : goal.returns-clause-owners

@@ -1,4 +1,4 @@
-use Rattle.life_proof.proofs.Common.{◌∙◌, List, sym, subst, All-same, Asked, IsAsked, asked, AreGoodParts}
+use Rattle.life_proof.proofs.Common.{◌∙◌, List, sym, subst, All-same, Asked, IsReachAsked, asked, AreGoodParts}
 use Rattle.life_proof.proofs.Asked.{all_asked}
 use Rattle.life_proof.proofs.Certified.{table_lawful}
 use Rattle.life_proof.proofs.certifying.certify.Goals as goal
@@ -6,7 +6,7 @@ use Rattle.life_proof.proofs.certifying.certify.Goals as goal
 pub parts_of-requires-clause-asked : goal.parts_of-requires-clause-asked
 parts_of-requires-clause-asked c =
     let p = c.args.program.now in
-    All-same (IsAsked p c.args.lives.now) c.deref.result.now (asked p c.args.lives.now) (c.deref.ensures.value ∙ c.in_ok-asked.ensures) (all_asked p c.args.lives.now)
+    All-same (IsReachAsked p c.args.lives.now) c.deref.result.now (asked p c.args.lives.now) (c.deref.ensures.value ∙ c.in_ok-asked.ensures) (all_asked p c.args.lives.now)
 
 pub returns : goal.returns
 returns c =

@@ -1,4 +1,5 @@
-use Rattle.life_proof.proofs.Common.{List, sym, subst, IfOk-weaker, IsUnbounded, Condition, start_of, end_of, HaveNetwork, Part, edges_for, IsGoodPart, IsSolvedPart}
+use Rattle.life_proof.proofs.Common.{List, sym, subst, IfOk-weaker, IsUnboundedDifference, Condition, start_point_of, end_of, HaveNetwork, Part, edges_for}
+use Rattle.life_proof.proofs.Common.{IsGoodPart, IsSolvedPart}
 use Rattle.life_proof.proofs.Asked.{fits}
 use Rattle.life_proof.proofs.Certified.{bounded, part_good}
 use Rattle.life_proof.proofs.certifying.part_of.Goals as goal
@@ -21,7 +22,7 @@ part_among-requires-clause-bounded c u =
     let p = c.args.program.now in
     let a = c.args.asked.now in
     bounded p c.args.lives.now a c.requires.runnable c.requires.lives c.requires.asked
-    (subst (λ (cs : List Condition). IsUnbounded (edges_for p cs a.from a.to) (start_of a.to) (end_of a.from)) c.scope_of.ensures u)
+    (subst (λ (cs : List Condition). IsUnboundedDifference (edges_for p cs a.from a.to) (start_point_of a.to) (end_of a.from)) c.scope_of.ensures u)
 
 pub returns : goal.returns
 returns c =

@@ -1,4 +1,4 @@
-use Rattle.page_map.proofs.Common.{◌≡◌, ◌∙◌, sym, ap, rules, ◌/◌, ◌%◌, ◌<◌, ◌≤◌, length, get_or, value_of}
+use Rattle.page_map.proofs.Common.{◌≡◌, ◌∙◌, sym, ap, rules, ◌/◌, ◌%◌, ◌<◌, ◌≤◌, length, get_or, value_for_number}
 use Rattle.page_map.proofs.Kept.{past_pages}
 use Rattle.page_map.proofs.Written.{in_page}
 use Rattle.page_map.proofs.directory.find_at.Goals as goal
@@ -9,9 +9,9 @@ returns-then-number-len c =
     let place = c.args.place in
     let within : place / 64 < length pages = search rules in
     let is : c.index.result.now ≡ get_or pages (place / 64) c.index.result.now = search rules in
-    c.value_in.ensures.value ∙ ap value_of (sym (in_page pages (place / 64) (place % 64) c.index.result.now within is))
+    c.value_in.ensures.value ∙ ap value_for_number (sym (in_page pages (place / 64) (place % 64) c.index.result.now within is))
 
 pub returns-else-number-len : goal.returns-else-number-len
 returns-else-number-len c =
     let past : length c.args.pages.now.items ≤ c.args.place / 64 = search rules in
-    sym (ap value_of (past_pages c.args.pages.now.items (c.args.place / 64) (c.args.place % 64) past))
+    sym (ap value_for_number (past_pages c.args.pages.now.items (c.args.place / 64) (c.args.place % 64) past))

@@ -1,4 +1,4 @@
-use Rattle.page_map.proofs.Common.{◌≡◌, ◌∙◌, sym, ap, subst, ◌++◌, ◌∷◌, [], ◌<◌, List, length, arith, length-append, Page, AreShort, number_in}
+use Rattle.page_map.proofs.Common.{◌≡◌, ◌∙◌, sym, ap, subst, ◌++◌, ◌∷◌, [], ◌<◌, List, length, arith, length-append, Page, ArePagesApart, number_in}
 use Rattle.page_map.proofs.Written.{lengthened, more_short}
 use Rattle.page_map.proofs.directory.reach.Goals as goal
 
@@ -17,5 +17,5 @@ loop-count-preserved c =
     record {
       reached = omega (arith, so_far, all, one_more);
       kept = λ i k. ap (λ ps. number_in ps i k) items ∙ lengthened pages blank none i k ∙ c.loop-count.invariant.kept i k;
-      short = λ were. subst (λ (ps : List Page). AreShort ps) (sym items) (more_short pages blank none few (c.loop-count.invariant.short were));
+      short = λ were. subst (λ (ps : List Page). ArePagesApart ps) (sym items) (more_short pages blank none few (c.loop-count.invariant.short were));
     }

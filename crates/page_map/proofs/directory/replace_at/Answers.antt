@@ -1,4 +1,4 @@
-use Rattle.page_map.proofs.Common.{◌∙◌, sym, ap, rules, ◌/◌, ◌%◌, ◌<◌, ◌≤◌, length, value_of}
+use Rattle.page_map.proofs.Common.{◌∙◌, sym, ap, rules, ◌/◌, ◌%◌, ◌<◌, ◌≤◌, length, value_for_number}
 use Rattle.page_map.proofs.Kept.{past_pages, on_some_weaker, if_none_weaker}
 use Rattle.page_map.proofs.Written.{in_page, written, unwritten}
 use Rattle.page_map.proofs.directory.replace_at.Goals as goal
@@ -6,7 +6,7 @@ use Rattle.page_map.proofs.directory.replace_at.Goals as goal
 pub returns-then-number-len-clause-before : goal.returns-then-number-len-clause-before
 returns-then-number-len-clause-before c =
     let within : c.args.place / 64 < length c.args.pages.now.items = search rules in
-    c.replace_in.ensures.before ∙ ap value_of (sym (in_page c.args.pages.now.items (c.args.place / 64) (c.args.place % 64) c.index_mut.result.now within c.index_mut.ensures.value))
+    c.replace_in.ensures.before ∙ ap value_for_number (sym (in_page c.args.pages.now.items (c.args.place / 64) (c.args.place % 64) c.index_mut.result.now within c.index_mut.ensures.value))
 
 pub returns-then-number-len-clause-some : goal.returns-then-number-len-clause-some
 returns-then-number-len-clause-some c =
@@ -25,4 +25,4 @@ returns-then-number-len-clause-none c =
 pub returns-else-number-len-clause-before : goal.returns-else-number-len-clause-before
 returns-else-number-len-clause-before c =
     let past : length c.args.pages.now.items ≤ c.args.place / 64 = search rules in
-    sym (ap value_of (past_pages c.args.pages.now.items (c.args.place / 64) (c.args.place % 64) past))
+    sym (ap value_for_number (past_pages c.args.pages.now.items (c.args.place / 64) (c.args.place % 64) past))

@@ -1,4 +1,4 @@
-use Rattle.page_map.proofs.Common.{◌∙◌, sym, ap, rules, ◌/◌, ◌%◌, ◌<◌, ◌≤◌, length, free, value_of}
+use Rattle.page_map.proofs.Common.{◌∙◌, sym, ap, rules, ◌/◌, ◌%◌, ◌<◌, ◌≤◌, length, free, value_for_number}
 use Rattle.page_map.proofs.Kept.{past_pages}
 use Rattle.page_map.proofs.Written.{in_page, written, absent}
 use Rattle.page_map.proofs.directory.take_at.Goals as goal
@@ -6,7 +6,7 @@ use Rattle.page_map.proofs.directory.take_at.Goals as goal
 pub returns-then-number-len-clause-taken : goal.returns-then-number-len-clause-taken
 returns-then-number-len-clause-taken c =
     let past : length c.args.pages.now.items ≤ c.args.place / 64 = search rules in
-    sym (ap value_of (past_pages c.args.pages.now.items (c.args.place / 64) (c.args.place % 64) past))
+    sym (ap value_for_number (past_pages c.args.pages.now.items (c.args.place / 64) (c.args.place % 64) past))
 
 pub returns-then-number-len-clause-rest : goal.returns-then-number-len-clause-rest
 returns-then-number-len-clause-rest c k =
@@ -17,7 +17,7 @@ pub returns-clause-taken : goal.returns-clause-taken
 returns-clause-taken c =
     let within : c.args.place / 64 < length c.args.pages.now.items = search rules in
     c.take_from-value.ensures.taken
-    ∙ ap value_of (sym (in_page c.args.pages.now.items (c.args.place / 64) (c.args.place % 64) c.index_mut.result.now within c.index_mut.ensures.value))
+    ∙ ap value_for_number (sym (in_page c.args.pages.now.items (c.args.place / 64) (c.args.place % 64) c.index_mut.result.now within c.index_mut.ensures.value))
 
 pub returns-clause-rest : goal.returns-clause-rest
 returns-clause-rest c k =

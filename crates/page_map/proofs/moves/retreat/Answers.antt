@@ -1,4 +1,4 @@
-use Rattle.page_map.proofs.Common.{◌∙◌, sym, ap, subst, ◌+◌, ◌∷◌, List, Directory, AreHeld, held}
+use Rattle.page_map.proofs.Common.{◌∙◌, sym, ap, subst, ◌+◌, ◌∷◌, List, Directory, AreDirectoriesApart, held}
 use Rattle.page_map.proofs.Moved.{sent_held, sent_same, trimmed_held, trimmed_same}
 use Rattle.page_map.proofs.moves.retreat.Goals as goal
 
@@ -8,7 +8,7 @@ returns-in_default-send-clause-are c =
     let row = c.pop_front.new.self.items in
     let tree = c.args.tree.now.entries in
     let next = c.send.new.tree.entries in
-    let were : AreHeld first (c.in-Some.pages ∷ row) tree = subst (λ (r : List Directory). AreHeld first r tree) c.in-Some.ensures.items c.requires in
+    let were : AreDirectoriesApart first (c.in-Some.pages ∷ row) tree = subst (λ (r : List Directory). AreDirectoriesApart first r tree) c.in-Some.ensures.items c.requires in
     trimmed_held (first + 1) row c.trim.new.self.first c.trim.new.self.directories.items next c.trim.ensures
     (sent_held first c.in-Some.pages row tree next were c.send.ensures.are c.send.ensures.rest c.in_default-send.ensures.sent)
 
@@ -18,7 +18,7 @@ returns-in_default-send-clause-same c =
     let row = c.pop_front.new.self.items in
     let tree = c.args.tree.now.entries in
     let next = c.send.new.tree.entries in
-    let were : AreHeld first (c.in-Some.pages ∷ row) tree = subst (λ (r : List Directory). AreHeld first r tree) c.in-Some.ensures.items c.requires in
+    let were : AreDirectoriesApart first (c.in-Some.pages ∷ row) tree = subst (λ (r : List Directory). AreDirectoriesApart first r tree) c.in-Some.ensures.items c.requires in
     trimmed_same (first + 1) row c.trim.new.self.first c.trim.new.self.directories.items next c.trim.ensures
     (sent_held first c.in-Some.pages row tree next were c.send.ensures.are c.send.ensures.rest c.in_default-send.ensures.sent)
     ∙ sent_same first c.in-Some.pages row tree next were c.send.ensures.are c.send.ensures.rest c.in_default-send.ensures.sent

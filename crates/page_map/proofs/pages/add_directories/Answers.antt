@@ -1,4 +1,5 @@
-use Rattle.page_map.proofs.Common.{◌∙◌, sym, ap, subst, ◌++◌, ◌*◌, ◌<◌, ◌^◌, ℕ, List, append_assoc, [], All, keys_of, values_of, All-tail, Directory, AreShort, entries_of, entries_by}
+use Rattle.page_map.proofs.Common.{◌∙◌, sym, ap, subst, ◌++◌, ◌*◌, ◌<◌, ◌^◌, ℕ, List, append_assoc, [], All, keys_of, values_of, All-tail, Directory}
+use Rattle.page_map.proofs.Common.{ArePagesApart, entries_of, entries_by}
 use Rattle.page_map.proofs.Kept.{joined_pages}
 use Rattle.page_map.proofs.pages.add_directories.Goals as goal
 
@@ -14,6 +15,6 @@ loop-number-preserved c =
           ∙ sym (ap (λ it. before ++ entries_of it) head) ∙ c.loop-number.invariant.so_far;
       numbers = All-tail (λ number. number < 2 ^ 53) c.in-Some.number.now (keys_of c.next.new.self)
           (subst (λ (it : List (ℕ × Directory)). All (λ number. number < 2 ^ 53) (keys_of it)) head c.loop-number.invariant.numbers);
-      short = All-tail (λ (directory : Directory). AreShort directory.items) c.in-Some.pages.now (values_of c.next.new.self)
-          (subst (λ (it : List (ℕ × Directory)). All (λ (directory : Directory). AreShort directory.items) (values_of it)) head c.loop-number.invariant.short);
+      short = All-tail (λ (directory : Directory). ArePagesApart directory.items) c.in-Some.pages.now (values_of c.next.new.self)
+          (subst (λ (it : List (ℕ × Directory)). All (λ (directory : Directory). ArePagesApart directory.items) (values_of it)) head c.loop-number.invariant.short);
     }

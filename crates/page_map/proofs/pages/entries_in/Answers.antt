@@ -1,4 +1,5 @@
-use Rattle.page_map.proofs.Common.{◌∙◌, sym, ap, subst, ◌++◌, ◌<◌, ◌^◌, ℕ, List, append_assoc, Included, Excluded, Unbounded, range_contains, nat_cmp, All, keys_of, values_of, Directory, AreShort, entries_of, numbered}
+use Rattle.page_map.proofs.Common.{◌∙◌, sym, ap, subst, ◌++◌, ◌<◌, ◌^◌, ℕ, List, append_assoc, Included, Excluded, Unbounded, range_contains, nat_cmp, All}
+use Rattle.page_map.proofs.Common.{keys_of, values_of, Directory, ArePagesApart, entries_of, numbered}
 use Rattle.page_map.proofs.Listed.{Below, each_kept, entries_parts}
 use Rattle.page_map.proofs.pages.entries_in.Goals as goal
 
@@ -9,8 +10,8 @@ add_directories-requires-clause-numbers c =
 
 pub add_directories-requires-clause-short : goal.add_directories-requires-clause-short
 add_directories-requires-clause-short c =
-    subst (λ (ds : List (ℕ × Directory)). All (λ (d : Directory). AreShort d.items) (values_of ds)) (sym (c.range.ensures.between tt))
-    (each_kept (λ e. range_contains nat_cmp Unbounded (Excluded c.args.run.now.first) e.0) (λ e. e.1) (λ (d : Directory). AreShort d.items) c.args.tree.now.entries c.requires.stored.short)
+    subst (λ (ds : List (ℕ × Directory)). All (λ (d : Directory). ArePagesApart d.items) (values_of ds)) (sym (c.range.ensures.between tt))
+    (each_kept (λ e. range_contains nat_cmp Unbounded (Excluded c.args.run.now.first) e.0) (λ e. e.1) (λ (d : Directory). ArePagesApart d.items) c.args.tree.now.entries c.requires.stored.short)
 
 pub add_directories-requires-2-clause-numbers : goal.add_directories-requires-2-clause-numbers
 add_directories-requires-2-clause-numbers c =
@@ -19,8 +20,8 @@ add_directories-requires-2-clause-numbers c =
 
 pub add_directories-requires-2-clause-short : goal.add_directories-requires-2-clause-short
 add_directories-requires-2-clause-short c =
-    subst (λ (ds : List (ℕ × Directory)). All (λ (d : Directory). AreShort d.items) (values_of ds)) (sym (c.range-2.ensures.between tt))
-    (each_kept (λ e. range_contains nat_cmp (Included c.args.run.now.first) Unbounded e.0) (λ e. e.1) (λ (d : Directory). AreShort d.items) c.args.tree.now.entries c.requires.stored.short)
+    subst (λ (ds : List (ℕ × Directory)). All (λ (d : Directory). ArePagesApart d.items) (values_of ds)) (sym (c.range-2.ensures.between tt))
+    (each_kept (λ e. range_contains nat_cmp (Included c.args.run.now.first) Unbounded e.0) (λ e. e.1) (λ (d : Directory). ArePagesApart d.items) c.args.tree.now.entries c.requires.stored.short)
 
 pub returns : goal.returns
 returns c =

@@ -1,4 +1,6 @@
-use Rattle.pair_memory.proofs.Common.{cond, ◌≡◌, ◌∙◌, sym, ap, subst, arith, List, [], ◌∷◌, ◌++◌, ◌&&◌, Vec, Global, common_steps, IsStrictlySortedBy-filter, is_member-filter, is_some-lookup, is_at, filter, option_map, keys_of, Named, name_cmp, name_equiv, entries, Bucket, name_joins, has_name}
+use Rattle.pair_memory.proofs.Common.{cond, ◌≡◌, ◌∙◌, sym, ap, subst, arith, List, [], ◌∷◌, ◌++◌, ◌&&◌, Vec, Global, common_steps, IsStrictlySortedBy-filter}
+use Rattle.pair_memory.proofs.Common.{is_member-filter, is_some-lookup, is_at, filter, option_map, keys_of, Named, name_cmp, name_equiv, entries, Bucket}
+use Rattle.pair_memory.proofs.Common.{name_joins, has_name}
 use Rattle.std.specs.List.Sorted.{IsStrictlySortedBy}
 use Rattle.pair_memory.proofs.Joining.{name_decides}
 use Rattle.pair_memory.proofs.partners.names_passed.Goals as goal

@@ -1,4 +1,4 @@
-use Rattle.replay.proofs.Common.{sym, ap, subst, ◌∙◌, Checkpoint, checkpoint_of, Tells}
+use Rattle.replay.proofs.Common.{sym, ap, subst, ◌∙◌, Checkpoint, checkpoint_of, TellsCheckpointFault}
 use Rattle.std.proofs.lemmas.Result.{IfOk-weaker, IfErr-weaker}
 use Rattle.replay.specs.Checkpoints.{image_limit}
 use Rattle.replay.proofs.Reports.{image_found}
@@ -15,7 +15,7 @@ pub returns-clause-refused : goal.returns-clause-refused
 unfolding image_limit
 returns-clause-refused g c =
     IfErr-weaker c.image_of.result _ _
-    (λ fault is files told. subst (λ (found : Checkpoint). Tells found fault)
+    (λ fault is files told. subst (λ (found : Checkpoint). TellsCheckpointFault found fault)
     (sym (image_found c.args.rules.now c.args.name.now _ files c.in-Ok.bytes.items told c.in-Ok.ensures.found c.in-Ok.ensures.bytes ∙ ap (checkpoint_of c.args.rules.now) (sym c.deref.ensures.value))) is)
     c.image_of.ensures.refused
 

@@ -1,4 +1,5 @@
-use Rattle.replay.proofs.Common.{◌≡◌, ℕ, List, Some, Err, sym, subst, ap, ◌∙◌, inl, inr, refl, option_map, arith, RuleFile, Accepted, Refused, seen_of_shelf, wanted_told, rules_of, reading, refuses, refuses_checkpoint, rules_in, wanted_at, wanted_from, wanted_by_name, IsUnread}
+use Rattle.replay.proofs.Common.{◌≡◌, ℕ, List, Some, Err, sym, subst, ap, ◌∙◌, inl, inr, refl, option_map, arith, RuleFile, Accepted, Refused, seen_of_shelf}
+use Rattle.replay.proofs.Common.{wanted_told, rules_shown, reading, refuses, refuses_checkpoint, wanted_rules, wanted_at, wanted_from, wanted_by_name, IsUnread}
 use Rattle.drl_parse.specs.Parsed.{file_limit}
 use Rattle.replay.proofs.Calls.{by_told, told_is, refused_done, refuses_since, rose_since, checkpoint_done, nothing_done, not_refused}
 use Rattle.replay.proofs.Reports.{no_file, a_file, accepted_file, refused_file}
@@ -13,8 +14,8 @@ returns-in-Err-Missing-clause-run g c =
     by_told (wanted_told (Some (RuleFile c.args.name.now c.args.plan.mode c.args.plan.limit image)) (g.F.Shelf.files c.args.shelf.now)) (refuses c.whole_file.result)
     (refused_done g.E.Engine.gives g.E.Engine.fires g.E.Engine.counts c.args.name.now c.args.plan.mode c.args.plan.limit image c.whole_file.result _ _ _ _ _ _ _ _ _ _ c.refuse.ensures.said c.refuse.ensures.front c.refuse.ensures.answers c.refuse.ensures.cause
     (λ three. inl miss))
-    (told_is (g.F.Shelf.files c.args.shelf.now) (λ files. wanted_by_name (wanted_from c.args.plan.mode c.args.plan.limit image files (rules_in (files c.args.name.now))) files c.args.name.now) (refuses c.whole_file.result)
-    (λ files told. no_file (wanted_from c.args.plan.mode c.args.plan.limit image files (rules_in (files c.args.name.now))) c.args.name.now _ files told gone ∙ ap refuses (sym c.whole_file.ensures)))
+    (told_is (g.F.Shelf.files c.args.shelf.now) (λ files. wanted_by_name (wanted_from c.args.plan.mode c.args.plan.limit image files (wanted_rules (files c.args.name.now))) files c.args.name.now) (refuses c.whole_file.result)
+    (λ files told. no_file (wanted_from c.args.plan.mode c.args.plan.limit image files (wanted_rules (files c.args.name.now))) c.args.name.now _ files told gone ∙ ap refuses (sym c.whole_file.ensures)))
 
 pub returns-in-Err-ReadFault-clause-run : goal.returns-in-Err-ReadFault-clause-run
 returns-in-Err-ReadFault-clause-run g c =
@@ -32,8 +33,8 @@ returns-in-Ok-Refused-clause-run g c =
     by_told (wanted_told (Some (RuleFile c.args.name.now c.args.plan.mode c.args.plan.limit image)) (g.F.Shelf.files c.args.shelf.now)) (refuses c.in-Ok-Refused.refusal)
     (refused_done g.E.Engine.gives g.E.Engine.fires g.E.Engine.counts c.args.name.now c.args.plan.mode c.args.plan.limit image c.in-Ok-Refused.refusal _ _ _ _ _ _ _ _ _ _ c.refuse-in-Ok-Refused.ensures.said c.refuse-in-Ok-Refused.ensures.front c.refuse-in-Ok-Refused.ensures.answers c.refuse-in-Ok-Refused.ensures.cause
     (λ three. inr (refused_file c.args.name.now _ c.in-Ok.file.items c.in-Ok-Refused.refusal c.in-Ok.ensures.found c.in-Ok.ensures.bytes is)))
-    (told_is (g.F.Shelf.files c.args.shelf.now) (λ files. wanted_by_name (wanted_from c.args.plan.mode c.args.plan.limit image files (rules_in (files c.args.name.now))) files c.args.name.now) (refuses c.in-Ok-Refused.refusal)
-    (λ files told. a_file (wanted_from c.args.plan.mode c.args.plan.limit image files (rules_in (files c.args.name.now))) c.args.name.now _ files c.in-Ok.file.items (Refused c.in-Ok-Refused.refusal) told c.in-Ok.ensures.found c.in-Ok.ensures.bytes is))
+    (told_is (g.F.Shelf.files c.args.shelf.now) (λ files. wanted_by_name (wanted_from c.args.plan.mode c.args.plan.limit image files (wanted_rules (files c.args.name.now))) files c.args.name.now) (refuses c.in-Ok-Refused.refusal)
+    (λ files told. a_file (wanted_from c.args.plan.mode c.args.plan.limit image files (wanted_rules (files c.args.name.now))) c.args.name.now _ files c.in-Ok.file.items (Refused c.in-Ok-Refused.refusal) told c.in-Ok.ensures.found c.in-Ok.ensures.bytes is))
 
 pub returns-in-Ok-beginning-clause-run : goal.returns-in-Ok-beginning-clause-run
 unfolding file_limit
@@ -48,9 +49,9 @@ returns-in-Ok-beginning-clause-run g c =
     by_told (wanted_told (Some (RuleFile c.args.name.now mode limit image)) (g.F.Shelf.files c.args.shelf.now)) (wanted_at mode limit c.in-Ok-beginning.beginning p)
     (c.do_mode.ensures.run c.args.name.now image (seen_of_shelf (g.F.Shelf.files c.args.shelf.now) (g.F.Shelf.faults c.args.shelf.now) (g.F.Shelf.misses c.args.shelf.now)) _
     (rw same at c.in-Ok-beginning.ensures.asked))
-    (told_is (g.F.Shelf.files c.args.shelf.now) (λ files. wanted_by_name (wanted_from mode limit image files (rules_in (files c.args.name.now))) files c.args.name.now) (wanted_at mode limit c.in-Ok-beginning.beginning p)
+    (told_is (g.F.Shelf.files c.args.shelf.now) (λ files. wanted_by_name (wanted_from mode limit image files (wanted_rules (files c.args.name.now))) files c.args.name.now) (wanted_at mode limit c.in-Ok-beginning.beginning p)
     (λ files told. accepted_file mode limit image c.args.name.now _ files bytes p told c.in-Ok.ensures.found c.in-Ok.ensures.bytes is
-    ∙ ap (λ (read : List ℕ). wanted_from mode limit image files (rules_of read) p) (sym c.deref-2.ensures.value) ∙ c.in-Ok-beginning.ensures.found files (same ∙ told) limit p))
+    ∙ ap (λ (read : List ℕ). wanted_from mode limit image files (rules_shown read) p) (sym c.deref-2.ensures.value) ∙ c.in-Ok-beginning.ensures.found files (same ∙ told) limit p))
 
 pub returns-in-Err-Refused-clause-run : goal.returns-in-Err-Refused-clause-run
 unfolding file_limit
@@ -70,9 +71,9 @@ returns-in-Err-Refused-clause-run g c =
     (checkpoint_done g.E.Engine.gives g.E.Engine.fires g.E.Engine.counts c.args.name.now mode limit image (refuses_checkpoint code) code _ _ _ _ _ _ _ _ _ _ (λ script. refl)
     said front c.refuse_checkpoint.ensures.answers c.refuse_checkpoint.ensures.cause
     (inr (refuses_since same c.read_whole.ensures.miss_counts (c.in-Err-Refused.ensures.cause code is_code))))
-    (told_is (g.F.Shelf.files c.args.shelf.now) (λ files. wanted_by_name (wanted_from mode limit image files (rules_in (files c.args.name.now))) files c.args.name.now) (refuses_checkpoint code)
+    (told_is (g.F.Shelf.files c.args.shelf.now) (λ files. wanted_by_name (wanted_from mode limit image files (wanted_rules (files c.args.name.now))) files c.args.name.now) (refuses_checkpoint code)
     (λ files told. accepted_file mode limit image c.args.name.now _ files bytes p told c.in-Ok.ensures.found c.in-Ok.ensures.bytes is
-    ∙ ap (λ (read : List ℕ). wanted_from mode limit image files (rules_of read) p) (sym c.deref-2.ensures.value) ∙ c.in-Err-Refused.ensures.refused code is_code files (same ∙ told) limit p))
+    ∙ ap (λ (read : List ℕ). wanted_from mode limit image files (rules_shown read) p) (sym c.deref-2.ensures.value) ∙ c.in-Err-Refused.ensures.refused code is_code files (same ∙ told) limit p))
 
 pub returns-in-Err-ReadFault-beginning-clause-run : goal.returns-in-Err-ReadFault-beginning-clause-run
 returns-in-Err-ReadFault-beginning-clause-run g c =
@@ -103,4 +104,4 @@ returns-in-Ok-beginning-clause-unread g c files told refused =
     let is : reading bytes ≡ Accepted p = ap reading (sym c.deref.ensures.value) ∙ sym c.in-Ok-Accepted.ensures.reading ∙ c.in-Ok-Accepted.field-0-is in
     c.do_mode.ensures.unread (unread_at mode limit c.in-Ok-beginning.beginning p (subst IsUnread
     (accepted_file mode limit image c.args.name.now _ files bytes p told c.in-Ok.ensures.found c.in-Ok.ensures.bytes is
-    ∙ ap (λ (read : List ℕ). wanted_from mode limit image files (rules_of read) p) (sym c.deref-2.ensures.value) ∙ c.in-Ok-beginning.ensures.found files (c.read_whole.ensures.files ∙ told) limit p) refused))
+    ∙ ap (λ (read : List ℕ). wanted_from mode limit image files (rules_shown read) p) (sym c.deref-2.ensures.value) ∙ c.in-Ok-beginning.ensures.found files (c.read_whole.ensures.files ∙ told) limit p) refused))

@@ -1,4 +1,5 @@
-use Rattle.replay.proofs.Common.{◌≡◌, ◌⊎◌, refl, inl, inr, ℕ, List, Option, Mode, Check, Lives, Proof, Program, Gives, Fires, Counts, accepted_text, RunsIn, proof_text, IsFront, accepts, tells_lives, proves}
+use Rattle.replay.proofs.Common.{◌≡◌, ◌⊎◌, refl, inl, inr, ℕ, List, Option, Mode, Check, Lives, Proof, Program, Gives, Fires, Counts, accepted_text, RunsIn}
+use Rattle.replay.proofs.Common.{proof_text, IsFront, accepts, tells_lives, proves}
 use Rattle.replay.specs.Proving.{IsProofFront}
 use Rattle.replay.proofs.Calls.{mode_done, not_nine, says_low, written_as}
 use Rattle.replay.proofs.top.do_mode.Goals as goal

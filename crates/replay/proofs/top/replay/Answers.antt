@@ -1,6 +1,7 @@
 use Rattle.replay.proofs.Common.{Option, subst, sym, Asked, wanted_by, IsUnread}
 use Rattle.replay.proofs.GoingOn.{goes_on}
-use Rattle.replay.proofs.Calls.{wanted_is, written_told, long_told, stopped_told, refusal_told, written_no_script, written_no_file, completes, completes_unread, completes_load}
+use Rattle.replay.proofs.Calls.{wanted_is, written_told, long_told, stopped_told, refusal_told, written_no_script, written_no_file, completes, completes_unread}
+use Rattle.replay.proofs.Calls.{completes_load}
 use Rattle.replay.proofs.top.replay.Goals as goal
 
 pub returns-in-Ok-clause-exact : goal.returns-in-Ok-clause-exact

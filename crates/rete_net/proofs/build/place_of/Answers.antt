@@ -1,10 +1,10 @@
 use Rattle.rete_net.proofs.Common.{◌≡◌, ◌∙◌, ◌<◌, sym, ap, inl, inr, true, false, Some, slice_get, length, arith, slice_get_within, slice_get-get_or, Origin}
-use Rattle.rete_net.proofs.Turns.{below_or_at}
+use Rattle.fx_base.proofs.Orders.{below_or_last}
 use Rattle.rete_net.proofs.build.place_of.Goals as goal
 
 pub loop-place-preserved : goal.loop-place-preserved
 loop-place-preserved c k origin lt e same own =
-    elim (below_or_at k c.loop-place.place lt) [
+    elim (below_or_last k c.loop-place.place lt) [
       | inl below ↦ c.loop-place.invariant k origin below e same own
       | inr at ↦
           let x = c.index-origins-place.result in

@@ -1,7 +1,8 @@
 use Rattle.rete_net.proofs.Common.{◌≡◌, ◌∙◌, sym, ap, length, None, Some, slice_get, slice_get-get_or, has_place}
-use Rattle.rete_net.proofs.Fanned.{below_of, none_past, not_below}
-use Rattle.rete_net.proofs.Growing.{both_at}
+use Rattle.std.proofs.lemmas.Bool.{ltb-false, ltb-true}
+use Rattle.rete_net.proofs.Fanned.{none_past}
 use Rattle.rete_net.proofs.Places.{put_stays, put_there}
+use Rattle.fx_base.proofs.Sequences.{one_value}
 use Rattle.rete_net.proofs.fans.put_member.Goals as goal
 
 pub returns-in_ok-insert-in-Some-clause-still : goal.returns-in_ok-insert-in-Some-clause-still
@@ -9,10 +10,10 @@ returns-in_ok-insert-in-Some-clause-still c k was = put_stays c.in-Some.place.no
 
 pub returns-in_ok-insert-in-Some-clause-put : goal.returns-in_ok-insert-in-Some-clause-put
 returns-in_ok-insert-in-Some-clause-put c k there =
-    let within = below_of c.args.member (length c.args.places.now) (sym c.in-Some.ensures.lookup.0) in
+    let within = ltb-true c.args.member (length c.args.places.now) (sym c.in-Some.ensures.lookup.0) in
     let found : slice_get c.args.places.now c.args.member ≡ Some c.in-Some.place.now = slice_get-get_or c.args.places.now c.args.member c.in-Some.place.now within ∙ ap Some (sym c.in-Some.ensures.lookup.1) in
-    put_there c.in-Some.place.now k (has_place c.args.due.now.keys k) _ (c.in_ok-insert-in-Some.ensures.updates.0 k) (both_at (slice_get c.args.places.now c.args.member) c.in-Some.place.now k found there)
+    put_there c.in-Some.place.now k (has_place c.args.due.now.keys k) _ (c.in_ok-insert-in-Some.ensures.updates.0 k) (one_value (slice_get c.args.places.now c.args.member) c.in-Some.place.now k found there)
 
 pub returns-in-None-clause-put : goal.returns-in-None-clause-put
 returns-in-None-clause-put c k there =
-    absurd (let no : None ≡ Some k = sym (none_past c.args.places.now c.args.member (not_below c.args.member (length c.args.places.now) (sym c.in-None.ensures.lookup.0))) ∙ there in cc)
+    absurd (let no : None ≡ Some k = sym (none_past c.args.places.now c.args.member (ltb-false c.args.member (length c.args.places.now) (sym c.in-None.ensures.lookup.0))) ∙ there in cc)

@@ -1,5 +1,6 @@
-use Rattle.rete_net.proofs.Common.{◌≡◌, ◌∙◌, sym, ap, subst, true, false, inl, inr, ◌<◌, length, arith, take, get_or, [], ◌∷◌, take_more, take_all, In, Named, name_in, is_listed}
-use Rattle.rete_net.proofs.Telling.{in_append}
+use Rattle.rete_net.proofs.Common.{◌≡◌, ◌∙◌, sym, ap, subst, true, false, inl, inr, ◌<◌, length, arith, take, get_or, [], ◌∷◌, take_more, take_all, In, Named}
+use Rattle.rete_net.proofs.Common.{name_in, is_listed}
+use Rattle.fx_base.proofs.Sequences.{In-append}
 use Rattle.rete_net.proofs.forgetting.with_old.Goals as goal
 
 abbrev no_name : Named
@@ -19,7 +20,7 @@ loop-named-preserved g c =
     record {
       put = told.put was.put;
       seen = λ who f there e.
-          elim (in_append who (take i old) (get_or old i no_name ∷ []) (subst (In who) (take_more old i no_name within) there)) [
+          elim (In-append who (take i old) (get_or old i no_name ∷ []) (subst (In who) (take_more old i no_name within) there)) [
             | inl before ↦ told.kept f.ty.0 (was.seen who f before e)
             | inr here ↦ told.there f (ap (λ (w : Named). g.F.Facts.map c.args.facts.now w.tag) (sym (the_one who (get_or old i no_name) here)) ∙ e)
           ];

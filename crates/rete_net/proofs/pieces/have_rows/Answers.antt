@@ -1,4 +1,6 @@
-use Rattle.rete_net.proofs.Common.{◌≡◌, ◌∙◌, ap, sym, subst, ◌∷◌, [], ◌++◌, ◌+◌, inl, inr, true, Some, slice_get, take, take_more, take_all, slice_get-get_or, In, Extra, has, of_append, in_place}
+use Rattle.rete_net.proofs.Common.{◌≡◌, ◌∙◌, ap, sym, subst, ◌∷◌, [], ◌++◌, ◌+◌, inl, inr, true, Some, slice_get, take, take_more, take_all, slice_get-get_or}
+use Rattle.rete_net.proofs.Common.{In, Extra, has, in_place}
+use Rattle.fx_base.proofs.Sequences.{In-append}
 use Rattle.rete_net.proofs.pieces.have_rows.Goals as goal
 
 pub loop-extra-init : goal.loop-extra-init
@@ -18,7 +20,7 @@ loop-extra-preserved c sorted e i =
     let x = c.extra-item.result in
     let here : has c.args.rows.now c.extra-item.result.row ≡ true = sym (c.has_row.ensures sorted) ∙ c.if-not-has_row.false in
     let more : take (k + 1) extras ≡ take k extras ++ x ∷ [] = take_more extras k x c.loop-extra-test.true ∙ ap (λ y. take k extras ++ y ∷ []) (sym c.extra-item.is) in
-    elim (of_append e (take k extras) (x ∷ []) (subst (In e) more i)) [
+    elim (In-append e (take k extras) (x ∷ []) (subst (In e) more i)) [
       | inl was ↦ c.loop-extra.invariant sorted e was
       | inr now ↦ elim now [
         | inl is ↦ ap (λ (y : Extra). has c.args.rows.now y.row) is ∙ here

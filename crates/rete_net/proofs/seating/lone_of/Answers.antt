@@ -1,5 +1,6 @@
-use Rattle.rete_net.proofs.Common.{◌≡◌, ◌∙◌, sym, ap, subst, ◌<◌, inl, inr, ℕ, Some, true, slice_get, length, arith, slice_get_within, slice_get-get_or, NetNode, is_listed, seat_at}
-use Rattle.rete_net.proofs.Turns.{below_or_at}
+use Rattle.rete_net.proofs.Common.{◌≡◌, ◌∙◌, sym, ap, subst, ◌<◌, inl, inr, ℕ, Some, true, slice_get, length, arith, slice_get_within, slice_get-get_or}
+use Rattle.rete_net.proofs.Common.{NetNode, is_listed, seat_at}
+use Rattle.fx_base.proofs.Orders.{below_or_last}
 use Rattle.rete_net.proofs.seating.lone_of.Goals as goal
 
 pub loop-place-init : goal.loop-place-init
@@ -7,7 +8,7 @@ loop-place-init c k parent n lt e is free = absurd (omega arith)
 
 pub loop-place-preserved : goal.loop-place-preserved
 loop-place-preserved c k parent n lt e is free =
-    elim (below_or_at k c.loop-place.place lt) [
+    elim (below_or_last k c.loop-place.place lt) [
       | inl below ↦ c.in_ok-put_lone.ensures.kept parent k (c.loop-place.invariant k parent n below e is free)
       | inr at ↦
           let x = c.index-nodes-place.result in

@@ -1,9 +1,10 @@
-use Rattle.rule_eval.proofs.Common.{◌≡◌, ◌+◌, ◌++◌, ◌∷◌, [], map, length, drop, to_z, of_z, sym, ◌∙◌, ap, subst, arith, ints, append-nil, HaveSame, insert_rising, lent, w64}
+use Rattle.rule_eval.proofs.Common.{◌≡◌, ◌+◌, ◌++◌, ◌∷◌, [], map, length, drop, to_z, of_z, sym, ◌∙◌, ap, subst, arith, ints, append-nil, HaveSame}
+use Rattle.rule_eval.proofs.Common.{insert_rising, lent, w64}
 use Rattle.fold_fn.specs.Results.{fold_result}
 use Rattle.fold_fn.proofs.ResultLemmas.{length-insert, result_same}
 use Rattle.rule_model.specs.Rows.{argument as argument_of}
 use Rattle.rule_eval.proofs.Folds.{taken}
-use Rattle.rule_eval.proofs.Stepwise.{rest_at, no_more}
+use Rattle.fx_base.proofs.Sequences.{drop_at, drop_past}
 use Rattle.rule_eval.proofs.folding.result_of.Goals as goal
 
 pub loop-fact-preserved : goal.loop-fact-preserved
@@ -15,7 +16,7 @@ loop-fact-preserved c =
     let rest = map arg (lent (drop (i + 1) facts)) in
     let all = map arg (lent facts) in
     let x = arg c.fact-item.result.now in
-    let at : map arg (lent (drop i facts)) ≡ x ∷ rest = ap (λ fs. map arg (lent fs)) (rest_at facts i c.fact-item.result c.loop-fact-test.true c.fact-item.is) in
+    let at : map arg (lent (drop i facts)) ≡ x ∷ rest = ap (λ fs. map arg (lent fs)) (drop_at facts i c.fact-item.result c.loop-fact-test.true c.fact-item.is) in
     let come : HaveSame (held ++ x ∷ rest) all = subst (λ vs. HaveSame (held ++ vs) all) at c.loop-fact.invariant.same in
     let whole : to_z w64 (of_z w64 c.argument.result) ≡ c.argument.result = omega (arith, ints) in
     let new : c.add.new.self.values ≡ insert_rising x held = c.in_ok-add.ensures.ok ∙ ap (λ z. insert_rising z held) (whole ∙ c.argument.ensures) in
@@ -31,7 +32,7 @@ returns c =
     let arg = argument_of c.args.accumulate.now.arg in
     let held = c.loop-fact.fold.values in
     let all = map arg (lent facts) in
-    let none : drop c.loop-fact.fact-index facts ≡ [] = no_more facts c.loop-fact.fact-index (omega arith) in
+    let none : drop c.loop-fact.fact-index facts ≡ [] = drop_past facts c.loop-fact.fact-index (omega arith) in
     let done : HaveSame (held ++ []) all = subst (λ fs. HaveSame (held ++ map arg (lent fs)) all) none c.loop-fact.invariant.same in
     let same : HaveSame held all = subst (λ vs. HaveSame vs all) (append-nil held) done in
     c.result.ensures ∙ ap (λ k. fold_result k held) c.loop-fact.invariant.kind ∙ result_same c.args.accumulate.now.kind held all same

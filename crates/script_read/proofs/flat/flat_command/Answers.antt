@@ -1,4 +1,5 @@
-use Rattle.script_read.proofs.Common.{◌≡◌, Some, option_and_then, sym, ap, ◌∙◌, value_view, members_view, of_json, read, reading, object, if_last, max_depth, tree_command}
+use Rattle.script_read.proofs.Common.{◌≡◌, Some, option_and_then, sym, ap, ◌∙◌, value_view, members_view, of_json, read, max_depth, reading, object, if_last}
+use Rattle.script_read.proofs.Common.{tree_command}
 use Rattle.json.specs.Json.{value as value_in}
 use Rattle.json.specs.Lex.{tokens}
 use Rattle.json.proofs.Trees.{view-Object}

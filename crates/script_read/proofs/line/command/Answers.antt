@@ -1,4 +1,4 @@
-use Rattle.script_read.proofs.Common.{rules, ◌≡◌, bad_json, Answers}
+use Rattle.script_read.proofs.Common.{rules, ◌≡◌, bad_json, AnswersLine}
 use Rattle.script_read.specs.Asked.{asked}
 use Rattle.script_read.proofs.AskedLaws.{answer_ok, answer_bad_command, asked_unread}
 use Rattle.script_read.proofs.line.command.Goals as goal
@@ -6,12 +6,12 @@ use Rattle.script_read.proofs.line.command.Goals as goal
 pub returns-in_ok-form-in-Some-clause-ok : goal.returns-in_ok-form-in-Some-clause-ok
 unfolding asked
 returns-in_ok-form-in-Some-clause-ok c =
-    let says : Answers (asked c.args.line.now) c.ok_or.result = search rules in answer_ok c.args.line.now c.ok_or.result says
+    let says : AnswersLine (asked c.args.line.now) c.ok_or.result = search rules in answer_ok c.args.line.now c.ok_or.result says
 
 pub returns-in_ok-form-in-Some-clause-bad_command : goal.returns-in_ok-form-in-Some-clause-bad_command
 unfolding asked
 returns-in_ok-form-in-Some-clause-bad_command c =
-    let says : Answers (asked c.args.line.now) c.ok_or.result = search rules in answer_bad_command c.args.line.now c.ok_or.result says
+    let says : AnswersLine (asked c.args.line.now) c.ok_or.result = search rules in answer_bad_command c.args.line.now c.ok_or.result says
 
 pub returns-in-None-clause-bad_json : goal.returns-in-None-clause-bad_json
 unfolding asked

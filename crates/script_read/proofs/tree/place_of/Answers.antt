@@ -1,23 +1,16 @@
-use Rattle.script_read.proofs.Common.{◌≡◌, Less, Greater, nat_cmp, sym, ap, ◌∙◌, arith, slice_cmp}
-use Rattle.script_read.proofs.Fields.{comes_here, comes_later, comes_last}
+use Rattle.script_read.proofs.Common.{arith, rules, length, nat_cmp, of_calls, slice_cmp}
+use Rattle.std.proofs.lemmas.Fn.{always_returns_same}
+use Rattle.script_read.proofs.Rising.{Field, parted, put_at}
 use Rattle.script_read.proofs.tree.place_of.Goals as goal
 
-pub returns-in-Less-clause-place : goal.returns-in-Less-clause-place
-returns-in-Less-clause-place c =
-    let field = c.index-fields-place.result in
-    let named = c.as_str.ensures ∙ sym (ap (λ f. f.0) c.index-fields-place.is) in
-    let less : slice_cmp nat_cmp c.args.name.now field.0 ≡ Less = sym (ap (slice_cmp nat_cmp c.args.name.now) named) ∙ sym c.cmp.ensures ∙ c.in-Less.is in
-    comes_here c.args.fields.now c.loop-place.place field c.args.name.now c.loop-place-test.true c.index-fields-place.is less c.loop-place.invariant.behind
+pub returns-then-is_last-clause-place : goal.returns-then-is_last-clause-place
+returns-then-is_last-clause-place c =
+    put_at c.args.fields.now (length c.args.fields.now) c.args.name.now (omega arith)
+    (λ k d lt. c.is_last.ensures c.if-is_last.true c.requires k d (omega arith) lt) (λ d lt. absurd (omega arith))
 
-pub loop-place-preserved : goal.loop-place-preserved
-loop-place-preserved c =
-    let field = c.index-fields-place.result in
-    let named = c.as_str.ensures ∙ sym (ap (λ f. f.0) c.index-fields-place.is) in
-    let greater : slice_cmp nat_cmp c.args.name.now field.0 ≡ Greater = sym (ap (slice_cmp nat_cmp c.args.name.now) named) ∙ sym c.cmp.ensures ∙ c.in-Greater.is in
-    record {
-      within = omega (arith, c.loop-place-test.true);
-      behind = comes_later c.args.fields.now c.loop-place.place field c.args.name.now c.loop-place-test.true c.index-fields-place.is greater c.loop-place.invariant.behind;
-    }
-
-pub returns-clause-place : goal.returns-clause-place
-returns-clause-place c = comes_last c.args.fields.now c.loop-place.place c.args.name.now c.loop-place-test.false c.loop-place.invariant.behind
+pub returns-in-Err-clause-place : goal.returns-in-Err-clause-place
+returns-in-Err-clause-place c =
+    let fs = c.args.fields.now in
+    let name = c.args.name.now in
+    let parts = c.in-Err.ensures.position (λ (f : Field). slice_cmp nat_cmp f.0 name) (always_returns_same _ _ _ (λ a r f k. search (rules, of_calls))) (parted fs name c.requires) in
+    put_at fs c.in-Err.place name c.in-Err.ensures.bound (λ k d lt. parts.0 k d (omega arith) lt) (λ d lt. parts.1 c.in-Err.place d (omega arith) lt)

@@ -1,8 +1,11 @@
-use Rattle.script_run.proofs.Common.{◌≡◌, ◌^◌, ◌++◌, true, false, not, [], take, arith, sym, ap, ◌∙◌, refl, append, AppendsFront, lines_of, lines_ahead, Goes, Stops, setting_of, state_in, at_end, at_limit, run}
+use Rattle.script_run.proofs.Common.{◌≡◌, ◌^◌, ◌++◌, true, false, not, [], take, arith, sym, ap, ◌∙◌, refl, append, AppendsFront, lines_of, lines_ahead, Goes}
+use Rattle.script_run.proofs.Common.{Stops, setting_of, state_in, at_end, at_limit, run}
 use Rattle.fx_io.specs.Reader.{Reader}
 use Rattle.script_run.specs.declared.fault.RunFault.TheVariants.{NoMemory, WriteFault}
-use Rattle.script_run.proofs.Ahead.{goes_further, ends_there, flushed, all_done, no_line, no_more, run_ended, stopped, stopped_in, stopped_at_read, long_run, told_err, if_told, at_start, moves_on, flushed_front, written_then, append_nothing}
-use Rattle.script_run.proofs.Stops.{err_of, given_since, takes_stop, long_stop, read_stop, long_taken, exhausted, none_given, stops_mid_line, no_memory_at_read, no_memory_at_length, none_kept, has_at_most}
+use Rattle.script_run.proofs.Ahead.{goes_further, ends_there, flushed, all_done, no_line, no_more, run_ended, stopped, stopped_in, stopped_at_read, long_run}
+use Rattle.script_run.proofs.Ahead.{told_err, if_told, at_start, moves_on, flushed_front, written_then, append_nothing}
+use Rattle.script_run.proofs.Stops.{err_of, given_since, takes_stop, long_stop, read_stop, long_taken, exhausted, none_given, stops_mid_line, no_memory_at_read}
+use Rattle.script_run.proofs.Stops.{no_memory_at_length, none_kept, has_at_most}
 use Rattle.script_run.proofs.running.run_from.Goals as goal
 use Rattle.script_run.proofs.running.run_from.Goals.{then-not-is_ready, else-not-is_ready}
 

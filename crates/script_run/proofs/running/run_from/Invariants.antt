@@ -1,4 +1,5 @@
-use Rattle.script_run.proofs.Common.{◌≡◌, ◌≤◌, ◌+◌, ◌*◌, ◌^◌, ℕ, List, None, append, prepend, count_after, total_told, to_come, World, setting_of, state_in, run}
+use Rattle.script_run.proofs.Common.{◌≡◌, ◌≤◌, ◌+◌, ◌*◌, ◌^◌, ℕ, List, None, append, prepend, count_after, total_told, to_come, World, setting_of, state_in}
+use Rattle.script_run.proofs.Common.{run}
 use Rattle.script_run.proofs.Ahead.{SoFar}
 use Rattle.script_run.proofs.running.run_from.Given as goal
 

@@ -1,5 +1,5 @@
 use Rattle.session.proofs.Common.{◌≡◌, ◌∙◌, List, filter_map, option_map, refl, sym, subst, length, Fact, lent, clean_rows, facts_at, instant_at}
-use Rattle.pattern_gate.specs.Moves.{Moves}
+use Rattle.pattern_gate.specs.Moves.{MovesSnapshot}
 use Rattle.rete_net.specs.Forgetting.{AreNotNeeded}
 use Rattle.session_laws.proofs.Leads.{found_going, has_before, has_behind, leads_move, on_ok}
 use Rattle.session.proofs.refreshing.followed.Goals as goal
@@ -14,7 +14,7 @@ returns-clause-net c before behind all from forgotten l st =
     let gone = c.args.gone.now in
     let come = option_map (λ f. f.now) c.args.come in
     let going : filter_map (map.get all) gone ≡ lent c.in_ok-gone.gone.items = sym (c.in_ok-gone.ensures ∙ found_going all c.args.facts.now gone l.at_hand.going) in
-    let moves = subst (λ (out : List Fact). Moves p s next out come) going (leads_move p before behind all from.clock to.clock gone come l.leads from.reached to.reached l.goes_on) in
+    let moves = subst (λ (out : List Fact). MovesSnapshot p s next out come) going (leads_move p before behind all from.clock to.clock gone come l.leads from.reached to.reached l.goes_on) in
     let unneeded = subst (λ (out : List Fact). AreNotNeeded p forgotten s next out come) going l.unneeded in
     let stands = simp c.as_slice.ensures.value at c.in_ok-changes.ensures.stands in
     on_ok c.refreshed.result (stands s next forgotten c.requires st moves (record { clock = refl; reached = refl }) unneeded
@@ -30,7 +30,7 @@ returns-clause-agenda c before behind all from forgotten l st =
     let gone = c.args.gone.now in
     let come = option_map (λ f. f.now) c.args.come in
     let going : filter_map (map.get all) gone ≡ lent c.in_ok-gone.gone.items = sym (c.in_ok-gone.ensures ∙ found_going all c.args.facts.now gone l.at_hand.going) in
-    let moves = subst (λ (out : List Fact). Moves p s next out come) going (leads_move p before behind all from.clock to.clock gone come l.leads from.reached to.reached l.goes_on) in
+    let moves = subst (λ (out : List Fact). MovesSnapshot p s next out come) going (leads_move p before behind all from.clock to.clock gone come l.leads from.reached to.reached l.goes_on) in
     let unneeded = subst (λ (out : List Fact). AreNotNeeded p forgotten s next out come) going l.unneeded in
     let differences = simp c.as_slice.ensures.value at c.in_ok-changes.ensures.differences in
     c.refreshed.ensures.agenda p (clean_rows p s forgotten) (clean_rows p next forgotten)

@@ -1,4 +1,6 @@
-use Rattle.session.proofs.Common.{◌≡◌, ◌∙◌, ◌||◌, List, [], ap, sym, subst, In, Row, is_among, none_left, all_made, change_turn, none_ahead, names_in, left_turn, none_made, nothing_left, rules_turn}
+use Rattle.session.proofs.Common.{◌≡◌, ◌∙◌, ◌||◌, List, [], ap, sym, subst, In, Row, is_tag_among, none_left, all_made, change_turn, none_ahead, names_in}
+use Rattle.session.proofs.Common.{left_turn, none_made, rules_turn}
+use Rattle.fx_base.proofs.Sequences.{empty_from_length}
 use Rattle.session.proofs.refreshing.refreshed.Goals as goal
 
 pub loop-change-init : goal.loop-change-init
@@ -16,9 +18,9 @@ loop-change-preserved c = record {
       change_turn c.args.changes.items c.loop-change.change-iterator.rest.items c.next.new.self.rest.items c.in-Some.change c.args.agenda c.loop-change.agenda c.in_ok-agenda.agenda
       between.in_order (c.loop-change.invariant.agenda p old new between) c.in-Some.ensures.steps.0 c.in_ok-agenda.ensures;
   left =
-      left_turn c.args.agenda c.loop-change.agenda c.in_ok-agenda.agenda c.in-Some.change.rule.0 c.in-Some.change.delta (is_among c.loop-change.left.items) (is_among c.add_rows.new.tags.items)
+      left_turn c.args.agenda c.loop-change.agenda c.in_ok-agenda.agenda c.in-Some.change.rule.0 c.in-Some.change.delta (is_tag_among c.loop-change.left.items) (is_tag_among c.add_rows.new.tags.items)
       c.loop-change.invariant.left c.in_ok-agenda.ensures
-      (λ tag. c.in_ok-add_rows.ensures tag ∙ ap (λ (rows : List Row). is_among c.loop-change.left.items tag || names_in rows tag) c.as_slice.ensures);
+      (λ tag. c.in_ok-add_rows.ensures tag ∙ ap (λ (rows : List Row). is_tag_among c.loop-change.left.items tag || names_in rows tag) c.as_slice.ensures);
   rules = λ rules within pending.
       let was = c.loop-change.invariant.rules rules within pending in
       rules_turn c.loop-change.change-iterator.rest.items c.next.new.self.rest.items c.in-Some.change c.loop-change.agenda c.in_ok-agenda.agenda rules c.in-Some.ensures.steps.0 c.in_ok-agenda.ensures was.0 was.1;
@@ -28,7 +30,7 @@ pub returns-clause-agenda : goal.returns-clause-agenda
 returns-clause-agenda c p old new between =
     let rest = c.loop-change.change-iterator.rest in
     all_made p old new c.args.changes.items between c.args.agenda c.loop-change.agenda
-    (none_ahead c.args.changes.items rest.items c.args.agenda c.loop-change.agenda (nothing_left rest.items rest.len rest.ok.0 c.in-None.ensures.steps.0) (c.loop-change.invariant.agenda p old new between))
+    (none_ahead c.args.changes.items rest.items c.args.agenda c.loop-change.agenda (empty_from_length rest.items rest.len rest.ok.0 c.in-None.ensures.steps.0) (c.loop-change.invariant.agenda p old new between))
 
 pub returns-clause-rules : goal.returns-clause-rules
 returns-clause-rules c rules within pending = (c.loop-change.invariant.rules rules within pending).1

@@ -1,4 +1,5 @@
-use Rattle.session.proofs.Common.{◌≡◌, ◌≤◌, ◌==◌, ◌&&◌, ◌||◌, ◌++◌, [], ◌∷◌, List, length, take, refl, sym, subst, arith, take_all, Row, has, Match, has_match, next_taken, none_yet, one_added}
+use Rattle.session.proofs.Common.{◌≡◌, ◌≤◌, ◌==◌, ◌&&◌, ◌||◌, ◌++◌, [], ◌∷◌, List, length, take, refl, sym, subst, arith, take_all, Row, has, Match, has_match}
+use Rattle.session.proofs.Common.{next_taken, none_yet, one_added}
 use Rattle.session.proofs.restoring.add_matches.Goals as goal
 
 pub loop-row-init : goal.loop-row-init

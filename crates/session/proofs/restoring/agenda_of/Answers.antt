@@ -1,4 +1,4 @@
-use Rattle.session.proofs.Common.{◌≡◌, ◌∙◌, List, sym, ap, IfOk-weaker, match_fired, RuleChange, comes_by}
+use Rattle.session.proofs.Common.{◌∙◌, List, sym, ap, IfOk-weaker, match_fired, RuleChange, comes_by}
 use Rattle.session.proofs.restoring.agenda_of.Goals as goal
 
 pub returns-clause-came : goal.returns-clause-came

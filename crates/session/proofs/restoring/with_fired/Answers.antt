@@ -1,4 +1,5 @@
-use Rattle.session.proofs.Common.{◌≡◌, ◌==◌, ◌&&◌, ◌||◌, not, true, false, List, take, sym, subst, rules, eq_by_cmp, Row, row_cmp, FiredMatch, Match, has_match, AreMarking, in_at, next_taken, one_marked}
+use Rattle.session.proofs.Common.{◌≡◌, ◌==◌, ◌&&◌, ◌||◌, not, true, false, take, sym, subst, rules, eq_by_cmp, Row, row_cmp, FiredMatch, Match, has_match}
+use Rattle.session.proofs.Common.{AreMarking, in_at, next_taken, one_marked}
 use Rattle.session.proofs.restoring.with_fired.Goals as goal
 
 pub returns-then-not-contains-clause-unfit : goal.returns-then-not-contains-clause-unfit

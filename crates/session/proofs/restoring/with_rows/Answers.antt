@@ -1,4 +1,5 @@
-use Rattle.session.proofs.Common.{◌≡◌, ◌∙◌, refl, added_pending, added_turn, none_added, nothing_left}
+use Rattle.session.proofs.Common.{◌∙◌, refl, added_pending, added_turn, none_added}
+use Rattle.fx_base.proofs.Sequences.{empty_from_length}
 use Rattle.session.proofs.restoring.with_rows.Goals as goal
 
 pub loop-change-init : goal.loop-change-init
@@ -21,7 +22,7 @@ returns-clause-saliences c = c.loop-change.invariant.saliences
 pub returns-clause-pending : goal.returns-clause-pending
 returns-clause-pending c none =
     let rest = c.loop-change.change-iterator.rest in
-    added_pending c.args.agenda c.loop-change.agenda c.args.changes.items rest.items (nothing_left rest.items rest.len rest.ok.0 c.in-None.ensures.steps.0) (c.loop-change.invariant.adding none)
+    added_pending c.args.agenda c.loop-change.agenda c.args.changes.items rest.items (empty_from_length rest.items rest.len rest.ok.0 c.in-None.ensures.steps.0) (c.loop-change.invariant.adding none)
 
 pub returns-clause-fired : goal.returns-clause-fired
 returns-clause-fired c none = (c.loop-change.invariant.adding none).fired

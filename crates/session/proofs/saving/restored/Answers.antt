@@ -1,4 +1,6 @@
-use Rattle.session.proofs.Common.{◌≡◌, ◌∙◌, ℤ, List, [], length, Err, sym, ap, subst, to_z, of_z, w64, rules, Marks, has_tag, is_among, is_named, Passes, stored, AreStorable, IsMatched, clock_same, no_keys, image_safe, old_refuses, residual_unfit, restored_is, some_key, storable}
+use Rattle.session.proofs.Common.{◌≡◌, ◌∙◌, ℤ, List, [], length, Err, sym, ap, subst, to_z, of_z, w64, rules, Marks, has_listed_tag, is_tag_among, is_named}
+use Rattle.session.proofs.Common.{PassesLives, stored, AreStorable, IsMatched, clock_same, no_keys, image_safe, old_refuses, residual_unfit, restored_is}
+use Rattle.session.proofs.Common.{some_key, storable}
 use Rattle.session.proofs.OfImage.{are_of_image}
 use Rattle.session.proofs.saving.restored.Goals as goal
 
@@ -33,9 +35,9 @@ returns-then-not-is_empty-clause-unfit c unfit owners own =
     let are =
     are_of_image c.args.setting.now image c.requires.plain c.moment-moment.result c.in_ok-course.course _ c.moment-moment.ensures.clock same c.moment-moment.ensures.last_starts c.moment-moment.ensures.promises course
     c.as_slice-3.result.now c.as_slice-3.ensures c.as_slice-4.result.now c.as_slice-4.ensures kept.facts held in
-    let passes : Passes image.clock (is_among []) (is_named c.in_ok-net.agenda) kept.retention c.in_ok-retention.retention (has_tag keys) = simp (same, c.agenda-2.ensures, c.in_ok-agenda.ensures) at c.in_ok-retention.ensures.passes in
+    let passes : PassesLives image.clock (is_tag_among []) (is_named c.in_ok-net.agenda) kept.retention c.in_ok-retention.retention (has_listed_tag keys) = simp (same, c.agenda-2.ensures, c.in_ok-agenda.ensures) at c.in_ok-retention.ensures.passes in
     let some : length keys ≡ 0 → ⊥ = search rules in
-    old_refuses p c.args.setting.now.lives image kept.facts kept.expiries kept.retention c.in_ok-retention.retention c.in_ok-net.agenda (has_tag keys) held c.in_ok-kept.ensures.held
+    old_refuses p c.args.setting.now.lives image kept.facts kept.expiries kept.retention c.in_ok-retention.retention c.in_ok-net.agenda (has_listed_tag keys) held c.in_ok-kept.ensures.held
     passes c.in_ok-net.net (c.in_ok-net.ensures.matched image are) c.requires.plain (some_key keys some) owners own
 
 pub invariant_of-state : goal.invariant_of-state
@@ -58,7 +60,7 @@ returns-clause-restored c owners own =
     let are =
     are_of_image c.args.setting.now image c.requires.plain c.moment-moment.result c.in_ok-course.course _ c.moment-moment.ensures.clock same c.moment-moment.ensures.last_starts c.moment-moment.ensures.promises course
     c.as_slice-3.result.now c.as_slice-3.ensures c.as_slice-4.result.now c.as_slice-4.ensures kept.facts held in
-    let passes : Passes image.clock (is_among []) (is_named marks) kept.retention c.in_ok-retention.retention (has_tag keys) = simp (same, c.agenda-2.ensures) at c.in_ok-retention.ensures.passes in
+    let passes : PassesLives image.clock (is_tag_among []) (is_named marks) kept.retention c.in_ok-retention.retention (has_listed_tag keys) = simp (same, c.agenda-2.ensures) at c.in_ok-retention.ensures.passes in
     let none : length keys ≡ 0 = search rules in
     let matched = subst (λ (a : Marks). IsMatched p image c.in_ok-net.net a) (sym c.in_ok-agenda.ensures) (c.in_ok-net.ensures.matched image are) in
     restored_is c.args.setting.now c.requires.runs image c.requires.plain owners own c.in_ok-net.net kept.expiries kept.retention c.in_ok-retention.retention marks keys matched passes (no_keys keys none)

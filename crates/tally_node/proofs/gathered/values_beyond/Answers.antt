@@ -1,7 +1,8 @@
 use Rattle.tally_node.proofs.Common.{◌≡◌, ◌∙◌, sym, ap, refl, rules, get_or, pos, ◌+◌, ◌++◌, ◌∷◌, [], drop, ℕ, ℤ, List, Vec, Global, SFits, w64, to_z-of_z}
 use Rattle.tally_node.proofs.Leaving.{leaves, leave_end, leave_here, leave_not, nothing_to_walk, leaves_beyond, behind}
+use Rattle.tally_node.proofs.gathered.values_beyond.Goals.{then-next-part+then-is_same, else-next-part+in_ok-push}
+use Rattle.tally_node.proofs.gathered.values_beyond.Goals.{else-next-part-via-then-next-part+else-is_same, else-next-part-via-else-next-part}
 use Rattle.tally_node.proofs.gathered.values_beyond.Goals as goal
-use Rattle.tally_node.proofs.gathered.values_beyond.Goals.{then-next-part+then-is_same, else-next-part+in_ok-push, else-next-part-via-then-next-part+else-is_same, else-next-part-via-else-next-part}
 
 pub loop-value-preserved : goal.loop-value-preserved
 loop-value-preserved c =

@@ -1,4 +1,4 @@
-use Rattle.temporal_net.proofs.Common.{◌≢◌, ℕ, ◌<◌, List, ◌++◌, length, None, cell, Follows}
+use Rattle.temporal_net.proofs.Common.{◌≢◌, ℕ, ◌<◌, List, ◌++◌, length, None, cell, FollowsWay}
 use Rattle.temporal_net.proofs.Ways.{edges_left}
 use Rattle.temporal_net.proofs.table.way.Given as goal
 
@@ -6,7 +6,7 @@ abbrev pub invariant-loop-at : goal.invariant-loop-at
 invariant-loop-at l = record {
   inside : l.at < length l.rows;
   known : cell l.rows l.at l.to ≢ None;
-  so_far : (rest : List ℕ) → Follows (length l.rows) l.edges (cell l.rows) l.at l.to rest → Follows (length l.rows) l.edges (cell l.rows) l.from l.to (l.numbers.items ++ rest);
+  so_far : (rest : List ℕ) → FollowsWay (length l.rows) l.edges (cell l.rows) l.at l.to rest → FollowsWay (length l.rows) l.edges (cell l.rows) l.from l.to (l.numbers.items ++ rest);
 }
 
 abbrev pub decreases-loop-at : goal.decreases-loop-at

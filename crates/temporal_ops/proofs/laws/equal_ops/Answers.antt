@@ -1,11 +1,11 @@
-use Rattle.temporal_ops.proofs.Common.{◌≡◌, ℕ, ◌-◌, ◌++◌, ◌&&◌, List, length, take, int_eq, refl, sym, ◌∙◌, ap, replicate, take-append_seam, Corner, AStart, AEnd, BStart, BEnd, OpEdge, blank}
+use Rattle.temporal_ops.proofs.Common.{◌≡◌, ℕ, ◌-◌, ◌++◌, ◌&&◌, List, length, take, int_eq, refl, sym, ◌∙◌, ap, replicate, take-append_seam, Corner, AStart}
+use Rattle.temporal_ops.proofs.Common.{AEnd, BStart, BEnd, OpEdge, blank}
 use Rattle.std.specs.Bool.{Decides}
 use Rattle.std.specs.Cmp.Lexicographic.{pointwise_decides}
-use Rattle.std.proofs.lemmas.Bool.{eqb-true, eq-eqb}
+use Rattle.std.proofs.lemmas.Bool.{eqb-true, eq-eqb, and_from, and_parts}
 use Rattle.std.proofs.lemmas.Bool.Decides.{Decides-int_eq}
 use Rattle.temporal_ops.specs.contracts.edge.CornerPartialEq.TheImpl.{ghosts as corner_equality}
 use Rattle.temporal_ops.specs.contracts.edge.OpEdgePartialEq.TheImpl.{ghosts as edge_equality}
-use Rattle.temporal_ops.proofs.Rows.{both, joined}
 use Rattle.temporal_ops.proofs.laws.equal_ops.Goals as goal
 
 corner_decides : (x y : Corner) → Decides (corner_equality.eq x y) (x ≡ y)
@@ -21,12 +21,12 @@ edge_decides a b =
     let y = corner_decides a.y b.y in
     let most = Decides-int_eq a.most b.most in (
       λ h.
-          let k = both (corner_equality.eq a.x b.x) (corner_equality.eq a.y b.y && int_eq a.most b.most) h in
-          let l = both (corner_equality.eq a.y b.y) (int_eq a.most b.most) k.1 in
+          let k = and_parts (corner_equality.eq a.x b.x) (corner_equality.eq a.y b.y && int_eq a.most b.most) h in
+          let l = and_parts (corner_equality.eq a.y b.y) (int_eq a.most b.most) k.1 in
           λ i. record { x = x.0 k.0 i; y = y.0 l.0 i; most = most.0 l.1 i },
-      λ e. joined (corner_equality.eq a.x b.x) (corner_equality.eq a.y b.y && int_eq a.most b.most)
+      λ e. and_from (corner_equality.eq a.x b.x) (corner_equality.eq a.y b.y && int_eq a.most b.most)
           (x.1 (ap (λ (c : OpEdge). c.x) e))
-          (joined (corner_equality.eq a.y b.y) (int_eq a.most b.most) (y.1 (ap (λ (c : OpEdge). c.y) e)) (most.1 (ap (λ (c : OpEdge). c.most) e))),
+          (and_from (corner_equality.eq a.y b.y) (int_eq a.most b.most) (y.1 (ap (λ (c : OpEdge). c.y) e)) (most.1 (ap (λ (c : OpEdge). c.most) e))),
     )
 
 same_items : (a b : List OpEdge) → length a ≡ length b → a ++ replicate (5 - length a) blank ≡ b ++ replicate (5 - length b) blank → a ≡ b
@@ -38,6 +38,6 @@ same_items a b long same =
 
 pub returns : goal.returns
 returns c = λ a b. (
-  λ h. let k = both _ _ h in same_items a b (eqb-true _ _ k.1) ((pointwise_decides edge_decides _ _).0 k.0),
-  λ e. joined _ _ ((pointwise_decides edge_decides _ _).1 (ap (λ (l : List OpEdge). l ++ replicate (5 - length l) blank) e)) (eq-eqb _ _ (ap (λ (l : List OpEdge). length l) e)),
+  λ h. let k = and_parts _ _ h in same_items a b (eqb-true _ _ k.1) ((pointwise_decides edge_decides _ _).0 k.0),
+  λ e. and_from _ _ ((pointwise_decides edge_decides _ _).1 (ap (λ (l : List OpEdge). l ++ replicate (5 - length l) blank) e)) (eq-eqb _ _ (ap (λ (l : List OpEdge). length l) e)),
 )

@@ -1,4 +1,4 @@
-use Rattle.temporal_ops.proofs.Common.{Never, UpTo, Unbounded, edges_hold, IsPossible}
+use Rattle.temporal_ops.proofs.Common.{Never, UpTo, Unbounded, edges_hold, ArePossibleTimes}
 use Rattle.temporal_ops.proofs.Rooms.{fitting_is_possible, one_more}
 use Rattle.temporal_ops.proofs.Windows.{starts_too, which_window}
 use Rattle.temporal_ops.proofs.window.possible_start.Goals as goal
@@ -17,12 +17,12 @@ returns-clause-window c =
 
 pub returns-clause-never : goal.returns-clause-never
 returns-clause-never c =
-    which_window (IsPossible c.args.bounds.now c.args.point) c.window.result Never (returns-clause-window c)
+    which_window (ArePossibleTimes c.args.bounds.now c.args.point) c.window.result Never (returns-clause-window c)
 
 pub returns-clause-up_to : goal.returns-clause-up_to
 returns-clause-up_to c = λ u.
-    which_window (IsPossible c.args.bounds.now c.args.point) c.window.result (UpTo u) (returns-clause-window c)
+    which_window (ArePossibleTimes c.args.bounds.now c.args.point) c.window.result (UpTo u) (returns-clause-window c)
 
 pub returns-clause-unbounded : goal.returns-clause-unbounded
 returns-clause-unbounded c =
-    which_window (IsPossible c.args.bounds.now c.args.point) c.window.result Unbounded (returns-clause-window c)
+    which_window (ArePossibleTimes c.args.bounds.now c.args.point) c.window.result Unbounded (returns-clause-window c)

@@ -1,4 +1,5 @@
-use Rattle.agenda.proofs.Common.{◌≡◌, ◌∙◌, ap, subst, ◌==◌, ◌&&◌, ◌||◌, eq_by_cmp, row_cmp, has_match, match_of, Marks, Well, AllWell, matches, ranked_of, Ranked}
+use Rattle.agenda.proofs.Common.{◌≡◌, ◌∙◌, ap, subst, ◌==◌, ◌&&◌, ◌||◌, eq_by_cmp, row_cmp, has_match, match_of, Marks, Well, AllWell, matches, ranked_of}
+use Rattle.agenda.proofs.Common.{Ranked}
 use Rattle.agenda.proofs.Ranks.{well_of}
 use Rattle.agenda.proofs.Steps.{pending_put}
 use Rattle.agenda.proofs.agenda.Agenda.put_row.Goals as goal

@@ -1,5 +1,6 @@
 use Rattle.agenda.proofs.Common.{◌∙◌, ◌==◌}
-use Rattle.agenda.proofs.Steps.{put_next, nothing_left, all_put}
+use Rattle.agenda.proofs.Steps.{put_next, all_put}
+use Rattle.fx_base.proofs.Sequences.{empty_from_length}
 use Rattle.agenda.proofs.agenda.Agenda.put_rows.Goals as goal
 
 pub loop-row-preserved : goal.loop-row-preserved
@@ -12,4 +13,4 @@ loop-row-preserved c = record {
 pub returns-clause-pending : goal.returns-clause-pending
 returns-clause-pending c m =
     let rest = c.loop-row.row-iterator.rest in
-    all_put rest.items m.row (c.args.rule.0 == m.rule.0) _ _ (nothing_left rest.items rest.len rest.ok.0 c.in-None.ensures.steps.0) (c.loop-row.invariant.pending m)
+    all_put rest.items m.row (c.args.rule.0 == m.rule.0) _ _ (empty_from_length rest.items rest.len rest.ok.0 c.in-None.ensures.steps.0) (c.loop-row.invariant.pending m)

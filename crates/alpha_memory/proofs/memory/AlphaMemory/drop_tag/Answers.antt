@@ -1,4 +1,4 @@
-use Rattle.alpha_memory.proofs.Common.{◌∙◌, sym, ap, has_tag, without_tag}
+use Rattle.alpha_memory.proofs.Common.{◌∙◌, sym, ap, has_candidate_tag, without_tag}
 use Rattle.alpha_memory.proofs.Agreeing.{there, absent, Agree-take, listed-take, listed-absent}
 use Rattle.alpha_memory.proofs.memory.AlphaMemory.drop_tag.Goals as goal
 
@@ -10,7 +10,7 @@ invariant_of-self c =
 pub returns-in-Some-clause-found : goal.returns-in-Some-clause-found
 returns-in-Some-clause-found c =
     sym (there c.self.inside.by_tag.entries c.self.inside.next c.self.inside.by_join c.self.invariant c.args.tag.0 c.in-Some.place (sym c.in-Some.ensures.value))
-    ∙ ap (λ list. has_tag list c.args.tag.0) c.self.view_is
+    ∙ ap (λ list. has_candidate_tag list c.args.tag.0) c.self.view_is
 
 pub returns-in-Some-clause-rest : goal.returns-in-Some-clause-rest
 returns-in-Some-clause-rest c =
@@ -21,7 +21,7 @@ returns-in-Some-clause-rest c =
 pub returns-in-None-clause-found : goal.returns-in-None-clause-found
 returns-in-None-clause-found c =
     sym (absent c.self.inside.by_tag.entries c.self.inside.next c.self.inside.by_join c.self.invariant c.args.tag.0 (sym c.in-None.ensures.value))
-    ∙ ap (λ list. has_tag list c.args.tag.0) c.self.view_is
+    ∙ ap (λ list. has_candidate_tag list c.args.tag.0) c.self.view_is
 
 pub returns-in-None-clause-rest : goal.returns-in-None-clause-rest
 returns-in-None-clause-rest c =

@@ -1,5 +1,6 @@
 use Rattle.condition_node.proofs.Common.{◌≡◌, sym, subst, SFits, to_z-of_z, w128, IsAt, Snapshot, floor}
-use Rattle.condition_node.proofs.Still.{Stays, TellsNothing, TellsOne, join_still, join_tells_nothing, exists_still, exists_tells_nothing, fold_still, fold_tells_nothing, not_still, not_tells_nothing, not_tells_one}
+use Rattle.condition_node.proofs.Still.{Stays, TellsNothing, TellsOne, join_still, join_tells_nothing, exists_still, exists_tells_nothing, fold_still}
+use Rattle.condition_node.proofs.Still.{fold_tells_nothing, not_still, not_tells_nothing, not_tells_one}
 use Rattle.condition_node.proofs.Turning.{floor_told}
 use Rattle.condition_node.proofs.node.Node.is_still.Goals as goal
 

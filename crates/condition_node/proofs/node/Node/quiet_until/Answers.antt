@@ -1,4 +1,5 @@
-use Rattle.condition_node.proofs.Common.{◌≡◌, ◌∙◌, sym, ap, subst, pos, ℤ, ◌+ℤ◌, ◌-ℤ◌, ◌≤ℤ◌, ◌<ℤ◌, ◌^◌, None, IfSome, SFits, w64, to_z-of_z, w128, Pattern, lateness_of, Node, IsBefore, IsDue, IsQuiet}
+use Rattle.condition_node.proofs.Common.{◌≡◌, ◌∙◌, sym, ap, subst, pos, ℤ, ◌+ℤ◌, ◌-ℤ◌, ◌≤ℤ◌, ◌<ℤ◌, ◌^◌, None, IfSome, SFits, w64, to_z-of_z, w128, Pattern}
+use Rattle.condition_node.proofs.Common.{lateness_of, Node, IsBefore, IsDue, IsQuiet}
 use Rattle.condition_node.proofs.Quietness.{join_quiet, exists_quiet, fold_quiet, none_due, due_at, if_due}
 use Rattle.condition_node.proofs.node.Node.quiet_until.Goals as goal
 

@@ -1,4 +1,4 @@
-use Rattle.drl_sight.proofs.Common.{◌≡◌, Option, Some, None, not, ℕ, is_some, refl, ap, sym, ◌∙◌, arith, place_of}
+use Rattle.drl_sight.proofs.Common.{◌≡◌, Option, Some, None, not, ℕ, is_some, refl, ap, sym, ◌∙◌, arith, place_of_name}
 use Rattle.std.specs.Borrow.{Bor}
 use Rattle.std.specs.Option.{option_copied}
 use Rattle.drl_sight.proofs.NameLemmas.{kept, added}
@@ -12,7 +12,7 @@ copied (Some n) = refl
 pub invariant_of-result : goal.invariant_of-result
 invariant_of-result c = λ name.
     let names = c.self.inside.names.items in
-    let found : is_some (place_of names c.args.name.now) ≡ not c.is_none.result =
+    let found : is_some (place_of_name names c.args.name.now) ≡ not c.is_none.result =
     ap is_some (sym (c.self.invariant c.args.name.now)) ∙ ap is_some (sym c.get.ensures.value) ∙ copied c.get.result ∙ c.is_none.ensures in
     elim c.if-is_none.branch [
       | then-is_none+in_ok-copy-2+in_ok-insert w ↦ let u = w.in_ok-insert.ensures.updates.0 name in let k = added names c.args.name.now name (found ∙ ap not w.if-is_none.true) in

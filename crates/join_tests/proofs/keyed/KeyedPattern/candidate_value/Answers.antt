@@ -1,4 +1,5 @@
-use Rattle.join_tests.proofs.Common.{SFits, w64, rules, to_z-of_z, ◌∙◌, sym, ap, List, map, Value, Pattern, join_keys, candidate_part, slot_value, moment_at, candidate_moment, time_key, with_slot}
+use Rattle.join_tests.proofs.Common.{SFits, w64, rules, to_z-of_z, ◌∙◌, sym, ap, List, map, Value, Pattern, join_keys, candidate_part, slot_value}
+use Rattle.join_tests.proofs.Common.{moment_at_point, candidate_moment, time_key, with_slot}
 use Rattle.join_tests.specs.Kept.{candidate_value}
 use Rattle.join_tests.proofs.Counting.{of_candidate}
 use Rattle.join_tests.proofs.Slotting.{kept_timeless, kept_slotted}
@@ -23,5 +24,5 @@ returns-in-Some g c =
     c.slotted.ensures
     ∙ ap (λ (values : List Value). with_slot values c.slot-slot.result) (of_candidate look c.args.who c.fact-fact.result (join_keys p) c.fact-fact.ensures)
     ∙ kept_slotted (map (candidate_part look c.args.who) (join_keys p)) (time_key p) key (sym c.self.invariant.1 ∙ c.in-Some.is) (λ key. candidate_moment key look c.args.who) c.slot-slot.result
-    (slot ∙ ap (slot_value key.span) (c.moment_at.ensures ∙ ap (moment_at key.own) c.fact-fact.ensures))
+    (slot ∙ ap (slot_value key.span) (c.moment_at.ensures ∙ ap (moment_at_point key.own) c.fact-fact.ensures))
     ∙ ap (λ (p : Pattern). candidate_value p look c.args.who) c.self.view_is

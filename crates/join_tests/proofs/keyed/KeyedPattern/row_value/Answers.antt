@@ -1,4 +1,5 @@
-use Rattle.join_tests.proofs.Common.{SFits, w64, rules, to_z-of_z, ◌∙◌, sym, ap, map, Pattern, join_keys, row_part, slot_value, moment_at, row_moment, time_key}
+use Rattle.join_tests.proofs.Common.{SFits, w64, rules, to_z-of_z, ◌∙◌, sym, ap, map, Pattern, join_keys, row_part, slot_value, moment_at_point, row_moment}
+use Rattle.join_tests.proofs.Common.{time_key}
 use Rattle.join_tests.specs.Kept.{row_value}
 use Rattle.join_tests.proofs.Slotting.{kept_timeless, kept_slotted}
 use Rattle.join_tests.proofs.keyed.KeyedPattern.row_value.Goals as goal
@@ -22,5 +23,5 @@ returns-in-Some g c =
     let slot = simp to_z-of_z at c.slot-slot.ensures in
     c.slotted.ensures
     ∙ kept_slotted (map (row_part look c.args.row.now) (join_keys p)) (time_key p) key (sym c.self.invariant.1 ∙ c.in-Some.is) (λ key. row_moment key look c.args.row.now) c.slot-slot.result
-    (slot ∙ ap (slot_value key.span) (c.moment_at-moment.ensures ∙ ap (moment_at key.event) c.named_fact.ensures))
+    (slot ∙ ap (slot_value key.span) (c.moment_at-moment.ensures ∙ ap (moment_at_point key.event) c.named_fact.ensures))
     ∙ ap (λ (p : Pattern). row_value p look c.args.row.now) c.self.view_is

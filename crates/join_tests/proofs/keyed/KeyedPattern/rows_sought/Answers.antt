@@ -1,4 +1,5 @@
-use Rattle.join_tests.proofs.Common.{SFits, w64, rules, to_z-of_z, ◌∙◌, sym, ap, List, [], ◌∷◌, map, Value, Pattern, join_keys, candidate_part, slot_value, moment_at, candidate_moment, first_event, last_event, time_key, with_slot, once}
+use Rattle.join_tests.proofs.Common.{SFits, w64, rules, to_z-of_z, ◌∙◌, sym, ap, List, [], ◌∷◌, map, Value, Pattern, join_keys, candidate_part, slot_value}
+use Rattle.join_tests.proofs.Common.{moment_at_point, candidate_moment, first_event, last_event, time_key, with_slot, once}
 use Rattle.join_tests.specs.Kept.{rows_sought}
 use Rattle.join_tests.proofs.Counting.{of_candidate}
 use Rattle.join_tests.proofs.Slotting.{sought_timeless, sought_slotted}
@@ -24,7 +25,7 @@ returns-in-Some g c =
     let fits : SFits w64 c.moment_at.result = search rules in
     let first = simp to_z-of_z at c.event_slots-first.ensures.first in
     let last = simp to_z-of_z at c.event_slots-first.ensures.last in
-    let moment = c.moment_at.ensures ∙ ap (moment_at key.own) c.fact-fact.ensures in
+    let moment = c.moment_at.ensures ∙ ap (moment_at_point key.own) c.fact-fact.ensures in
     c.both_slotted.ensures
     ∙ ap (λ (values : List Value). once (with_slot values c.event_slots-first.result.0) (with_slot values c.event_slots-first.result.1)) (of_candidate look who c.fact-fact.result (join_keys p) c.fact-fact.ensures)
     ∙ sought_slotted (map (candidate_part look who) (join_keys p)) (time_key p) key (sym c.self.invariant.1 ∙ c.in-Some.is)

@@ -1,4 +1,5 @@
-use Rattle.not_node.proofs.Common.{◌≡◌, ◌∙◌, sym, ap, subst, List, [], to_z-of_z, SFits, w128, Row, has, Leads, IsDifference, Pattern, moment_at, unblocked, not_rows, Awaits, ripe, later}
+use Rattle.not_node.proofs.Common.{◌≡◌, ◌∙◌, sym, ap, subst, List, [], to_z-of_z, SFits, w128, Row, has, LeadsRows, IsDifference, Pattern, moment_at, unblocked}
+use Rattle.not_node.proofs.Common.{not_rows, AwaitsMoments, ripe, later}
 use Rattle.not_node.proofs.Lawful.{none_comes, later_same}
 use Rattle.not_node.proofs.node.NotNode.forget.Goals as goal
 
@@ -16,11 +17,11 @@ returns-clause-in_step g c awaits =
     let n = c.forget.new.self.memories in
     let gate = c.advance.new.self in
     let kept = c.pattern.ensures ∙ c.in_ok-gone.ensures.kept.pattern in
-    let before = subst (λ (q : Pattern). Awaits (moment_at p q look) old.ripening.floor (unblocked old.tally.memories look) old.ripening.waiting.keys) (sym kept) awaits in
+    let before = subst (λ (q : Pattern). AwaitsMoments (moment_at p q look) old.ripening.floor (unblocked old.tally.memories look) old.ripening.waiting.keys) (sym kept) awaits in
     let empty : c.from_vec.result ≡ [] = search in
-    let leads : Leads (unblocked old.tally.memories look) (unblocked n look) c.in_ok-gone.gone c.from_vec.result =
+    let leads : LeadsRows (unblocked old.tally.memories look) (unblocked n look) c.in_ok-gone.gone c.from_vec.result =
     record { goes = c.in_ok-gone.ensures.rows; comes = λ r. ap (λ (xs : List Row). has xs r) empty ∙ none_comes old.tally.memories n look (has c.args.rows.now) c.in_ok-gone.ensures.left r } in
-    subst (λ (q : Pattern). Awaits (moment_at p q look) gate.floor (unblocked n look) gate.waiting.keys) c.pattern.ensures
+    subst (λ (q : Pattern). AwaitsMoments (moment_at p q look) gate.floor (unblocked n look) gate.waiting.keys) c.pattern.ensures
     (c.in_ok-delta.ensures.awaits (unblocked old.tally.memories look) (unblocked n look) before leads)
 
 pub returns-clause-in_order : goal.returns-clause-in_order
@@ -31,9 +32,9 @@ returns-clause-in_order g c awaits =
     let n = c.forget.new.self.memories in
     let gate = c.advance.new.self in
     let kept = c.pattern.ensures ∙ c.in_ok-gone.ensures.kept.pattern in
-    let before = subst (λ (q : Pattern). Awaits (moment_at p q look) old.ripening.floor (unblocked old.tally.memories look) old.ripening.waiting.keys) (sym kept) awaits in
+    let before = subst (λ (q : Pattern). AwaitsMoments (moment_at p q look) old.ripening.floor (unblocked old.tally.memories look) old.ripening.waiting.keys) (sym kept) awaits in
     let empty : c.from_vec.result ≡ [] = search in
-    let leads : Leads (unblocked old.tally.memories look) (unblocked n look) c.in_ok-gone.gone c.from_vec.result =
+    let leads : LeadsRows (unblocked old.tally.memories look) (unblocked n look) c.in_ok-gone.gone c.from_vec.result =
     record { goes = c.in_ok-gone.ensures.rows; comes = λ r. ap (λ (xs : List Row). has xs r) empty ∙ none_comes old.tally.memories n look (has c.args.rows.now) c.in_ok-gone.ensures.left r } in
     (subst (λ (q : Pattern). IsDifference (not_rows p look old) (ripe (moment_at p q look) gate.floor (unblocked n look)) c.in_ok-delta.delta) c.pattern.ensures
     (subst (λ (q : Pattern). IsDifference (ripe (moment_at p q look) old.ripening.floor (unblocked old.tally.memories look)) (ripe (moment_at p c.pattern.result.now look) gate.floor (unblocked n look)) c.in_ok-delta.delta) kept
@@ -47,9 +48,9 @@ returns-clause-rows g c awaits =
     let n = c.forget.new.self.memories in
     let gate = c.advance.new.self in
     let kept = c.pattern.ensures ∙ c.in_ok-gone.ensures.kept.pattern in
-    let before = subst (λ (q : Pattern). Awaits (moment_at p q look) old.ripening.floor (unblocked old.tally.memories look) old.ripening.waiting.keys) (sym kept) awaits in
+    let before = subst (λ (q : Pattern). AwaitsMoments (moment_at p q look) old.ripening.floor (unblocked old.tally.memories look) old.ripening.waiting.keys) (sym kept) awaits in
     let empty : c.from_vec.result ≡ [] = search in
-    let leads : Leads (unblocked old.tally.memories look) (unblocked n look) c.in_ok-gone.gone c.from_vec.result =
+    let leads : LeadsRows (unblocked old.tally.memories look) (unblocked n look) c.in_ok-gone.gone c.from_vec.result =
     record { goes = c.in_ok-gone.ensures.rows; comes = λ r. ap (λ (xs : List Row). has xs r) empty ∙ none_comes old.tally.memories n look (has c.args.rows.now) c.in_ok-gone.ensures.left r } in
     (subst (λ (q : Pattern). IsDifference (not_rows p look old) (ripe (moment_at p q look) gate.floor (unblocked n look)) c.in_ok-delta.delta) c.pattern.ensures
     (subst (λ (q : Pattern). IsDifference (ripe (moment_at p q look) old.ripening.floor (unblocked old.tally.memories look)) (ripe (moment_at p c.pattern.result.now look) gate.floor (unblocked n look)) c.in_ok-delta.delta) kept

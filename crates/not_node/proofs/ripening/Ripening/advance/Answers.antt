@@ -1,4 +1,5 @@
-use Rattle.not_node.proofs.Common.{◌≡◌, ◌∙◌, ap, ℤ, int_lt, List, true, not, ◌&&◌, ◌||◌, SFits, to_z, of_z, to_z-of_z, w128, Row, has, without, along, moment_at, waits, waits_at, is_moment, mature, ripe}
+use Rattle.not_node.proofs.Common.{◌≡◌, ◌∙◌, ap, ℤ, int_lt, List, true, not, ◌&&◌, ◌||◌, SFits, to_z, of_z, to_z-of_z, w128, Row, has, without, along}
+use Rattle.not_node.proofs.Common.{moment_at, waits, waits_at, is_that_moment, mature, ripe}
 use Rattle.row_change.proofs.Alike.{leads_alike}
 use Rattle.not_node.proofs.Ripe.{below_later, awaits_now, own, leaves, comes, ripens, after}
 use Rattle.not_node.proofs.ripening.Ripening.advance.Goals as goal
@@ -25,8 +26,8 @@ returns-clause-awaits g c rows rows_now awaits leads =
     let rises : (at : ℤ) → int_lt at old ≡ true → int_lt at next ≡ true = λ at e. ap (int_lt at) (same ∙ is_later) ∙ below_later old c.args.floor at e in
     let left : (r : Row) → has leave r ≡ (has gone r && not (waits_at w0 (moment r) r)) = λ r. c.in_ok-leave.ensures r ∙ ap (λ (xs : List Row). has xs r && not (waits_at w0 (moment r) r)) c.as_slice.ensures in
     let came : (r : Row) → has fresh r ≡ (has come r && mature next (moment r)) = λ r. c.in_ok-come.ensures r ∙ ap (λ (xs : List Row). has xs r && mature next (moment r)) c.as_slice-2.ensures in
-    let less : (at : ℤ) (r : Row) → waits w1 at r ≡ (waits w0 at r && not (has gone r && is_moment (moment r) at)) = λ at r. c.in_ok-drop_rows.ensures at r ∙ ap (λ (xs : List Row). waits w0 at r && not (has xs r && is_moment (moment r) at)) c.as_slice-3.ensures in
-    let more : (at : ℤ) (r : Row) → waits w2 at r ≡ (waits w1 at r || ((has come r && is_moment (moment r) at) && not (int_lt at next))) = λ at r. c.in_ok-add_rows.ensures at r ∙ ap (λ (xs : List Row). waits w1 at r || ((has xs r && is_moment (moment r) at) && not (int_lt at next))) c.as_slice-4.ensures in
+    let less : (at : ℤ) (r : Row) → waits w1 at r ≡ (waits w0 at r && not (has gone r && is_that_moment (moment r) at)) = λ at r. c.in_ok-drop_rows.ensures at r ∙ ap (λ (xs : List Row). waits w0 at r && not (has xs r && is_that_moment (moment r) at)) c.as_slice-3.ensures in
+    let more : (at : ℤ) (r : Row) → waits w2 at r ≡ (waits w1 at r || ((has come r && is_that_moment (moment r) at) && not (int_lt at next))) = λ at r. c.in_ok-add_rows.ensures at r ∙ ap (λ (xs : List Row). waits w1 at r || ((has xs r && is_that_moment (moment r) at) && not (int_lt at next))) c.as_slice-4.ensures in
     let rest : (at : ℤ) (r : Row) → waits w3 at r ≡ (waits w2 at r && not (int_lt at next)) = c.in_ok-ripened.ensures.waits in
     awaits_now moment old next rises rows rows_now gone come leave fresh ripened w0 w1 w2 w3 awaits leads left came less more rest
 
@@ -52,8 +53,8 @@ returns-clause-difference g c rows rows_now awaits leads =
     let rises : (at : ℤ) → int_lt at old ≡ true → int_lt at next ≡ true = λ at e. ap (int_lt at) (same ∙ is_later) ∙ below_later old c.args.floor at e in
     let left : (r : Row) → has leave r ≡ (has gone r && not (waits_at w0 (moment r) r)) = λ r. c.in_ok-leave.ensures r ∙ ap (λ (xs : List Row). has xs r && not (waits_at w0 (moment r) r)) c.as_slice.ensures in
     let came : (r : Row) → has fresh r ≡ (has come r && mature next (moment r)) = λ r. c.in_ok-come.ensures r ∙ ap (λ (xs : List Row). has xs r && mature next (moment r)) c.as_slice-2.ensures in
-    let less : (at : ℤ) (r : Row) → waits w1 at r ≡ (waits w0 at r && not (has gone r && is_moment (moment r) at)) = λ at r. c.in_ok-drop_rows.ensures at r ∙ ap (λ (xs : List Row). waits w0 at r && not (has xs r && is_moment (moment r) at)) c.as_slice-3.ensures in
-    let more : (at : ℤ) (r : Row) → waits w2 at r ≡ (waits w1 at r || ((has come r && is_moment (moment r) at) && not (int_lt at next))) = λ at r. c.in_ok-add_rows.ensures at r ∙ ap (λ (xs : List Row). waits w1 at r || ((has xs r && is_moment (moment r) at) && not (int_lt at next))) c.as_slice-4.ensures in
+    let less : (at : ℤ) (r : Row) → waits w1 at r ≡ (waits w0 at r && not (has gone r && is_that_moment (moment r) at)) = λ at r. c.in_ok-drop_rows.ensures at r ∙ ap (λ (xs : List Row). waits w0 at r && not (has xs r && is_that_moment (moment r) at)) c.as_slice-3.ensures in
+    let more : (at : ℤ) (r : Row) → waits w2 at r ≡ (waits w1 at r || ((has come r && is_that_moment (moment r) at) && not (int_lt at next))) = λ at r. c.in_ok-add_rows.ensures at r ∙ ap (λ (xs : List Row). waits w1 at r || ((has xs r && is_that_moment (moment r) at) && not (int_lt at next))) c.as_slice-4.ensures in
     let rest : (at : ℤ) (r : Row) → waits w3 at r ≡ (waits w2 at r && not (int_lt at next)) = c.in_ok-ripened.ensures.waits in
     let due : (r : Row) → has ripened r ≡ (waits_at w2 (moment r) r && mature next (moment r)) = c.in_ok-ripened.ensures.found moment (own moment old next rises rows rows_now gone come leave fresh ripened w0 w1 w2 w3 awaits leads left came less more rest) in
     let was = ripe moment old rows in

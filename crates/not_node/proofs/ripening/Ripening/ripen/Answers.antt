@@ -1,5 +1,5 @@
-use Rattle.not_node.proofs.Common.{to_z, of_z, w128}
-use Rattle.not_node.proofs.Pairs.{sub_turn, low_turn, found_turned}
+use Rattle.not_node.proofs.Common.{◌∙◌, to_z, of_z, to_z-of_z, w128}
+use Rattle.not_node.proofs.Pairs.{sub_turn, low_turn, found_turned, all_found}
 use Rattle.not_node.proofs.ripening.Ripening.ripen.Goals as goal
 
 pub due-preserved : goal.due-preserved
@@ -16,3 +16,9 @@ due-preserved c =
       low = λ at r over. low_turn init cur new k floor due.0 due.1 taken at r over (c.due.invariant.low at r over);
       found = λ moment own r. found_turned init cur new k floor due.0 due.1 taken c.due.invariant.sub moment own c.due.found.items c.push.new.self.items c.in_ok-push.ensures.items r (c.due.invariant.found moment own r);
     }
+
+pub returns-clause-found : goal.returns-clause-found
+returns-clause-found c moment own r =
+    let fits = c.ranges.floor in
+    c.due.invariant.found moment own r
+    ∙ all_found c.args.self.now.waiting.keys c.due.self.waiting.keys c.args.floor r (λ at. simp to_z-of_z at c.due.invariant.low at r) (λ at. simp to_z-of_z at c.in_default.ensures.above at r) (moment r)

@@ -1,14 +1,17 @@
-use Rattle.not_node.proofs.Common.{SFits, to_z-of_z, ◌∙◌, sym, w128, waits}
-use Rattle.not_node.proofs.Pairs.{first_over, first_out, if_some}
+use Rattle.not_node.proofs.Common.{◌∙◌, sym, ap, not, to_z-of_z, waits, below}
+use Rattle.not_node.proofs.Pairs.{first_out}
 use Rattle.not_node.proofs.ripening.Ripening.take_due.Goals as goal
 
-pub returns-clause-taken : goal.returns-clause-taken
-returns-clause-taken c =
-    if_some c.pop_first-taken.result _ _ (λ k u at r. first_out k at r (waits c.args.self.now.waiting.keys at r) (waits c.pop_first-taken.new.self.keys at r) (u.0 (at, r))) c.pop_first-taken.ensures.updates
+pub returns-in_err-pair-clause-above : goal.returns-in_err-pair-clause-above
+returns-in_err-pair-clause-above c =
+    let fits = c.ranges.floor in
+    rw c.from_residual.ensures (λ at r there. sym (below c.args.floor at) ∙ ap not (simp to_z-of_z at c.in_err-pair.ensures.none (at, r) there))
 
-pub returns-then-not-is_mature-clause-above : goal.returns-then-not-is_mature-clause-above
-returns-then-not-is_mature-clause-above c at r h =
-    let fits : SFits w128 c.in-Some.pair.now.0 = search in
-    let fits_floor : SFits w128 c.args.floor = c.ranges.floor in
-    let m = simp to_z-of_z at c.is_mature.ensures in
-    first_over c.in-Some.pair.now at c.args.floor r (sym m ∙ c.if-not-is_mature.true) (c.in-Some.ensures.least (at, r) h)
+pub returns-clause-due : goal.returns-clause-due
+returns-clause-due c =
+    let fits = c.ranges.floor in
+    (sym (below c.args.floor c.in_ok-pair.pair.0) ∙ ap not (simp to_z-of_z at c.in_ok-pair.ensures.due), c.in_ok-pair.ensures.there)
+
+pub returns-clause-taken : goal.returns-clause-taken
+returns-clause-taken c at r =
+    first_out c.in_ok-pair.pair at r (waits c.args.self.now.waiting.keys at r) (waits c.take_first_due.new.pairs.keys at r) (c.in_ok-pair.ensures.taken (at, r))

@@ -1,4 +1,4 @@
-use Rattle.page_map.proofs.Common.{◌≡◌, ◌∙◌, sym, ap, subst, ℕ, List, Some, None, arith, Directory, free, AreHeld, held}
+use Rattle.page_map.proofs.Common.{◌≡◌, ◌∙◌, sym, ap, subst, ℕ, List, Some, None, arith, Directory, free, AreDirectoriesApart, held}
 use Rattle.std.specs.FinMap as map
 use Rattle.page_map.proofs.Kept.{on_some_weaker, if_none_weaker}
 use Rattle.page_map.proofs.Changes.{found, row_here, row_put, row_unchanged, in_tree, tree_are, tree_put, tree_unchanged}
@@ -43,7 +43,7 @@ invariant_of-self-2 c =
           (tree_are run.first run.directories.items tree (c.get_mut.follows.lender w.replace_at-in-Some-get_mut.new.pages) c.self.invariant c.args.key c.in_default.ensures.none w.in-Some-get_mut.pages.now
           w.replace_at-in-Some-get_mut.new.pages w.in-Some-get_mut.ensures.value (c.get_mut.follows.holds w.replace_at-in-Some-get_mut.new.pages) w.replace_at-in-Some-get_mut.ensures.short)
       | in-None w ↦ rw w.self-inside-is
-          (subst (λ (es : List (ℕ × Directory)). AreHeld run.first run.directories.items es) (sym (ap (λ m. m.entries) c.get_mut.follows.holds-at-none)) c.self.invariant)
+          (subst (λ (es : List (ℕ × Directory)). AreDirectoriesApart run.first run.directories.items es) (sym (ap (λ m. m.entries) c.get_mut.follows.holds-at-none)) c.self.invariant)
     ]
 
 pub returns-clause-before : goal.returns-clause-before

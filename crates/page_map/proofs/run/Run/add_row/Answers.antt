@@ -1,4 +1,5 @@
-use Rattle.page_map.proofs.Common.{◌≡◌, ◌∙◌, sym, ap, subst, ◌++◌, ◌*◌, ◌+◌, List, [], append_assoc, arith, length, All, deque_iter_rest, All-tail, Directory, AreShort, entries_of, entries_by, numbered}
+use Rattle.page_map.proofs.Common.{◌≡◌, ◌∙◌, sym, ap, subst, ◌++◌, ◌*◌, ◌+◌, List, [], append_assoc, arith, length, All, deque_iter_rest, All-tail, Directory}
+use Rattle.page_map.proofs.Common.{ArePagesApart, entries_of, entries_by, numbered}
 use Rattle.page_map.proofs.Kept.{joined_pages}
 use Rattle.page_map.proofs.run.Run.add_row.Goals as goal
 
@@ -19,7 +20,7 @@ loop-place-preserved c =
           ∙ append_assoc before (entries_by (2048 * number) pages.items []) rest
           ∙ ap (λ es. before ++ es) (joined_pages (2048 * number) pages.items rest)
           ∙ sym (ap (λ it. before ++ entries_of (numbered number it)) head) ∙ c.loop-place.invariant.so_far;
-      short = All-tail (λ (directory : Directory). AreShort directory.items) pages still
-          (subst (λ (it : List Directory). All (λ (directory : Directory). AreShort directory.items) it) head c.loop-place.invariant.short);
+      short = All-tail (λ (directory : Directory). ArePagesApart directory.items) pages still
+          (subst (λ (it : List Directory). All (λ (directory : Directory). ArePagesApart directory.items) it) head c.loop-place.invariant.short);
       end = omega (arith, all, end);
     }

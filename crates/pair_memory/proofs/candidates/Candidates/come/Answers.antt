@@ -1,4 +1,5 @@
-use Rattle.pair_memory.proofs.Common.{◌∙◌, ap, refl, subst, ◌&&◌, ◌||◌, List, take_all, is_some, same_value, at, Named, name_cmp, candidate_value, has_name, NamesCome}
+use Rattle.pair_memory.proofs.Common.{◌∙◌, ap, refl, subst, ◌&&◌, ◌||◌, List, take_all, is_some, same_value, at, Named, name_cmp, candidate_value, has_name}
+use Rattle.pair_memory.proofs.Common.{NamesCome}
 use Rattle.pair_memory.proofs.Sharing.{more_none, no_names_come, name_comes_too, under_more}
 use Rattle.pair_memory.proofs.candidates.Candidates.come.Goals as goal
 

@@ -1,4 +1,5 @@
-use Rattle.pair_memory.proofs.Common.{◌∙◌, sym, ap, List, refl, get_or, eq_by_cmp, Value, JoinIndex, name_cmp, Row, has, joins, joined, row_kept, has_left, beside}
+use Rattle.pair_memory.proofs.Common.{◌∙◌, sym, ap, List, refl, get_or, eq_by_cmp, Value, JoinIndex, name_cmp, Row, has, joins, joined, row_kept, has_left}
+use Rattle.pair_memory.proofs.Common.{beside}
 use Rattle.pair_memory.proofs.Joining.{none_right}
 use Rattle.pair_memory.proofs.Turning.{any_name}
 use Rattle.pair_memory.proofs.Sharing.{names_made_too}

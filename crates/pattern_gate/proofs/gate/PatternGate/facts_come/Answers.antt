@@ -1,4 +1,4 @@
-use Rattle.pattern_gate.proofs.Common.{◌∙◌, length, drop, ◌≤◌, arith, to_z-of_z, lent, more_facts, LetsAllCome, Reaches}
+use Rattle.pattern_gate.proofs.Common.{◌∙◌, length, drop, ◌≤◌, arith, to_z-of_z, lent, more_facts, LetsAllCome, ReachesArrivals}
 use Rattle.pattern_gate.proofs.Turning.{IsExpected, one_comes, all_came}
 use Rattle.pattern_gate.proofs.gate.PatternGate.facts_come.Goals as goal
 
@@ -17,7 +17,7 @@ pub returns-clause-reaches : goal.returns-clause-reaches
 returns-clause-reaches c old kind arrivals reaches comes =
     let fits = c.ranges.clock in
     let over : length c.args.come.now ≤ c.loop-fact.fact-index = omega arith in
-    let left : Reaches old kind c.args.self.now c.args.change.now arrivals c.args.clock → LetsAllCome kind c.args.pattern.now c.args.clock arrivals (lent c.args.come.now)
+    let left : ReachesArrivals old kind c.args.self.now c.args.change.now arrivals c.args.clock → LetsAllCome kind c.args.pattern.now c.args.clock arrivals (lent c.args.come.now)
     → IsExpected old kind c.args.pattern.now c.args.clock c.loop-fact.self c.loop-fact.change (lent (drop c.loop-fact.fact-index c.args.come.now)) (more_facts c.args.pattern.now arrivals (lent c.args.come.now)) =
     simp to_z-of_z at (c.loop-fact.invariant.left old kind arrivals) in
     all_came old kind c.args.pattern.now c.args.clock c.loop-fact.self c.loop-fact.change c.args.come.now (more_facts c.args.pattern.now arrivals (lent c.args.come.now)) c.loop-fact.fact-index over (left reaches comes)

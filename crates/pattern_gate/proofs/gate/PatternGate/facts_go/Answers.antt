@@ -1,4 +1,4 @@
-use Rattle.pattern_gate.proofs.Common.{◌∙◌, length, drop, ◌≤◌, arith, to_z-of_z, lent, less_facts, LetsAllGo, Reaches}
+use Rattle.pattern_gate.proofs.Common.{◌∙◌, length, drop, ◌≤◌, arith, to_z-of_z, lent, less_facts, LetsAllGo, ReachesArrivals}
 use Rattle.pattern_gate.proofs.Turning.{IsLeft, one_goes, all_went}
 use Rattle.pattern_gate.proofs.gate.PatternGate.facts_go.Goals as goal
 
@@ -17,7 +17,7 @@ pub returns-clause-reaches : goal.returns-clause-reaches
 returns-clause-reaches c old kind arrivals reaches goes =
     let fits = c.ranges.clock in
     let over : length c.args.gone.now ≤ c.loop-fact.fact-index = omega arith in
-    let left : Reaches old kind c.args.self.now c.args.change.now arrivals c.args.clock → LetsAllGo kind c.args.pattern.now c.args.clock arrivals (lent c.args.gone.now)
+    let left : ReachesArrivals old kind c.args.self.now c.args.change.now arrivals c.args.clock → LetsAllGo kind c.args.pattern.now c.args.clock arrivals (lent c.args.gone.now)
     → IsLeft old kind c.args.pattern.now c.args.clock c.loop-fact.self c.loop-fact.change (lent (drop c.loop-fact.fact-index c.args.gone.now)) (less_facts c.args.pattern.now arrivals (lent c.args.gone.now)) =
     simp to_z-of_z at (c.loop-fact.invariant.left old kind arrivals) in
     all_went old kind c.args.pattern.now c.args.clock c.loop-fact.self c.loop-fact.change c.args.gone.now (less_facts c.args.pattern.now arrivals (lent c.args.gone.now)) c.loop-fact.fact-index over (left reaches goes)

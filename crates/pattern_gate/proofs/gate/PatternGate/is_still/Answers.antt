@@ -1,17 +1,10 @@
-use Rattle.pattern_gate.proofs.Common.{◌≡◌, ◌∙◌, sym, refl, subst, not, ℤ, ◌<ℤ◌, Bool, true, false, IfSome, option_map, Bor, to_z-of_z, Fact, lent, arrivals}
+use Rattle.pattern_gate.proofs.Common.{◌≡◌, ◌∙◌, sym, subst, ℤ, ◌<ℤ◌, true, false, IfSome, option_map, Bor, to_z-of_z, Fact, lent, arrivals, not-false}
+use Rattle.pattern_gate.proofs.Common.{not-true}
 use Rattle.pattern_gate.proofs.Moving.{same_arrivals, stands_still, same_candidates, leaves_by}
 use Rattle.pattern_gate.proofs.gate.PatternGate.is_still.Goals as goal
 
-none_of : (b : Bool) → not b ≡ true → b ≡ false
-none_of true e = sym e
-none_of false e = refl
-
-one_of : (b : Bool) → not b ≡ false → b ≡ true
-one_of true e = refl
-one_of false e = sym e
-
 pub returns-then-is_before-clause-meant : goal.returns-then-is_before-clause-meant
-returns-then-is_before-clause-meant c told = sym c.is_one_meant.ensures ∙ none_of c.is_one_meant.result told
+returns-then-is_before-clause-meant c told = sym c.is_one_meant.ensures ∙ not-true c.is_one_meant.result told
 
 pub returns-then-is_before-clause-stands : goal.returns-then-is_before-clause-stands
 returns-then-is_before-clause-stands c told p s next stands moves at =
@@ -19,7 +12,7 @@ returns-then-is_before-clause-stands c told p s next stands moves at =
     let fits = c.ranges.clock in
     let quiet : IfSome c.quiet_until.result (λ moment. c.args.clock <ℤ moment) = simp to_z-of_z at (c.is_before.ensures.0) c.if-is_before.true in
     let still = subst (λ (now : ℤ). IfSome c.quiet_until.result (λ moment. now <ℤ moment)) (sym at) quiet in
-    let same = same_arrivals p q s next (lent c.args.gone.now) (option_map (λ (f : Bor Fact). f.now) c.args.come) moves (sym c.is_one_meant.ensures ∙ none_of c.is_one_meant.result told) in
+    let same = same_arrivals p q s next (lent c.args.gone.now) (option_map (λ (f : Bor Fact). f.now) c.args.come) moves (sym c.is_one_meant.ensures ∙ not-true c.is_one_meant.result told) in
     stands_still p q s next moves.before moves.after same c.args.self.now stands (c.quiet_until.ensures.stands (arrivals p q s) s.clock next.clock stands.stands moves.clock still)
 
 pub returns-then-is_before-clause-candidates : goal.returns-then-is_before-clause-candidates
@@ -28,11 +21,11 @@ returns-then-is_before-clause-candidates c told p s next stands moves at =
     let fits = c.ranges.clock in
     let quiet : IfSome c.quiet_until.result (λ moment. c.args.clock <ℤ moment) = simp to_z-of_z at (c.is_before.ensures.0) c.if-is_before.true in
     let still = subst (λ (now : ℤ). IfSome c.quiet_until.result (λ moment. now <ℤ moment)) (sym at) quiet in
-    let same = same_arrivals p q s next (lent c.args.gone.now) (option_map (λ (f : Bor Fact). f.now) c.args.come) moves (sym c.is_one_meant.ensures ∙ none_of c.is_one_meant.result told) in
+    let same = same_arrivals p q s next (lent c.args.gone.now) (option_map (λ (f : Bor Fact). f.now) c.args.come) moves (sym c.is_one_meant.ensures ∙ not-true c.is_one_meant.result told) in
     same_candidates p q s next moves.before moves.after same c.args.self.now stands (c.quiet_until.ensures.inside (arrivals p q s) s.clock next.clock stands.stands moves.clock still)
 
 pub returns-then-is_before-clause-leaves : goal.returns-then-is_before-clause-leaves
-returns-then-is_before-clause-leaves c told none p s stands is = absurd (let torn : true ≡ false = sym (one_of c.is_one_meant.result told) ∙ c.is_one_meant.ensures ∙ none in cc)
+returns-then-is_before-clause-leaves c told none p s stands is = absurd (let torn : true ≡ false = sym (not-false c.is_one_meant.result told) ∙ c.is_one_meant.ensures ∙ none in cc)
 
 pub returns-else-is_before-clause-leaves : goal.returns-else-is_before-clause-leaves
 returns-else-is_before-clause-leaves c told none p s stands is =

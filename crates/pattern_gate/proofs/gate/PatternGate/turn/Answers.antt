@@ -1,4 +1,4 @@
-use Rattle.pattern_gate.proofs.Common.{◌∙◌, subst, sym, to_z-of_z, IsBetween, after, rows_inside, Stands, window_of, WindowKind, Takes}
+use Rattle.pattern_gate.proofs.Common.{◌∙◌, subst, sym, to_z-of_z, IsBetween, after, rows_inside, StandsForArrivals, window_of, TakesChange, WindowKind}
 use Rattle.pattern_gate.proofs.Turning.{led_on}
 use Rattle.pattern_gate.proofs.gate.PatternGate.turn.Goals as goal
 
@@ -6,10 +6,10 @@ pub returns-clause-reaches : goal.returns-clause-reaches
 returns-clause-reaches c old kind arrivals was before takes =
     let fits = c.ranges.clock in
     let gate = c.args.self.now.gate in
-    let may : Takes (window_of gate) arrivals was c.args.event.now c.args.clock = subst (λ (k : WindowKind). Takes k arrivals was c.args.event.now c.args.clock) (sym before.window) takes in
-    let stands : Stands gate arrivals was → Takes (window_of gate) arrivals was c.args.event.now c.args.clock → Stands c.turn.new.self (after arrivals c.args.event.now) c.args.clock =
+    let may : TakesChange (window_of gate) arrivals was c.args.event.now c.args.clock = subst (λ (k : WindowKind). TakesChange k arrivals was c.args.event.now c.args.clock) (sym before.window) takes in
+    let stands : StandsForArrivals gate arrivals was → TakesChange (window_of gate) arrivals was c.args.event.now c.args.clock → StandsForArrivals c.turn.new.self (after arrivals c.args.event.now) c.args.clock =
     simp to_z-of_z at (c.in_ok-delta.ensures.stands arrivals was) in
-    let between : Stands gate arrivals was → Takes (window_of gate) arrivals was c.args.event.now c.args.clock
+    let between : StandsForArrivals gate arrivals was → TakesChange (window_of gate) arrivals was c.args.event.now c.args.clock
     → IsBetween (rows_inside (window_of gate) was arrivals) (rows_inside (window_of gate) c.args.clock (after arrivals c.args.event.now)) c.in_ok-delta.delta =
     simp to_z-of_z at (c.in_ok-delta.ensures.between arrivals was) in
     let inside : IsBetween (rows_inside kind was arrivals) (rows_inside kind c.args.clock (after arrivals c.args.event.now)) c.in_ok-delta.delta =

@@ -1,5 +1,6 @@
 use Rattle.rete_net.proofs.Common.{◌∙◌, inl, inr, sym, ap, refl, subst, List, [], ◌∷◌, ◌++◌, append-nil, slice_get, Condition, Origin, NetNode, AreGrown}
-use Rattle.rete_net.proofs.Growing.{found_node, grown_more, get_seam, no_node}
+use Rattle.rete_net.proofs.Growing.{found_node, grown_more, no_node}
+use Rattle.fx_base.proofs.Sequences.{get-last}
 use Rattle.rete_net.proofs.build.Builder.put.Goals as goal
 
 pub returns-in-Some : goal.returns-in-Some
@@ -32,7 +33,7 @@ returns-in_ok-push-in-None-3 c all front grown behind is_front window =
       own ∷ [],
       subst (λ (ns : List NetNode). AreGrown p ns c.push-in-None-2.new.self.items (all ++ own ∷ [])) (sym c.in_ok-push-in-None.ensures.items)
           (subst (λ (os : List Origin). AreGrown p (nodes ++ node ∷ []) os (all ++ own ∷ [])) (sym c.in_ok-push-in-None-3.ensures.items) more),
-      ap (slice_get (all ++ own ∷ [])) (c.len-place.ensures ∙ c.args.self.now.nodes.ok.0 ∙ grown.built.length) ∙ get_seam all own,
+      ap (slice_get (all ++ own ∷ [])) (c.len-place.ensures ∙ c.args.self.now.nodes.ok.0 ∙ grown.built.length) ∙ get-last all own,
       inr (
         refl,
         c.in_ok-push-in-None-2.ensures.items,

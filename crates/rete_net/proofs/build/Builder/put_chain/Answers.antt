@@ -1,4 +1,5 @@
-use Rattle.rete_net.proofs.Common.{◌≡◌, ◌∙◌, sym, ap, subst, refl, List, [], ◌∷◌, Some, slice_get, take, ◌+◌, ◌<◌, length, arith, ◌++◌, append-nil, get_or, append_assoc, take_more, take_all, RuleId, Condition, in_place, AreGrown, IsParent, AreOwnedSoFar, PutsOwner}
+use Rattle.rete_net.proofs.Common.{◌≡◌, ◌∙◌, sym, ap, subst, refl, List, [], ◌∷◌, Some, slice_get, take, ◌+◌, ◌<◌, length, arith, ◌++◌, append-nil, get_or}
+use Rattle.rete_net.proofs.Common.{append_assoc, take_more, take_all, RuleId, Condition, in_place, AreGrown, IsParentNode, AreOwnedSoFar, PutsOwner}
 use Rattle.rete_net.proofs.Growing.{chain_more}
 use Rattle.rete_net.proofs.Owning.{begins_rule, owned_put}
 use Rattle.rete_net.proofs.build.Builder.put_chain.Goals as goal
@@ -53,6 +54,6 @@ returns c all grown stands few windows owned =
     let done : c.loop-condition.condition-index ≡ length c.args.rule.now.conditions = omega (arith, long) in (
       was.0,
       was.1,
-      subst (IsParent (all ++ was.0) c.loop-condition.last) (ap (λ n. take n cs) done ∙ take_all (length cs) cs (omega arith)) was.2,
+      subst (IsParentNode (all ++ was.0) c.loop-condition.last) (ap (λ n. take n cs) done ∙ take_all (length cs) cs (omega arith)) was.2,
       subst (λ n. AreOwnedSoFar c.args.program.now (all ++ was.0) c.loop-condition.self.owners.items c.args.place.0 cs n) done was.3,
     )

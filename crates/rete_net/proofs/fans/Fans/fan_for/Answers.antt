@@ -1,6 +1,6 @@
 use Rattle.rete_net.proofs.Common.{◌∙◌, ap, List, ◌++◌, ◌∷◌, [], slice_get, Fan}
-use Rattle.rete_net.proofs.Growing.{get_seam}
 use Rattle.rete_net.proofs.Seated.{fan_grows}
+use Rattle.fx_base.proofs.Sequences.{get-last}
 use Rattle.rete_net.proofs.fans.Fans.fan_for.Goals as goal
 
 pub returns-in_ok-put_fan-in-None-clause-grows : goal.returns-in_ok-put_fan-in-None-clause-grows
@@ -18,6 +18,6 @@ returns-in_ok-put_fan-in-None-clause-fan c =
     let last = c.len-fan.ensures ∙ c.args.self.now.list.ok.0 in
     record {
       one = put.list.0;
-      found = ap (λ (l : List Fan). slice_get l c.len-fan.result) put.list.1 ∙ ap (slice_get (list ++ put.list.0 ∷ [])) last ∙ get_seam list put.list.0;
+      found = ap (λ (l : List Fan). slice_get l c.len-fan.result) put.list.1 ∙ ap (slice_get (list ++ put.list.0 ∷ [])) last ∙ get-last list put.list.0;
       same = put.list.2.same;
     }

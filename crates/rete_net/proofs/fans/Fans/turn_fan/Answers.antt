@@ -1,8 +1,8 @@
 use Rattle.rete_net.proofs.Common.{◌≡◌, ◌∙◌, sym, ap, refl, ◌<◌, arith, length, None, Some, slice_get, length-set, slice_get-get_or, get, nat_cmp, half_in}
 use Rattle.rete_net.proofs.Fanned.{each_like, fan_turned, half_other, half_there, member_other, none_past, rows_like}
 use Rattle.rete_net.proofs.Fanning.{laid_same}
-use Rattle.rete_net.proofs.Growing.{both_at}
 use Rattle.rete_net.proofs.fans.Fans.turn_fan.Given.{Over}
+use Rattle.fx_base.proofs.Sequences.{one_value}
 use Rattle.rete_net.proofs.fans.Fans.turn_fan.Goals as goal
 
 at : (g : Over) (c : goal.Joined-branch-3 g) → slice_get c.args.self.now.list.items c.args.fan ≡ Some c.index_mut.result.now
@@ -37,7 +37,7 @@ returns-clause-turned g c seat f same e beside reached =
 
 pub returns-clause-woken : goal.returns-clause-woken
 returns-clause-woken g c seat f k same e there out =
-    let is : c.index_mut.result.now ≡ f = both_at (slice_get c.args.self.now.list.items c.args.fan) c.index_mut.result.now f (at g c) e in
+    let is : c.index_mut.result.now ≡ f = one_value (slice_get c.args.self.now.list.items c.args.fan) c.index_mut.result.now f (at g c) e in
     ap (half_in seat.member) (half_there c.args.self.now (record c.args.self.now { halves = c.insert.new.self }) c.args.fan c.in_ok-halves.halves c.in_ok-insert.ensures.updates seat same)
     ∙ c.in_ok-halves.ensures.woken seat.member k (ap (λ x. slice_get x.places.items seat.member) is ∙ there) out
 

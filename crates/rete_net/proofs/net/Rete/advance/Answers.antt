@@ -1,4 +1,5 @@
-use Rattle.rete_net.proofs.Common.{Bool, length, option_map, lent, Named, Snapshot, NetStands, AreScheduled, no_change, NetStep, IsWired, member_at, shown_nodes, AreFans}
+use Rattle.rete_net.proofs.Common.{Bool, length, option_map, lent, Named, Snapshot, NetStands, AreScheduled, no_change, NetStep, IsWired, member_at}
+use Rattle.rete_net.proofs.Common.{shown_nodes, AreFans}
 use Rattle.rete_net.proofs.Owning.{owned_again}
 use Rattle.rete_net.proofs.Fanning.{fans_again}
 use Rattle.rete_net.proofs.Fanwise.{wired_under}

@@ -1,4 +1,5 @@
-use Rattle.rete_net.proofs.Common.{[], None, get_or, refl, length, Moment, IsAt, empty_snapshot, empty_row_comes, NetStep, IsRunnable, IsWired, member_at, shown_nodes}
+use Rattle.rete_net.proofs.Common.{[], None, get_or, refl, length, Moment, IsAt, empty_snapshot, empty_row_comes, NetStep, IsRunnable, IsWired, member_at}
+use Rattle.rete_net.proofs.Common.{shown_nodes}
 use Rattle.rete_net.proofs.Starting.{no_facts, built_owned, built_shape, built_stands, built_net, built_between}
 use Rattle.rete_net.proofs.Owning.{owned_again}
 use Rattle.rete_net.proofs.Fanning.{fans_again}

@@ -1,9 +1,11 @@
-use Rattle.rete_net.proofs.Common.{◌≡◌, ◌∙◌, ap, sym, subst, ◌+◌, ◌<◌, ◌≤◌, arith, List, length, slice_get, Extra, HaveDistinctTags, held, rows_of, rows_named, at_clock, rising, Condition, AreExtrasBeside, condition_of, node_moves, Owner, NetNode, member_at, showing, shown_nodes, before}
+use Rattle.rete_net.proofs.Common.{◌≡◌, ◌∙◌, ap, sym, subst, ◌+◌, ◌<◌, ◌≤◌, arith, List, length, slice_get, Extra, HaveDistinctTags, held, rows_of, rows_named}
+use Rattle.rete_net.proofs.Common.{at_clock, rising, Condition, AreExtrasBeside, condition_of, node_moves, Owner, NetNode, member_at, showing, shown_nodes}
+use Rattle.rete_net.proofs.Common.{before}
 use Rattle.rete_net.proofs.Counting.{AreFirst, none_first, one_more_first, all_of_them, beside_seen, same_before}
-use Rattle.rete_net.proofs.Growing.{has_at}
 use Rattle.rete_net.proofs.Seen.{at_hand_at}
 use Rattle.rete_net.proofs.Showing.{condition_shown, shown_at, shown_length}
 use Rattle.rete_net.proofs.Turning.{held_has}
+use Rattle.fx_base.proofs.Sequences.{get-below}
 use Rattle.rete_net.proofs.net.Rete.extras.Goals as goal
 
 pub loop-place-init : goal.loop-place-init
@@ -22,10 +24,10 @@ loop-place-preserved g c p s forgotten stands has =
     let owned = stands.nodes.owned in
     let many = shown_length (member_at net.fans) net.nodes.items in
     let count = owned.count in
-    let n = has_at net.nodes.items k lt in
+    let n = get-below net.nodes.items k lt in
     let m = member_at net.fans k in
     let shows = shown_at (member_at net.fans) net.nodes.items k n.0 n.1 in
-    let o = has_at net.owners.items k (omega (arith, count, many, lt)) in
+    let o = get-below net.owners.items k (omega (arith, count, many, lt)) in
     let was = at_clock s stands.seen in
     let behind = before stands.nodes.shape.conditions (showing m n.0).parent in
     let tags : HaveDistinctTags s.facts = rising s.facts stands.kept.in_order in

@@ -1,4 +1,5 @@
-use Rattle.rete_net.proofs.Common.{◌≡◌, ◌∙◌, sym, ap, refl, subst, ◌<◌, length, arith, Some, slice_get, List, [], slice_get-get_or, Row, has_name, Index, left_given, IsPut, AreRowsTurned, AreWoken}
+use Rattle.rete_net.proofs.Common.{◌≡◌, ◌∙◌, sym, ap, refl, subst, ◌<◌, length, arith, Some, slice_get, List, [], slice_get-get_or, Row, has_name, Index}
+use Rattle.rete_net.proofs.Common.{left_given, IsAnswerPut, AreFanRowsTurned, AreWoken}
 use Rattle.rete_net.proofs.Fading.{set_off, forget_at, come_to_end}
 use Rattle.rete_net.proofs.Fanned.{none_of}
 use Rattle.rete_net.proofs.Fanning.{laid_same, laid_then}
@@ -54,8 +55,8 @@ walk-preserved g c =
           n c.forget_in.new.self at told.parent told.condition (replaced_more nodes nodes place n c.forget_in.new.self (not_replaced nodes) at told.parent told.condition)
           mid told.laid told.others c.as_slice-before.result.now c.in_ok-gone.gone (c.as_slice-before.ensures ∙ c.left-rows.ensures ∙ ap (λ (rows : List Row). left_given rows c.walk.dropped n.parent) none) told.forgets
           then c.in_ok-turn_rows.ensures.laid
-          (λ ns are. subst (λ (rows : List Row). AreRowsTurned look place rows [] mid then) c.as_slice-went.ensures (c.in_ok-turn_rows.ensures.turned ns are))
-          c.put_dropped.new.dropped (λ nothing. subst (λ (i : Index). IsPut i place c.in_ok-gone.gone c.walk.dropped c.put_dropped.new.dropped) was.index (c.in_ok-put_dropped.ensures.put nothing))
+          (λ ns are. subst (λ (rows : List Row). AreFanRowsTurned look place rows [] mid then) c.as_slice-went.ensures (c.in_ok-turn_rows.ensures.turned ns are))
+          c.put_dropped.new.dropped (λ nothing. subst (λ (i : Index). IsAnswerPut i place c.in_ok-gone.gone c.walk.dropped c.put_dropped.new.dropped) was.index (c.in_ok-put_dropped.ensures.put nothing))
           (λ none. c.in_ok-put_dropped.ensures.nothing (none_of c.in_ok-gone.gone [] none).0)
           c.turn_rows.new.due.keys
           (λ ns are. subst (λ (rows : List Row). AreWoken place rows [] mid then c.walk.due.keys c.turn_rows.new.due.keys) c.as_slice-went.ensures (c.in_ok-turn_rows.ensures.woken ns are));

@@ -1,4 +1,5 @@
-use Rattle.rete_net.proofs.Common.{◌≡◌, ◌∙◌, ap, subst, ℕ, ◌<◌, ◌^◌, length, List, Err, Some, slice_get, pos, ◌≤ℤ◌, In, Delta, lent, RuleChange, NoRow, answer_in, AreRuled, changes_from, delta_at, no_change, member_at, shown_nodes}
+use Rattle.rete_net.proofs.Common.{◌≡◌, ◌∙◌, ap, subst, ℕ, ◌<◌, ◌^◌, length, List, Err, Some, slice_get, pos, ◌≤ℤ◌, In, Delta, lent, RuleChange, NoRow}
+use Rattle.rete_net.proofs.Common.{answer_in, AreRuled, changes_from, delta_at, no_change, member_at, shown_nodes}
 use Rattle.rete_net.proofs.Filling.{same_fault}
 use Rattle.rete_net.proofs.Fanning.{fans_again}
 use Rattle.rete_net.proofs.Fanwise.{net_under, wired_under}

@@ -1,4 +1,6 @@
-use Rattle.rete_net.proofs.Common.{◌≡◌, ◌∙◌, sym, ap, refl, subst, ◌<◌, length, arith, List, [], Err, Some, slice_get, slice_get-get_or, filter, Delta, Row, lent, Owner, Index, NoRow, left_given, IsPut, AreRowsTurned, type_of, facts_at, is_of, empty_row_comes}
+use Rattle.rete_net.proofs.Common.{◌≡◌, ◌∙◌, sym, ap, refl, subst, ◌<◌, length, arith, List, [], Err, Some, slice_get, slice_get-get_or, filter, Delta, Row}
+use Rattle.rete_net.proofs.Common.{lent, Owner, Index, NoRow, left_given, IsAnswerPut, AreFanRowsTurned, type_of, grouped_facts_at, is_fact_of_type}
+use Rattle.rete_net.proofs.Common.{empty_row_comes}
 use Rattle.rete_net.proofs.Filling.{same_fault}
 use Rattle.rete_net.proofs.Lading.{set_off, stuck_at, take_one, come_to_end, IsUnderWay}
 use Rattle.rete_net.proofs.Fanning.{laid_same, laid_then}
@@ -32,9 +34,9 @@ loop-place-preserved g c =
     let within : c.loop-place.place < length c.loop-place.self.nodes.items = omega (arith, low, len, many) in
     let at : slice_get c.loop-place.self.nodes.items c.loop-place.place ≡ Some c.index_mut-node.result.now = slice_get-get_or nodes place n within ∙ ap Some (sym c.index_mut-node.ensures.value) in
     let kept = (lent c.args.kept.now) in
-    let theirs : lent c.of_type-theirs.result.now ≡ filter (is_of (type_of c.index_mut-node.result.now)) (lent c.args.kept.now) =
+    let theirs : lent c.of_type-theirs.result.now ≡ filter (is_fact_of_type (type_of c.index_mut-node.result.now)) (lent c.args.kept.now) =
     c.of_type-theirs.ensures (c.deref-in-loop-place-2.ensures.value ∙ c.new-none.ensures.items)
-    ∙ ap (λ groups. facts_at groups c.ty.result.0) c.deref-in-loop-place.ensures.value ∙ c.in_ok-groups.ensures c.ty.result.0 ∙ ap (λ ty. filter (is_of ty) kept) c.ty.ensures in
+    ∙ ap (λ groups. grouped_facts_at groups c.ty.result.0) c.deref-in-loop-place.ensures.value ∙ c.in_ok-groups.ensures c.ty.result.0 ∙ ap (λ ty. filter (is_fact_of_type ty) kept) c.ty.ensures in
     let told = c.in_ok-delta.ensures in
     let mid = c.load_in.new.fans in
     let then = c.turn_rows.new.self in
@@ -55,8 +57,8 @@ loop-place-preserved g c =
           c.as_slice-rows.result.now
           (c.as_slice-rows.ensures ∙ ap (λ (d : Delta). d.come) (c.left-left.ensures ∙ ap (λ (d : Delta). left_given d c.loop-place.answered n.parent) c.in_ok-first.ensures))
           c.in_ok-delta.delta (λ member. told.loads member kept theirs) told.there then c.in_ok-turn_rows.ensures.laid
-          (λ ns are. subst (λ (rows : List Row). AreRowsTurned look place [] rows mid then) c.as_slice-came.ensures (c.in_ok-turn_rows.ensures.turned ns are))
-          c.put_delta.new.answered (subst (λ (i : Index). IsPut i place c.in_ok-delta.delta c.loop-place.answered c.put_delta.new.answered) was.index (c.in_ok-put_delta.ensures.put way.way.none));
+          (λ ns are. subst (λ (rows : List Row). AreFanRowsTurned look place [] rows mid then) c.as_slice-came.ensures (c.in_ok-turn_rows.ensures.turned ns are))
+          c.put_delta.new.answered (subst (λ (i : Index). IsAnswerPut i place c.in_ok-delta.delta c.loop-place.answered c.put_delta.new.answered) was.index (c.in_ok-put_delta.ensures.put way.way.none));
     }
 
 pub returns-in_err-delta-clause-stuck : goal.returns-in_err-delta-clause-stuck

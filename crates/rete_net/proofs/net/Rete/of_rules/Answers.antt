@@ -1,4 +1,7 @@
-use Rattle.rete_net.proofs.Common.{◌≡◌, ◌∙◌, sym, ap, refl, subst, ℕ, ◌+◌, ◌<◌, ◌≤◌, nat_le, arith, List, [], ◌∷◌, ◌++◌, length, length-append, Some, slice_get, nat_tests, slice_get-get_or, unwrap_or, Condition, Rule, both_of, IsRunnable, has_conditions, has_windows, AreGrown, HaveEnds, AreOwnedSoFar, NetNode, member_at, with_fans, AreFans, IsIndexOf, AreScheduled}
+use Rattle.rete_net.proofs.Common.{◌≡◌, ◌∙◌, sym, ap, refl, subst, ℕ, ◌+◌, ◌<◌, ◌≤◌, nat_le, arith, List, [], ◌∷◌, ◌++◌, length, length-append, Some, slice_get}
+use Rattle.rete_net.proofs.Common.{nat_tests, slice_get-get_or, unwrap_or, Condition, Rule, IsRunnable, has_conditions, has_windows, AreGrown, HaveEnds}
+use Rattle.rete_net.proofs.Common.{AreOwnedSoFar, NetNode, member_at, with_fans, AreFans, IsIndexOf, AreScheduled}
+use Rattle.std.proofs.lemmas.Bool.{and_parts}
 use Rattle.rete_net.proofs.Growing.{passes_at, ends_more}
 use Rattle.rete_net.proofs.Frames.{index_again}
 use Rattle.rete_net.proofs.Owning.{rule_owned}
@@ -43,7 +46,7 @@ loop-rule-preserved c = record { count = let e = c.loop-rule.invariant.count in 
         let was = c.loop-rule.invariant.built runnable in
         let windows = passes_at (has_windows p) p.rules c.loop-rule.rule-index rule runnable.windows found in
         let some = passes_at has_conditions p.rules c.loop-rule.rule-index rule runnable.conditions found in
-        let conditions = both_of (nat_le 1 (length rule.conditions)) (nat_le (length rule.conditions) 8) some in
+        let conditions = and_parts (nat_le 1 (length rule.conditions)) (nat_le (length rule.conditions) 8) some in
         let few : length rule.conditions ≤ 8 = (let le = conditions.1 in grind (arith, nat_tests)) in
         let stands : slice_get p.rules c.rule_in.result.0 ≡ Some rule = ap (slice_get p.rules) (number runnable) ∙ found in
         let owned : AreOwnedSoFar p was.0 c.loop-rule.builder.owners.items c.rule_in.result.0 [] 0 =

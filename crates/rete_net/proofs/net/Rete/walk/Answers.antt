@@ -1,9 +1,11 @@
-use Rattle.rete_net.proofs.Common.{◌≡◌, ◌∙◌, sym, ap, refl, subst, true, false, ◌<◌, length, arith, Some, slice_get, List, slice_get-get_or, Row, lent, Index, NetNode, has_place, IsPut, AreRowsTurned, AreWoken}
+use Rattle.rete_net.proofs.Common.{◌≡◌, ◌∙◌, sym, ap, refl, subst, true, false, ◌<◌, length, arith, Some, slice_get, List, slice_get-get_or, Row, lent, Index}
+use Rattle.rete_net.proofs.Common.{NetNode, has_place, IsAnswerPut, AreFanRowsTurned, AreWoken}
+use Rattle.std.proofs.lemmas.Bool.{false_from_ne_true}
 use Rattle.std.proofs.Common.{option_map}
 use Rattle.rete_net.proofs.Fanning.{laid_same, laid_then}
 use Rattle.rete_net.proofs.Steady.{set_off, step_at, come_to_end}
 use Rattle.rete_net.proofs.Scheduling.{scheduled_more}
-use Rattle.rete_net.proofs.Walking.{not_replaced, not_true, replaced_more}
+use Rattle.rete_net.proofs.Walking.{not_replaced, replaced_more}
 use Rattle.rete_net.proofs.net.Rete.walk.Goals as goal
 
 pub walk-init : goal.walk-init
@@ -24,7 +26,7 @@ walk-init g c = record {
       (λ k n e found out. record {
         unreached = c.in_ok-put_reached.ensures.put k n (ap (λ (nodes : List NetNode). slice_get nodes k) c.deref.ensures.value ∙ e) found out;
         undue = λ timed.
-            c.in_ok-due.ensures k n (scheduled k n e timed) (not_true (has_place c.in_ok-due.due.keys k) (λ there. let no : true ≡ false = sym (c.in_ok-put_reached.ensures.kept k there) ∙ out in cc));
+            c.in_ok-due.ensures k n (scheduled k n e timed) (false_from_ne_true (has_place c.in_ok-due.due.keys k) (λ there. let no : true ≡ false = sym (c.in_ok-put_reached.ensures.kept k there) ∙ out in cc));
       });
 }
 
@@ -59,9 +61,9 @@ walk-preserved g c =
           mid told.laid told.others c.left-left.result.now c.in_ok-delta.delta c.left-left.ensures told.step
           then c.in_ok-turn_rows.ensures.laid
           (λ ns are.
-          subst (λ (rows : List Row). AreRowsTurned look place rows c.in_ok-delta.delta.come mid then) c.as_slice-went.ensures
-          (subst (λ (rows : List Row). AreRowsTurned look place c.as_slice-went.result.now rows mid then) c.as_slice-came.ensures (c.in_ok-turn_rows.ensures.turned ns are)))
-          c.put_delta.new.answered (λ nothing. subst (λ (i : Index). IsPut i place c.in_ok-delta.delta c.walk.answered c.put_delta.new.answered) was.index (c.in_ok-put_delta.ensures.put nothing)) c.in_ok-put_delta.ensures.nothing
+          subst (λ (rows : List Row). AreFanRowsTurned look place rows c.in_ok-delta.delta.come mid then) c.as_slice-went.ensures
+          (subst (λ (rows : List Row). AreFanRowsTurned look place c.as_slice-went.result.now rows mid then) c.as_slice-came.ensures (c.in_ok-turn_rows.ensures.turned ns are)))
+          c.put_delta.new.answered (λ nothing. subst (λ (i : Index). IsAnswerPut i place c.in_ok-delta.delta c.walk.answered c.put_delta.new.answered) was.index (c.in_ok-put_delta.ensures.put nothing)) c.in_ok-put_delta.ensures.nothing
           c.turn_rows.new.due.keys
           (λ ns are.
           subst (λ (rows : List Row). AreWoken place rows c.in_ok-delta.delta.come mid then c.walk.due.keys c.turn_rows.new.due.keys) c.as_slice-went.ensures

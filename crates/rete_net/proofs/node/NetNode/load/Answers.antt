@@ -1,4 +1,5 @@
-use Rattle.rete_net.proofs.Common.{◌≡◌, ◌∙◌, ap, sym, subst, true, List, to_z, of_z, to_z-of_z, w64, SFits, Named, Row, has, Pattern, lent, Snapshot, IsNameDifference, row_naming, has_name, no_names, candidates_of, GateStands, has_good_window, IsOrderly}
+use Rattle.rete_net.proofs.Common.{◌≡◌, ◌∙◌, ap, sym, subst, true, List, to_z, of_z, to_z-of_z, w64, SFits, Named, Row, has, Pattern, lent, Snapshot}
+use Rattle.rete_net.proofs.Common.{IsNameDifference, row_naming, has_name, no_names, candidates_of, GateStands, has_good_window, IsOrderly}
 use Rattle.rete_net.proofs.Filled.{loads_node}
 use Rattle.rete_net.proofs.node.NetNode.load.Goals as goal
 

@@ -1,4 +1,5 @@
-use Rattle.rete_net.proofs.Common.{◌≡◌, ◌∙◌, sym, ap, subst, true, List, to_z, of_z, to_z-of_z, w64, SFits, get, nat_cmp, Named, Row, has, Pattern, lent, Snapshot, IsNameDifference, row_naming, has_name, no_names, candidates_of, GateStands, has_good_window, IsOrderly, half_in}
+use Rattle.rete_net.proofs.Common.{◌≡◌, ◌∙◌, sym, ap, subst, true, List, to_z, of_z, to_z-of_z, w64, SFits, get, nat_cmp, Named, Row, has, Pattern, lent}
+use Rattle.rete_net.proofs.Common.{Snapshot, IsNameDifference, row_naming, has_name, no_names, candidates_of, GateStands, has_good_window, IsOrderly, half_in}
 use Rattle.rete_net.proofs.Siblings.{names_load}
 use Rattle.rete_net.proofs.node.NetNode.load_member.Goals as goal
 

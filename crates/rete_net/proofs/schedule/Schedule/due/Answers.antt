@@ -1,8 +1,9 @@
-use Rattle.rete_net.proofs.Common.{◌≡◌, ◌∙◌, ◌<◌, sym, ap, subst, inl, inr, ℕ, true, false, List, Some, slice_get, length, arith, slice_get_within, slice_get-get_or, snapshot_at, floor, has_place, IsFrom, IsSet, EntryTimers}
-use Rattle.rete_net.proofs.Growing.{both_at}
+use Rattle.rete_net.proofs.Common.{◌≡◌, ◌∙◌, ◌<◌, sym, ap, subst, inl, inr, ℕ, true, false, List, Some, slice_get, length, arith, slice_get_within}
+use Rattle.rete_net.proofs.Common.{slice_get-get_or, snapshot_at, floor, has_place, IsFrom, IsSet, EntryTimers}
+use Rattle.std.proofs.lemmas.Bool.{false_from_ne_true}
 use Rattle.rete_net.proofs.Scheduling.{undue}
-use Rattle.rete_net.proofs.Turns.{below_or_at}
-use Rattle.rete_net.proofs.Walking.{not_true}
+use Rattle.fx_base.proofs.Orders.{below_or_last}
+use Rattle.fx_base.proofs.Sequences.{one_value}
 use Rattle.rete_net.proofs.schedule.Schedule.due.Goals as goal
 
 pub loop-line-init : goal.loop-line-init
@@ -12,13 +13,13 @@ loop-line-init c = record {
 }
 
 out_before : (c : goal.In_ok-put_due) (k : ℕ) → has_place c.put_due.new.due.keys k ≡ false → has_place c.loop-line.due.keys k ≡ false
-out_before c k out = not_true (has_place c.loop-line.due.keys k) (λ there. let no : true ≡ false = sym (c.in_ok-put_due.ensures.kept k there) ∙ out in cc)
+out_before c k out = false_from_ne_true (has_place c.loop-line.due.keys k) (λ there. let no : true ≡ false = sym (c.in_ok-put_due.ensures.kept k there) ∙ out in cc)
 
 pub loop-line-preserved : goal.loop-line-preserved
 loop-line-preserved c = record {
   clock = λ k until set out. c.loop-line.invariant.clock k until set (out_before c k out);
   floors = λ line timers lt e k up_to set out.
-      elim (below_or_at line c.loop-line.line-index lt) [
+      elim (below_or_last line c.loop-line.line-index lt) [
         | inl below ↦ c.loop-line.invariant.floors line timers below e k up_to set (out_before c k out)
         | inr at ↦
             let floors = c.args.self.now.floors.items in
@@ -26,7 +27,7 @@ loop-line-preserved c = record {
             let found : slice_get c.args.self.now.floors.items c.loop-line.line-index ≡ Some c.line-item.result =
             ap (λ (xs : List EntryTimers). slice_get xs c.loop-line.line-index) (sym c.as_slice-line-items.ensures.value)
             ∙ slice_get-get_or c.as_slice-line-items.result.now c.loop-line.line-index x c.loop-line-test.true ∙ ap Some (sym c.line-item.is) in
-            let is : c.line-item.result ≡ timers = both_at (slice_get floors c.loop-line.line-index) x timers found (ap (slice_get floors) (sym at) ∙ e) in
+            let is : c.line-item.result ≡ timers = one_value (slice_get floors c.loop-line.line-index) x timers found (ap (slice_get floors) (sym at) ∙ e) in
             subst (λ (t : EntryTimers). IsFrom (floor c.args.program.now (snapshot_at c.args.moment.now) t.entry.0) up_to) is
             (c.in_ok-put_due.ensures.put k up_to (subst (λ (t : EntryTimers). IsSet t.timers k up_to) (sym is) set) out)
       ];

@@ -1,10 +1,11 @@
-use Rattle.rete_net.proofs.Common.{◌≡◌, ◌∙◌, ◌<◌, sym, ap, subst, inl, inr, ℕ, true, Some, slice_get, length, arith, slice_get_within, slice_get-get_or, is_timed, IsScheduled, NetNode}
-use Rattle.rete_net.proofs.Turns.{below_or_at}
+use Rattle.rete_net.proofs.Common.{◌≡◌, ◌∙◌, ◌<◌, sym, ap, subst, inl, inr, ℕ, true, Some, slice_get, length, arith, slice_get_within, slice_get-get_or}
+use Rattle.rete_net.proofs.Common.{is_changed_by_clock, IsScheduled, NetNode}
+use Rattle.fx_base.proofs.Orders.{below_or_last}
 use Rattle.rete_net.proofs.schedule.Schedule.of.Goals as goal
 
 pub loop-place-preserved : goal.loop-place-preserved
 loop-place-preserved c k n lt e timed =
-    elim (below_or_at k c.loop-place.place lt) [
+    elim (below_or_last k c.loop-place.place lt) [
       | inl below ↦ c.in_ok-put.ensures.others c.args.program.now k n (λ same. absurd (omega arith)) (c.loop-place.invariant k n below e timed)
       | inr at ↦
           let x = c.index-nodes-place.result in
@@ -14,7 +15,7 @@ loop-place-preserved c k n lt e timed =
           let is : c.index-nodes-place.result ≡ n = cc in
           subst (λ (m : NetNode). IsScheduled c.args.program.now c.put.new.self k m) is
           (subst (λ (i : ℕ). IsScheduled c.args.program.now c.put.new.self i c.index-nodes-place.result) (sym at)
-          (c.in_ok-put.ensures.put (subst (λ (m : NetNode). is_timed m ≡ true) (sym is) timed)))
+          (c.in_ok-put.ensures.put (subst (λ (m : NetNode). is_changed_by_clock m ≡ true) (sym is) timed)))
     ]
 
 pub returns : goal.returns

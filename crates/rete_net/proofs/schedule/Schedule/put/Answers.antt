@@ -1,7 +1,6 @@
 use Rattle.rete_net.proofs.Common.{◌≡◌, ◌∙◌, ◌<◌, sym, ap, refl, subst, Some, slice_get, length, slice_get_within, slice_get-get_or, EntryTimers, Timers, IsSet}
-use Rattle.rete_net.proofs.Growing.{both_at}
 use Rattle.rete_net.proofs.Scheduling.{kept_beside, scheduled_still}
-use Rattle.rete_net.proofs.Turns.{set_same}
+use Rattle.fx_base.proofs.Sequences.{get-set_same, one_value}
 use Rattle.rete_net.proofs.schedule.Schedule.put.Goals as goal
 
 -- the timers of the entry point as they were
@@ -17,7 +16,7 @@ after c = record { entry = c.index_mut.result.now.entry; timers = c.put-2.new.se
 pub returns-clause-put : goal.returns-clause-put
 returns-clause-put c timed =
     let line = c.in_ok-line.ensures.line in
-    let same : line.0 ≡ c.index_mut.result.now = both_at (slice_get c.line.new.self.floors.items c.in_ok-line.line) line.0 c.index_mut.result.now line.1 (at c) in
+    let same : line.0 ≡ c.index_mut.result.now = one_value (slice_get c.line.new.self.floors.items c.in_ok-line.line) line.0 c.index_mut.result.now line.1 (at c) in
     record {
       until = c.quiet_until.result;
       set = c.in_ok-put.ensures.put;
@@ -25,7 +24,7 @@ returns-clause-put c timed =
       gate = c.quiet_until.ensures.gate;
       line = c.in_ok-line.line;
       timers = after c;
-      found = set_same c.line.new.self.floors.items c.in_ok-line.line (after c) c.index_mut.result.now (at c);
+      found = get-set_same c.line.new.self.floors.items c.in_ok-line.line (after c) c.index_mut.result.now (at c);
       entry = ap (λ (t : EntryTimers). t.entry.0) (sym same) ∙ line.2 ∙ c.entry.ensures;
       up_to = c.waits_up_to.result;
       waits = c.in_ok-put-2.ensures.put;

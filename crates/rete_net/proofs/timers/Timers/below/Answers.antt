@@ -5,4 +5,4 @@ use Rattle.rete_net.proofs.timers.Timers.below.Goals as goal
 pub returns : goal.returns
 returns c =
     let fits = c.ranges.bound in
-    all_from c.args.self.now c.args.bound c.in_ok-places.places.items c.in_ok-places.ensures.sorted (simp to_z-of_z at c.in_ok-places.ensures.places)
+    all_from c.args.self.now c.args.bound c.in_ok-places.places.items (simp to_z-of_z at c.in_ok-places.ensures)

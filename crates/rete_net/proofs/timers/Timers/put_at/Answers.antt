@@ -1,21 +1,22 @@
-use Rattle.rete_net.proofs.Common.{◌∙◌, sym, true}
+use Rattle.rete_net.proofs.Common.{◌≡◌, ◌∙◌, sym, ap, rules, Some, FitsSigned, w128}
 use Rattle.std.proofs.lemmas.Int.{to_z-of_z}
-use Rattle.rete_net.proofs.Timing.{set_there, still_set}
+use Rattle.std.proofs.Common.{to_z}
+use Rattle.rete_net.proofs.Timing.{set_already, set_there, still_set}
 use Rattle.rete_net.proofs.timers.Timers.put_at.Goals as goal
 
-pub returns-then-contains-clause-put : goal.returns-then-contains-clause-put
-returns-then-contains-clause-put c =
+pub returns-in-Some-clause-put : goal.returns-in-Some-clause-put
+returns-in-Some-clause-put c =
     let fits = c.ranges.at in
-    let told = simp to_z-of_z at c.contains.ensures in
-    sym told ∙ c.if-contains.true
+    let was_fits : FitsSigned w128 c.in-Some.was = search rules in
+    let same : c.in-Some.was ≡ c.args.at = simp to_z-of_z at (ap (to_z w128) c.if-was-at.true) in
+    set_already _ c.args.at (sym c.in-Some.ensures ∙ ap (λ z. Some z) same)
 
-pub returns-clause-put : goal.returns-clause-put
-returns-clause-put c =
+pub returns-in_ok-put-in_default-clause-put : goal.returns-in_ok-put-in_default-clause-put
+returns-in_ok-put-in_default-clause-put c =
     let fits = c.ranges.at in
-    set_there c.cancel.new.self.by_moment.keys c.insert-2.new.self.keys c.args.at c.args.place (simp to_z-of_z at c.in_ok-insert-2.ensures.updates.0)
+    set_there c.args.self.now (record { waiting = c.put.new.self }) c.args.place (Some (c.args.at, tt)) (simp to_z-of_z at c.in_ok-put-in_default.ensures.kept)
 
-pub returns-clause-others : goal.returns-clause-others
-returns-clause-others c k until other set =
+pub returns-in_ok-put-in_default-clause-others : goal.returns-in_ok-put-in_default-clause-others
+returns-in_ok-put-in_default-clause-others c =
     let fits = c.ranges.at in
-    still_set c.cancel.new.self (record { by_moment = c.insert-2.new.self; moments = c.insert.new.self }) c.args.at c.args.place true (simp to_z-of_z at c.in_ok-insert-2.ensures.updates.0) k until other
-    (c.cancel.ensures.others k until other set)
+    still_set c.args.self.now (record { waiting = c.put.new.self }) c.args.place (Some (c.args.at, tt)) (simp to_z-of_z at c.in_ok-put-in_default.ensures.kept)

@@ -1,5 +1,7 @@
-use Rattle.session.proofs.Common.{◌≡◌, ◌∙◌, ◌==◌, ℕ, Bool, List, [], true, sym, subst, arith, length, RuleChange, Marks, IsRefreshed, AreOfRules, AreMade, all_made, none_made, nothing_left}
+use Rattle.session.proofs.Common.{◌≡◌, ◌∙◌, ◌==◌, ℕ, Bool, List, [], true, sym, subst, arith, length, RuleChange, Marks, IsRefreshed, AreOfRules, AreMade}
+use Rattle.session.proofs.Common.{all_made, none_made}
 use Rattle.std.proofs.lemmas.Bool.Decides.{nat_tests}
+use Rattle.fx_base.proofs.Sequences.{empty_from_length}
 use Rattle.session.proofs.boxed.BoxedAgenda.refreshed.Goals as goal
 
 -- a count that is tested to be none
@@ -8,7 +10,7 @@ no_count n e = grind (arith, nat_tests)
 
 -- where nothing changes
 no_changes : (n : ℕ) (b : Bool) (changes : List RuleChange) → b ≡ (n == 0) → b ≡ true → n ≡ length changes → changes ≡ []
-no_changes n b changes e t count = nothing_left changes n count (no_count n (sym e ∙ t))
+no_changes n b changes e t count = empty_from_length changes n count (no_count n (sym e ∙ t))
 
 pub returns-then-is_empty-clause-agenda : goal.returns-then-is_empty-clause-agenda
 returns-then-is_empty-clause-agenda c p old new between =

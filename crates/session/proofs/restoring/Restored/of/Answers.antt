@@ -1,4 +1,5 @@
-use Rattle.session.proofs.Common.{◌≡◌, ◌∙◌, ◌∷◌, List, inl, refl, sym, ap, subst, Fact, all_held, nothing_left, ArePut, none_put, none_waits, one_put}
+use Rattle.session.proofs.Common.{◌∙◌, List, inl, refl, sym, ap, subst, Fact, all_held, ArePut, none_put, none_waits, one_put}
+use Rattle.fx_base.proofs.Sequences.{empty_from_length}
 use Rattle.session.proofs.restoring.Restored.of.Goals as goal
 
 pub loop-fact-init : goal.loop-fact-init
@@ -32,7 +33,7 @@ loop-fact-preserved c = record {
 pub returns-clause-facts : goal.returns-clause-facts
 returns-clause-facts c =
     let rest = c.loop-fact.fact-iterator.rest in
-    ap (all_held c.loop-fact.restored.facts) (sym (nothing_left rest.items rest.len rest.ok.0 c.in-None.ensures.steps.0)) ∙ c.loop-fact.invariant.put.all
+    ap (all_held c.loop-fact.restored.facts) (sym (empty_from_length rest.items rest.len rest.ok.0 c.in-None.ensures.steps.0)) ∙ c.loop-fact.invariant.put.all
 
 pub returns-clause-held : goal.returns-clause-held
 returns-clause-held c = c.loop-fact.invariant.held

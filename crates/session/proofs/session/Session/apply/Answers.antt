@@ -1,4 +1,5 @@
-use Rattle.session.proofs.Common.{◌≡◌, ◌∙◌, true, sym, ap, subst, ∥∥₁_map, are_known, Memory, Setting, gives, newest, IsSound, Standing, asked_known, change_lines, change_stands}
+use Rattle.session.proofs.Common.{◌≡◌, ◌∙◌, true, sym, ap, subst, ∥∥₁_map, are_known, Memory, Setting, gives, newest, IsSound, Standing, asked_known}
+use Rattle.session.proofs.Common.{change_lines, change_stands}
 use Rattle.session.proofs.session.Session.apply.Goals as goal
 
 pub returns-clause-lines : goal.returns-clause-lines

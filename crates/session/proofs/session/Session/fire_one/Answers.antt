@@ -1,4 +1,5 @@
-use Rattle.session.proofs.Common.{◌≡◌, true, sym, ap, subst, ∥∥₁_map, are_known, Memory, Setting, fires, IsSound, Standing, merely_known, top_known, fires_none, fires_some}
+use Rattle.session.proofs.Common.{◌≡◌, true, sym, ap, subst, ∥∥₁_map, are_known, Memory, Setting, fires, IsSound, Standing, merely_known, top_known, fires_none}
+use Rattle.session.proofs.Common.{fires_some}
 use Rattle.engine.specs.Answers.{FiringAnswers}
 use Rattle.engine.specs.declared.lines.Fired.TheVariants.{No, Yes}
 use Rattle.session.proofs.session.Session.fire_one.Goals as goal

@@ -1,6 +1,6 @@
 use Rattle.session.proofs.Common.{◌≡◌, ◌∙◌, true, false, Err, ap, sym, subst, rules, merely, IsImageOf, FitsByRows, Memory, Setting, IsRestored, residual_unfit}
 use Rattle.rule_world.specs.Lawful.{IsLawful}
-use Rattle.image_laws.specs.Laden.{AreOwners}
+use Rattle.laden_rows.specs.Laden.{AreOwners}
 use Rattle.session.proofs.session.Session.resume.Goals as goal
 
 pub returns-then-not-plain-clause-unfit : goal.returns-then-not-plain-clause-unfit

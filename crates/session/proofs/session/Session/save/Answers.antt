@@ -1,4 +1,4 @@
-use Rattle.session.proofs.Common.{◌≡◌, ◌∙◌, List, length, ap, subst, IfOk-weaker, Memory, Setting, IsSaved, Runs, merely_no_more}
+use Rattle.session.proofs.Common.{◌≡◌, ◌∙◌, List, length, ap, subst, IfOk-weaker, Memory, Setting, IsSessionSaved, Runs, merely_no_more}
 use Rattle.rule_model.specs.declared.program.EntryInfo.{EntryInfo}
 use Rattle.session_laws.proofs.Saved.{saved_image}
 use Rattle.session.proofs.session.Session.save.Goals as goal
@@ -13,6 +13,6 @@ returns-clause-image c =
     IfOk-weaker c.saved.result _ _
     (λ image saved w st.
     saved_image s m k w st (subst Runs same c.setting.ensures.runs) (merely_no_more s.program m k c.args.self.sound) image
-    (subst (λ (n : Memory). IsSaved k (length s.program.entries) n.net image) c.deref.ensures
-    (subst (λ (es : List EntryInfo). IsSaved k (length es) c.deref.result.now.net image) entries saved)))
+    (subst (λ (n : Memory). IsSessionSaved k (length s.program.entries) n.net image) c.deref.ensures
+    (subst (λ (es : List EntryInfo). IsSessionSaved k (length es) c.deref.result.now.net image) entries saved)))
     c.saved.ensures.saved

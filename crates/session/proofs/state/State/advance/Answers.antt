@@ -1,4 +1,6 @@
-use Rattle.session.proofs.Common.{◌≡◌, ◌+ℤ◌, Some, None, refl, sym, ◌∙◌, ap, subst, to_z, of_z, to_z-of_z, w64, IfOk-weaker, Advance, At, clock_fault, Moves, Contents, advance_fault, advance_moves, clock_same, moved_same, no_lines, on_ok, on_ok_weaker, refused_lines, refused_tries, tried_done}
+use Rattle.session.proofs.Common.{◌≡◌, ◌+ℤ◌, Some, None, refl, sym, ◌∙◌, ap, subst, to_z, of_z, to_z-of_z, w64, IfOk-weaker, Advance, At, clock_fault}
+use Rattle.session.proofs.Common.{MovesSession, Contents, advance_fault, advance_moves, clock_same, moved_same, no_lines, on_ok, on_ok_weaker, refused_lines}
+use Rattle.session.proofs.Common.{refused_tries, tried_done}
 use Rattle.session.proofs.state.State.advance.Goals as goal
 
 pub returns-in-Ok-clause-stands : goal.returns-in-Ok-clause-stands
@@ -14,7 +16,7 @@ returns-in-Ok-clause-stands c =
     let next : to_z w64 (of_z w64 c.in-Ok.clock) ≡ c.in-Ok.clock = ap (λ z. to_z w64 (of_z w64 z)) moved ∙ moved_same c.self.inside.clock (c.self.inside.clock +ℤ c.args.by) c.self.invariant.clock_low own ∙ sym moved in
     IfOk-weaker c.with_clock.result _ _ (λ t moves. tried_done s m c.args.self (Advance c.args.by) c.with_clock.new.memory t
     (λ w st suits. advance_fault s m c.args.self w st c.args.by None none)
-    (advance_moves s m c.args.self c.args.by c.in-Ok.clock c.with_clock.new.memory t clock (subst (λ z. Moves s m c.args.self (At z) c.with_clock.new.memory t) next moves))) c.with_clock.ensures.stands
+    (advance_moves s m c.args.self c.args.by c.in-Ok.clock c.with_clock.new.memory t clock (subst (λ z. MovesSession s m c.args.self (At z) c.with_clock.new.memory t) next moves))) c.with_clock.ensures.stands
 
 pub returns-in-Ok-clause-lines : goal.returns-in-Ok-clause-lines
 returns-in-Ok-clause-lines c =

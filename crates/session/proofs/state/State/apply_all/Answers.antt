@@ -1,6 +1,7 @@
-use Rattle.session.proofs.Common.{◌≡◌, [], ◌∷◌, inl, inr, List, Result, Ok, ap, length, sym, subst, arith, In, AllWantKnown, Code, SoFar, none_done, one_done, all_done_stands, all_done_lines}
+use Rattle.session.proofs.Common.{◌≡◌, [], ◌∷◌, inl, inr, List, Result, Ok, ap, length, sym, subst, arith, In, AllWantKnown, Code, SoFar, none_done, one_done}
+use Rattle.session.proofs.Common.{all_done_stands, all_done_lines}
 use Rattle.rule_model.specs.declared.step.Step.{Step}
-use Rattle.session_laws.proofs.Tried.{nothing_left}
+use Rattle.fx_base.proofs.Sequences.{empty_from_length}
 use Rattle.session.proofs.state.State.apply_all.Goals as goal
 
 pub loop-wanted-init : goal.loop-wanted-init
@@ -34,13 +35,13 @@ loop-wanted-preserved c =
 
 pub returns-clause-stands : goal.returns-clause-stands
 returns-clause-stands c w st fit =
-    let none : c.loop-wanted.wanted-iterator.rest.items ≡ [] = nothing_left c.loop-wanted.wanted-iterator.rest.items c.loop-wanted.wanted-iterator.rest.len c.loop-wanted.wanted-iterator.rest.ok.0 c.in-None.ensures.steps.0 in
+    let none : c.loop-wanted.wanted-iterator.rest.items ≡ [] = empty_from_length c.loop-wanted.wanted-iterator.rest.items c.loop-wanted.wanted-iterator.rest.len c.loop-wanted.wanted-iterator.rest.ok.0 c.in-None.ensures.steps.0 in
     all_done_stands c.args.setting.now w c.args.plan.items c.args.lines.now.items c.loop-wanted.lines.items c.loop-wanted.memory c.loop-wanted.state
     (subst (λ (rest : List (Result Step Code)). SoFar c.args.setting.now w c.args.plan.items c.args.lines.now.items c.loop-wanted.lines.items c.loop-wanted.memory c.loop-wanted.state rest) none (c.loop-wanted.invariant.done w st fit))
 
 pub returns-clause-lines : goal.returns-clause-lines
 returns-clause-lines c w st fit =
-    let none : c.loop-wanted.wanted-iterator.rest.items ≡ [] = nothing_left c.loop-wanted.wanted-iterator.rest.items c.loop-wanted.wanted-iterator.rest.len c.loop-wanted.wanted-iterator.rest.ok.0 c.in-None.ensures.steps.0 in
+    let none : c.loop-wanted.wanted-iterator.rest.items ≡ [] = empty_from_length c.loop-wanted.wanted-iterator.rest.items c.loop-wanted.wanted-iterator.rest.len c.loop-wanted.wanted-iterator.rest.ok.0 c.in-None.ensures.steps.0 in
     all_done_lines c.args.setting.now w c.args.plan.items c.args.lines.now.items c.loop-wanted.lines.items c.loop-wanted.memory c.loop-wanted.state
     (subst (λ (rest : List (Result Step Code)). SoFar c.args.setting.now w c.args.plan.items c.args.lines.now.items c.loop-wanted.lines.items c.loop-wanted.memory c.loop-wanted.state rest) none (c.loop-wanted.invariant.done w st fit))
 

@@ -1,4 +1,5 @@
-use Rattle.session.proofs.Common.{◌≡◌, ◌∙◌, ◌++◌, [], ◌∷◌, List, Option, Some, sym, ap, subst, rules, IfOk-weaker, Match, marked, does_all, fire_line, Standing, on_ok_weaker, StayKnown, fire_line_known, one_more_known}
+use Rattle.session.proofs.Common.{◌≡◌, ◌∙◌, ◌++◌, [], ◌∷◌, List, Option, Some, sym, ap, subst, rules, IfOk-weaker, Match, marked, does_all, fire_line, Standing}
+use Rattle.session.proofs.Common.{on_ok_weaker, StayKnown, fire_line_known, one_more_known}
 use Rattle.engine.specs.declared.lines.OutLine.{OutLine}
 use Rattle.session.proofs.state.State.fire.Goals as goal
 

@@ -1,4 +1,5 @@
-use Rattle.session.proofs.Common.{◌≡◌, Some, None, refl, ◌∙◌, ap, subst, to_z, of_z, to_z-of_z, w64, IfOk-weaker, At, clock_fault, Moves, Contents, at_fault, clock_same, no_lines, on_ok, on_ok_weaker, refused_lines, refused_tries, tried_done}
+use Rattle.session.proofs.Common.{◌≡◌, Some, None, refl, ◌∙◌, ap, subst, to_z, of_z, to_z-of_z, w64, IfOk-weaker, At, clock_fault, MovesSession, Contents}
+use Rattle.session.proofs.Common.{at_fault, clock_same, no_lines, on_ok, on_ok_weaker, refused_lines, refused_tries, tried_done}
 use Rattle.session.proofs.state.State.go_to.Goals as goal
 
 pub returns-in-Ok-clause-stands : goal.returns-in-Ok-clause-stands
@@ -12,7 +13,7 @@ returns-in-Ok-clause-stands c =
     let next : to_z w64 (of_z w64 c.in-Ok.clock) ≡ c.args.moment = ap (λ z. to_z w64 (of_z w64 z)) clock ∙ whole in
     IfOk-weaker c.with_clock.result _ _ (λ t moves. tried_done s m c.args.self (At c.args.moment) c.with_clock.new.memory t
     (λ w st suits. at_fault s m c.args.self w st c.args.moment None none)
-    (subst (λ z. Moves s m c.args.self (At z) c.with_clock.new.memory t) next moves)) c.with_clock.ensures.stands
+    (subst (λ z. MovesSession s m c.args.self (At z) c.with_clock.new.memory t) next moves)) c.with_clock.ensures.stands
 
 pub returns-in-Ok-clause-lines : goal.returns-in-Ok-clause-lines
 returns-in-Ok-clause-lines c =

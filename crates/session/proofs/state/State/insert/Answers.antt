@@ -1,4 +1,6 @@
-use Rattle.session.proofs.Common.{◌≡◌, nat_lt, length, Some, None, [], ◌∷◌, ◌++◌, subst, sym, IfOk-weaker, Insert, Contents, insert_fault, insert_line, done_lines, on_ok, on_ok_weaker, refused_lines, refused_tries, tried_done, StayKnown, and_parts, one_more_known}
+use Rattle.session.proofs.Common.{◌≡◌, nat_lt, length, Some, None, [], ◌∷◌, ◌++◌, subst, sym, IfOk-weaker, Insert, Contents, insert_fault, insert_line}
+use Rattle.session.proofs.Common.{done_lines, on_ok, on_ok_weaker, refused_lines, refused_tries, tried_done, StayKnown, one_more_known}
+use Rattle.std.proofs.lemmas.Bool.{and_parts}
 use Rattle.engine.specs.declared.lines.OutLine.TheVariants.{New}
 use Rattle.session.proofs.state.State.insert.Goals as goal
 

@@ -1,5 +1,6 @@
-use Rattle.session.proofs.Common.{◌≡◌, ◌∙◌, ◌==◌, ℕ, true, sym, subst, ap, not, list_any, Named, marked, names_tag, is_among, Contents, Standing, IsSound, contents, eq_by_cmp, has_match, match_cmp, and_parts}
-use Rattle.rule_model.proofs.Firsts.{or_right}
+use Rattle.session.proofs.Common.{◌≡◌, ◌∙◌, ◌==◌, ℕ, true, sym, subst, ap, not, list_any, Named, marked, names_tag, is_tag_among, Contents, Standing, IsSound}
+use Rattle.session.proofs.Common.{contents, eq_by_cmp, has_match, match_cmp}
+use Rattle.std.proofs.lemmas.Bool.{and_parts, or_right}
 use Rattle.session_laws.proofs.Marking.{marked_awaits}
 use Rattle.session.proofs.state.State.mark.Goals as goal
 
@@ -10,12 +11,12 @@ returns-clause-stands c w st =
     let k = (contents c.state.inside.facts c.state.inside.expiries c.state.inside.clock c.state.inside.course c.state.inside.agenda c.state.inside.next_id c.state.inside.next_tag) in
     let here : Standing s m k w = subst (λ (k : Contents). Standing s m k w) (sym c.state.view_is) st in
     let q = c.in_ok-agenda.fired in
-    let names : (tag : ℕ) → names_tag tag q ≡ true → is_among c.as_slice-2.result.now tag ≡ true = λ tag e.
-    ap (λ tags. is_among tags tag) c.as_slice-2.ensures.value ∙ c.in_ok-add_names.ensures tag
+    let names : (tag : ℕ) → names_tag tag q ≡ true → is_tag_among c.as_slice-2.result.now tag ≡ true = λ tag e.
+    ap (λ tags. is_tag_among tags tag) c.as_slice-2.ensures.value ∙ c.in_ok-add_names.ensures tag
     ∙ or_right _ _ (ap (λ ns. list_any (λ (n : Named). tag == n.tag.0) ns) c.as_slice.ensures ∙ e) in
     c.in_ok-state.ensures.stands (marked w q)
     (marked_awaits s m k w here q c.in_ok-agenda.ensures.top c.in_ok-agenda.agenda c.in_ok-agenda.ensures.saliences c.in_ok-agenda.ensures.pending c.in_ok-agenda.ensures.fired
-    (is_among c.as_slice-2.result.now) names)
+    (is_tag_among c.as_slice-2.result.now) names)
 
 pub returns-clause-sound : goal.returns-clause-sound
 returns-clause-sound c sound =

@@ -1,4 +1,5 @@
-use Rattle.session.proofs.Common.{◌≡◌, Some, None, sym, ◌∙◌, ap, if◌then◌else◌, EventFixed, ReferenceFixed, is_reference, modify_fault, newest, Contents, store_found, store_none, contents}
+use Rattle.session.proofs.Common.{◌≡◌, Some, None, sym, ◌∙◌, ap, if◌then◌else◌, EventFixed, ReferenceFixed, is_reference, modify_fault, newest, Contents}
+use Rattle.session.proofs.Common.{store_found, store_none, contents}
 use Rattle.session.proofs.state.State.modifiable.Goals as goal
 
 pub returns-in-Some-clause-fault : goal.returns-in-Some-clause-fault

@@ -1,4 +1,5 @@
-use Rattle.session.proofs.Common.{Some, None, refl, IfOk-weaker, Modify, modify_fault_is, no_lines, on_ok, on_ok_weaker, refused_lines, refused_tries, tried_done}
+use Rattle.session.proofs.Common.{Some, None, refl, IfOk-weaker, Modify, modify_fault_is, no_lines, on_ok, on_ok_weaker, refused_lines, refused_tries}
+use Rattle.session.proofs.Common.{tried_done}
 use Rattle.session.proofs.state.State.modify.Goals as goal
 
 pub returns-in-Ok-clause-stands : goal.returns-in-Ok-clause-stands

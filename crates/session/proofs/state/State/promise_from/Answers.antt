@@ -1,4 +1,5 @@
-use Rattle.session.proofs.Common.{◌≡◌, Some, None, refl, ◌∙◌, ap, subst, to_z, of_z, to_z-of_z, SFits, w64, IfOk-weaker, Promise, promise_fault, Moves, Contents, reached_of, promise_refused, no_lines, on_ok, on_ok_weaker, refused_lines, refused_tries, tried_done}
+use Rattle.session.proofs.Common.{◌≡◌, Some, None, refl, ◌∙◌, ap, subst, to_z, of_z, to_z-of_z, SFits, w64, IfOk-weaker, Promise, promise_fault, MovesSession}
+use Rattle.session.proofs.Common.{Contents, reached_of, promise_refused, no_lines, on_ok, on_ok_weaker, refused_lines, refused_tries, tried_done}
 use Rattle.session.proofs.state.State.promise_from.Goals as goal
 
 pub returns-in-Ok-clause-stands : goal.returns-in-Ok-clause-stands
@@ -14,7 +15,7 @@ returns-in-Ok-clause-stands c =
     let next : to_z w64 (of_z w64 c.in-Ok.from) ≡ c.args.from = ap (λ z. to_z w64 (of_z w64 z)) from ∙ whole in
     IfOk-weaker c.with_promise.result _ _ (λ t moves. tried_done s m c.args.self (Promise c.args.entry c.args.from) c.with_promise.new.memory t
     (λ w st suits. promise_refused s m c.args.self w st c.args.entry c.args.from None none)
-    (subst (λ z. Moves s m c.args.self (Promise c.args.entry z) c.with_promise.new.memory t) next moves)) c.with_promise.ensures.stands
+    (subst (λ z. MovesSession s m c.args.self (Promise c.args.entry z) c.with_promise.new.memory t) next moves)) c.with_promise.ensures.stands
 
 pub returns-in-Ok-clause-lines : goal.returns-in-Ok-clause-lines
 returns-in-Ok-clause-lines c =

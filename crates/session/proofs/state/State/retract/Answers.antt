@@ -1,4 +1,6 @@
-use Rattle.session.proofs.Common.{◌≡◌, Some, None, true, false, refl, sym, IfOk-weaker, Absent, EventObserved, ReferenceFixed, Retract, is_event, newest, retract_absent, retract_event, retract_fixed, retract_found, retract_observed, retract_fault_is, no_lines, on_ok, on_ok_weaker, refused_lines, refused_tries, tried_done}
+use Rattle.session.proofs.Common.{◌≡◌, Some, None, true, false, refl, sym, IfOk-weaker, Absent, EventObserved, ReferenceFixed, Retract, is_event, newest}
+use Rattle.session.proofs.Common.{retract_absent, retract_event, retract_fixed, retract_found, retract_observed, retract_fault_is, no_lines, on_ok}
+use Rattle.session.proofs.Common.{on_ok_weaker, refused_lines, refused_tries, tried_done}
 use Rattle.session.proofs.state.State.retract.Goals as goal
 
 pub returns-in-Some-clause-stands : goal.returns-in-Some-clause-stands

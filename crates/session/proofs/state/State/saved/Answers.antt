@@ -1,6 +1,7 @@
-use Rattle.session.proofs.Common.{◌∙◌, List, ℤ, refl, sym, ap, subst, to_z, of_z, w64, IsStrictlySortedBy, Extra, FiredMatch, Image, match_cmp, match_fired, ArePadded, IsSaved, Contents, clock_same}
+use Rattle.session.proofs.Common.{◌∙◌, List, refl, sym, ap, subst, to_z, of_z, w64, IsStrictlySortedBy, FiredMatch, Image, match_cmp, match_fired, ArePadded}
+use Rattle.session.proofs.Common.{IsSessionSaved, Contents, clock_same}
 use Rattle.std.proofs.Common.{map as list_map}
-use Rattle.image_laws.specs.Extras.{AreExtras}
+use Rattle.laden_rows.specs.Extras.{AreExtras}
 use Rattle.session.proofs.state.State.saved.Goals as goal
 
 pub returns-clause-saved : goal.returns-clause-saved
@@ -18,7 +19,7 @@ returns-clause-saved c =
       fired = c.from_vec-4.result;
       extras = c.from_vec-5.result;
     } in
-    subst (λ (z : Contents). IsSaved z c.args.entries c.args.net.now image) c.self.view_is (record {
+    subst (λ (z : Contents). IsSessionSaved z c.args.entries c.args.net.now image) c.self.view_is (record {
       clock = clock_same k.clock c.self.invariant.clock_low c.self.invariant.clock_high;
       begun = c.begun.ensures;
       last_starts = subst (ArePadded k.course.last_starts c.args.entries) (sym c.from_vec.ensures) c.in_ok-last_starts.ensures;

@@ -1,4 +1,6 @@
-use Rattle.session.proofs.Common.{◌≡◌, ◌∙◌, ◌<◌, ◌^◌, true, List, ap, sym, subst, filter_map, length, FitsSigned, to_z, of_z, to_z-of_z, w64, rules, arith, Match, has_match, has_tag, is_among, is_named, Passes, Awaits, Contents, ReachesNoMore, reached_of, no_keys, safe_fewer, stands_less, stands_same, named_at, contents}
+use Rattle.session.proofs.Common.{◌≡◌, ◌∙◌, ◌<◌, ◌^◌, true, List, ap, sym, subst, filter_map, length, FitsSigned, to_z, of_z, to_z-of_z, w64, rules, arith}
+use Rattle.session.proofs.Common.{Match, has_match, has_listed_tag, is_tag_among, is_named, PassesLives, Awaits, Contents, ReachesNoMore, reached_of, no_keys}
+use Rattle.session.proofs.Common.{safe_fewer, stands_less, stands_same, named_at, contents}
 use Rattle.session.proofs.state.State.settled.Goals as goal
 
 pub invariant_of-state : goal.invariant_of-state
@@ -12,9 +14,9 @@ returns-then-is_empty-clause-stands c w a =
     let r = c.in_ok-retention.retention in
     let keys = c.in_ok-retention.old.keys in
     let k = (contents c.state.inside.facts c.state.inside.expiries c.state.inside.clock c.state.inside.course c.state.inside.agenda c.state.inside.next_id c.state.inside.next_tag) in
-    let passes : Passes k.clock (is_among c.args.left.now) (is_named k.agenda) c.args.memory.now.retention r (has_tag keys) = simp (same, c.replace-retention.ensures.value, c.agenda.ensures) at c.in_ok-retention.ensures.passes in
-    stands_same c.args.setting.now c.args.memory.now c.args.self (is_among c.args.left.now) w a r keys (no_keys keys (c.if-is_empty.ensures.0 (search rules)))
-    (subst (λ (z : Contents). Passes z.clock (is_among c.args.left.now) (is_named z.agenda) c.args.memory.now.retention r (has_tag keys)) c.state.view_is passes)
+    let passes : PassesLives k.clock (is_tag_among c.args.left.now) (is_named k.agenda) c.args.memory.now.retention r (has_listed_tag keys) = simp (same, c.replace-retention.ensures.value, c.agenda.ensures) at c.in_ok-retention.ensures.passes in
+    stands_same c.args.setting.now c.args.memory.now c.args.self (is_tag_among c.args.left.now) w a r keys (no_keys keys (c.if-is_empty.ensures.0 (search rules)))
+    (subst (λ (z : Contents). PassesLives z.clock (is_tag_among c.args.left.now) (is_named z.agenda) c.args.memory.now.retention r (has_listed_tag keys)) c.state.view_is passes)
 
 pub returns-clause-stands : goal.returns-clause-stands
 returns-clause-stands c w a =
@@ -22,13 +24,13 @@ returns-clause-stands c w a =
     let same : to_z w64 (of_z w64 c.state.inside.clock) ≡ c.state.inside.clock = to_z-of_z fits in
     let s = c.args.setting.now in
     let m = c.args.memory.now in
-    let left = is_among c.args.left.now in
+    let left = is_tag_among c.args.left.now in
     let r = c.in_ok-retention.retention in
     let old = c.in_ok-retention.old.keys in
     let tags = c.in_ok-old.old.items in
     let k = (contents c.state.inside.facts c.state.inside.expiries c.state.inside.clock c.state.inside.course c.state.inside.agenda c.state.inside.next_id c.state.inside.next_tag) in
     let awaits : Awaits s m k left w = subst (λ (z : Contents). Awaits s m z left w) (sym c.state.view_is) a in
-    let passes : Passes k.clock left (is_named k.agenda) m.retention r (has_tag old) = simp (same, c.replace-retention.ensures.value, c.agenda.ensures) at c.in_ok-retention.ensures.passes in
+    let passes : PassesLives k.clock left (is_named k.agenda) m.retention r (has_listed_tag old) = simp (same, c.replace-retention.ensures.value, c.agenda.ensures) at c.in_ok-retention.ensures.passes in
     let names : c.in_ok-names.names.items ≡ filter_map (named_at k.facts) tags = c.in_ok-names.ensures ∙ ap (filter_map (named_at k.facts)) c.deref.ensures.value in
     let count_of = length m.net.ends.items in
     let count : count_of ≡ length s.program.rules = awaits.seen.stands.nodes.shape.count in

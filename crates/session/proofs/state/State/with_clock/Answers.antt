@@ -1,9 +1,12 @@
-use Rattle.session.proofs.Common.{◌≡◌, ◌≤ℤ◌, ◌∙◌, ℕ, ℤ, Bool, List, [], Some, slice_get, sym, subst, ap, to_z, of_z, w64, IfOk-weaker, Fact, Named, Row, cleaned, NetStands, Rule, HeldFacts, facts_of, At, stepped, is_among, HasLeft, over, Awaits, Contents, Standing, IsSound, reached_of, clock_same, safe_left, none_gone, no_tags, later_awaits, later_leads, later_leads_on, none_left, quiet_refreshed, remaining, remaining_is, contents, followed_sound, instant_of, at_clock, Reached, Program, IsOrderly}
+use Rattle.session.proofs.Common.{◌≡◌, ◌≤ℤ◌, ◌∙◌, ℕ, ℤ, Bool, List, [], Some, slice_get, sym, subst, ap, to_z, of_z, w64, IfOk-weaker, Fact, Named, Row}
+use Rattle.session.proofs.Common.{cleaned, NetStands, Rule, HeldFacts, facts_of, At, stepped, is_tag_among, HasLeft, over, Awaits, Contents, Standing, IsSound}
+use Rattle.session.proofs.Common.{reached_of, clock_same, safe_left, none_gone, no_tags, later_awaits, later_leads, later_leads_on, none_left, quiet_refreshed}
+use Rattle.session.proofs.Common.{remaining, remaining_is, contents, followed_sound, instant_of, facts_at_clock, Reached, Program, IsOrderly}
 use Rattle.condition_rows.specs.Sets.{rows_of}
 use Rattle.session.proofs.state.State.with_clock.Goals as goal
 
 -- facts in order at a clock are so whatever entry points have reached
-orderly : (p : Program) (held : HeldFacts) (clock : ℤ) (reached : Reached) → IsOrderly p (at_clock held clock) → IsOrderly p (over (facts_of held) clock reached)
+orderly : (p : Program) (held : HeldFacts) (clock : ℤ) (reached : Reached) → IsOrderly p (facts_at_clock held clock) → IsOrderly p (over (facts_of held) clock reached)
 orderly p held clock reached kept = record { in_order = kept.in_order; present = kept.present; low = kept.low; high = kept.high }
 
 -- the rules have the same rows at two clocks, of those that name no forgotten fact
@@ -45,9 +48,9 @@ returns-then-is_quiet-clause-stands c = IfOk-weaker c.settled.result _ _ (λ t s
     (c.is_quiet.ensures.rows c.if-is_quiet.true s.program before here.seen.forgotten here.seen.stands later kept) in
     let next = stepped s.program w (At c.args.clock) in
     settled next
-    (subst (λ (z : ℤ). Awaits s m (contents k.facts c.take_due.new.self z k.course k.agenda k.next_id k.next_tag) (is_among []) next) (sym same)
-    (later_awaits s m k w here c.requires.runs c.args.clock moves none lawful c.take_due.new.self due takes k.facts left here.seen.all out k.agenda m.net (is_among []) stands
-    (quiet_refreshed s.program (facts_of here.seen.all) k.clock c.args.clock (reached_of k) here.seen.forgotten clean k.agenda) (none_left k.agenda (is_among []))))) c.settled.ensures.stands
+    (subst (λ (z : ℤ). Awaits s m (contents k.facts c.take_due.new.self z k.course k.agenda k.next_id k.next_tag) (is_tag_among []) next) (sym same)
+    (later_awaits s m k w here c.requires.runs c.args.clock moves none lawful c.take_due.new.self due takes k.facts left here.seen.all out k.agenda m.net (is_tag_among []) stands
+    (quiet_refreshed s.program (facts_of here.seen.all) k.clock c.args.clock (reached_of k) here.seen.forgotten clean k.agenda) (none_left k.agenda (is_tag_among []))))) c.settled.ensures.stands
 
 -- where something is
 pub invariant_of-state-2 : goal.invariant_of-state-2
@@ -70,11 +73,11 @@ returns-clause-stands c = IfOk-weaker c.settled-2.result _ _ (λ t settled w st 
     let behind = remaining here.seen.all due in
     let out = remaining_is here.seen.all due in
     let leads = later_leads_on s m k w here c.requires.runs c.args.clock moves none lawful c.take_due.new.self due takes c.without_all.result c.without_all.ensures behind out b in
-    let has_left : HasLeft k.agenda b (is_among c.as_slice-2.result.now) = subst (λ tags. HasLeft k.agenda b (is_among tags)) (sym c.as_slice-2.ensures.value) c.in_ok-agenda.ensures.left in
+    let has_left : HasLeft k.agenda b (is_tag_among c.as_slice-2.result.now) = subst (λ tags. HasLeft k.agenda b (is_tag_among tags)) (sym c.as_slice-2.ensures.value) c.in_ok-agenda.ensures.left in
     let next = stepped s.program w (At c.args.clock) in
     settled next
-    (subst (λ (z : ℤ). Awaits s (record { net = c.followed.new.net; retention = m.retention }) (contents c.without_all.result c.take_due.new.self z k.course b k.next_id k.next_tag) (is_among c.as_slice-2.result.now) next) (sym same)
-    (later_awaits s m k w here c.requires.runs c.args.clock moves none lawful c.take_due.new.self due takes c.without_all.result c.without_all.ensures behind out b c.followed.new.net (is_among c.as_slice-2.result.now)
+    (subst (λ (z : ℤ). Awaits s (record { net = c.followed.new.net; retention = m.retention }) (contents c.without_all.result c.take_due.new.self z k.course b k.next_id k.next_tag) (is_tag_among c.as_slice-2.result.now) next) (sym same)
+    (later_awaits s m k w here c.requires.runs c.args.clock moves none lawful c.take_due.new.self due takes c.without_all.result c.without_all.ensures behind out b c.followed.new.net (is_tag_among c.as_slice-2.result.now)
     ((simp (same, c.moment-moment.ensures.clock, c.moment-moment.ensures.last_starts, c.moment-moment.ensures.promises, c.as_slice.ensures.value) at c.in_ok-agenda.ensures.net) here.seen.all behind here.seen.all (instant_of k) here.seen.forgotten leads here.seen.stands)
     ((simp (same, c.moment-moment.ensures.clock, c.moment-moment.ensures.last_starts, c.moment-moment.ensures.promises, c.as_slice.ensures.value) at c.in_ok-agenda.ensures.agenda) here.seen.all behind here.seen.all (instant_of k) here.seen.forgotten leads here.seen.stands)
     has_left))) c.settled-2.ensures.stands

@@ -1,4 +1,6 @@
-use Rattle.session.proofs.Common.{◌≡◌, ◌∙◌, ◌+◌, false, refl, sym, subst, ap, slice_get, to_z, of_z, w64, IfOk-weaker, Insert, is_present, times_of, stepped, Moves, Contents, IsSound, clock_same, safe_numbers, numbers_await, contents, has_start, Memory, is_among, followed_sound, new_no_more}
+use Rattle.session.proofs.Common.{◌≡◌, ◌∙◌, ◌+◌, false, refl, sym, subst, ap, slice_get, to_z, of_z, w64, IfOk-weaker, Insert, is_present, times_of, stepped}
+use Rattle.session.proofs.Common.{MovesSession, Contents, IsSound, clock_same, safe_numbers, numbers_await, contents, has_start, Memory, is_tag_among}
+use Rattle.session.proofs.Common.{followed_sound, new_no_more}
 use Rattle.session.proofs.state.State.with_numbers.Goals as goal
 
 pub invariant_of-state : goal.invariant_of-state
@@ -16,10 +18,10 @@ returns-clause-stands c =
     let same : to_z w64 (of_z w64 c.state.inside.clock) ≡ c.state.inside.clock = clock_same c.state.inside.clock c.state.invariant.clock_low c.state.invariant.clock_high in
     let n : Memory = record { net = c.followed.new.net; retention = c.args.memory.now.retention } in
     IfOk-weaker c.settled.result _ _
-    (λ s h. subst (λ (z : Contents). Moves c.args.setting.now c.args.memory.now z (Insert f.ty f.entry f.fields) c.settled.new.memory s) c.state.view_is
+    (λ s h. subst (λ (z : Contents). MovesSession c.args.setting.now c.args.memory.now z (Insert f.ty f.entry f.fields) c.settled.new.memory s) c.state.view_is
     (λ w st none lawful. h (stepped p w (Insert f.ty f.entry f.fields))
     (numbers_await c.args.setting.now c.args.memory.now k w st f id at times c.requires.runs none lawful gone n c.in_ok-state-inside.field-0 c.in_ok-agenda.agenda
-    (has_start p f c.state.inside.course c.in_ok-state-inside.field-0 c.in_ok-state-inside.ensures.last_starts c.in_ok-state-inside.ensures.promises c.in_ok-state-inside.ensures.begun) refl (is_among c.as_slice.result.now)
+    (has_start p f c.state.inside.course c.in_ok-state-inside.field-0 c.in_ok-state-inside.ensures.last_starts c.in_ok-state-inside.ensures.promises c.in_ok-state-inside.ensures.begun) refl (is_tag_among c.as_slice.result.now)
     (simp (same, c.moment-moment.ensures.clock, c.moment-moment.ensures.last_starts, c.moment-moment.ensures.promises) at c.in_ok-agenda.ensures.net) (simp (same, c.moment-moment.ensures.clock, c.moment-moment.ensures.last_starts, c.moment-moment.ensures.promises) at c.in_ok-agenda.ensures.agenda)
     (simp (sym c.as_slice.ensures.value) at c.in_ok-agenda.ensures.left))))
     c.settled.ensures.stands

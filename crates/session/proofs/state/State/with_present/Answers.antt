@@ -1,4 +1,6 @@
-use Rattle.session.proofs.Common.{◌≡◌, ◌∙◌, ◌+◌, Some, option_map, true, sym, subst, ap, slice_get, to_z, of_z, w64, IfOk-weaker, Insert, is_present, end_of_presence, times_of, stepped, is_among, Memory, Moves, Contents, IsSound, clock_same, safe_new, present_awaits, got_new, contents, has_start, followed_sound, new_no_more}
+use Rattle.session.proofs.Common.{◌≡◌, ◌∙◌, ◌+◌, Some, option_map, true, sym, subst, ap, slice_get, to_z, of_z, w64, IfOk-weaker, Insert, is_present}
+use Rattle.session.proofs.Common.{end_of_presence, times_of, stepped, is_tag_among, Memory, MovesSession, Contents, IsSound, clock_same, safe_new}
+use Rattle.session.proofs.Common.{present_awaits, got_new, contents, has_start, followed_sound, new_no_more}
 use Rattle.std.specs.FinMap as map
 use Rattle.session.proofs.state.State.with_present.Goals as goal
 
@@ -20,11 +22,11 @@ returns-clause-stands c =
     let come : option_map (λ f. f.now) c.fact.result ≡ Some c.args.fact = c.fact.ensures ∙ ap (λ m. map.get m c.args.fact.tag.0) c.in_ok-state-inside-3.ensures ∙ got_new c.state.inside.facts c.args.fact in
     let n : Memory = record { net = c.followed.new.net; retention = c.hold.new.retention } in
     IfOk-weaker c.settled.result _ _
-    (λ s h. subst (λ (z : Contents). Moves c.args.setting.now c.args.memory.now z (Insert c.args.fact.ty c.args.fact.entry c.args.fact.fields) c.settled.new.memory s) c.state.view_is
+    (λ s h. subst (λ (z : Contents). MovesSession c.args.setting.now c.args.memory.now z (Insert c.args.fact.ty c.args.fact.entry c.args.fact.fields) c.settled.new.memory s) c.state.view_is
     (λ w st none lawful. h (stepped p w (Insert c.args.fact.ty c.args.fact.entry c.args.fact.fields))
     (present_awaits c.args.setting.now c.args.memory.now k w st c.args.fact id at times c.requires.runs none lawful now c.requires.start_high n c.in_ok-state-inside-3.field-0
     c.in_ok-state-inside-2.field-0 c.in_ok-state-inside.field-0 c.in_ok-agenda.agenda c.in_ok-state-inside-3.ensures c.in_ok-state-inside-2.ensures (has_start p c.args.fact c.state.inside.course c.in_ok-state-inside.field-0 c.in_ok-state-inside.ensures.last_starts c.in_ok-state-inside.ensures.promises c.in_ok-state-inside.ensures.begun)
-    c.life_end.result (is_among c.as_slice.result.now) c.life_end.ensures c.in_ok-hold.ensures.due c.in_ok-hold.ensures.lingering
+    c.life_end.result (is_tag_among c.as_slice.result.now) c.life_end.ensures c.in_ok-hold.ensures.due c.in_ok-hold.ensures.lingering
     (simp (same, come, c.moment-moment.ensures.clock, c.moment-moment.ensures.last_starts, c.moment-moment.ensures.promises) at c.in_ok-agenda.ensures.net) (simp (same, come, c.moment-moment.ensures.clock, c.moment-moment.ensures.last_starts, c.moment-moment.ensures.promises) at c.in_ok-agenda.ensures.agenda)
     (simp (sym c.as_slice.ensures.value) at c.in_ok-agenda.ensures.left))))
     c.settled.ensures.stands

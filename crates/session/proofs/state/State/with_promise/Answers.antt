@@ -1,4 +1,5 @@
-use Rattle.session.proofs.Common.{◌≡◌, refl, sym, subst, to_z, of_z, to_z-of_z, w64, IfOk-weaker, Promise, stepped, is_among, Memory, Moves, Contents, IsSound, clock_same, followed_sound, promise_no_more, contents}
+use Rattle.session.proofs.Common.{◌≡◌, refl, sym, subst, to_z, of_z, to_z-of_z, w64, IfOk-weaker, Promise, stepped, is_tag_among, Memory, MovesSession}
+use Rattle.session.proofs.Common.{Contents, IsSound, clock_same, followed_sound, promise_no_more, contents}
 use Rattle.session_laws.proofs.Promising.{has_promise, promise_awaits}
 use Rattle.session.proofs.state.State.with_promise.Goals as goal
 
@@ -11,10 +12,10 @@ returns-clause-stands c =
     let promises = simp whole at c.in_ok-state-inside.ensures.promises in
     let n : Memory = record { net = c.followed.new.net; retention = c.args.memory.now.retention } in
     IfOk-weaker c.settled.result _ _
-    (λ s h. subst (λ (z : Contents). Moves c.args.setting.now c.args.memory.now z (Promise c.args.entry c.args.from) c.settled.new.memory s) c.state.view_is
+    (λ s h. subst (λ (z : Contents). MovesSession c.args.setting.now c.args.memory.now z (Promise c.args.entry c.args.from) c.settled.new.memory s) c.state.view_is
     (λ w st none lawful. h (stepped p w (Promise c.args.entry c.args.from))
     (promise_awaits c.args.setting.now c.args.memory.now k w st c.args.entry c.args.from c.requires.runs none lawful n c.in_ok-state-inside.field-0 c.in_ok-agenda.agenda
-    (has_promise c.args.entry.0 c.args.from c.state.inside.course c.in_ok-state-inside.field-0 promises c.in_ok-state-inside.ensures.last_starts c.in_ok-state-inside.ensures.begun) refl (is_among c.as_slice.result.now)
+    (has_promise c.args.entry.0 c.args.from c.state.inside.course c.in_ok-state-inside.field-0 promises c.in_ok-state-inside.ensures.last_starts c.in_ok-state-inside.ensures.begun) refl (is_tag_among c.as_slice.result.now)
     (simp (same, c.moment-moment.ensures.clock, c.moment-moment.ensures.last_starts, c.moment-moment.ensures.promises) at c.in_ok-agenda.ensures.net) (simp (same, c.moment-moment.ensures.clock, c.moment-moment.ensures.last_starts, c.moment-moment.ensures.promises) at c.in_ok-agenda.ensures.agenda)
     (simp (sym c.as_slice.ensures.value) at c.in_ok-agenda.ensures.left))))
     c.settled.ensures.stands

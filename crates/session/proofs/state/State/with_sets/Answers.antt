@@ -1,4 +1,6 @@
-use Rattle.session.proofs.Common.{◌≡◌, ◌∙◌, ◌+◌, Some, None, option_map, sym, subst, ap, to_z, of_z, w64, arith, IfOk-weaker, Fact, Modify, modify_fault, stepped, is_among, HasLeft, IsNewestTag, newest, Contents, Standing, IsSound, clock_same, fresh_less, safe_again, got_new, contents, followed_sound, instant_of}
+use Rattle.session.proofs.Common.{◌≡◌, ◌∙◌, ◌+◌, Some, None, option_map, sym, subst, ap, to_z, of_z, w64, arith, IfOk-weaker, Fact, Modify, modify_fault}
+use Rattle.session.proofs.Common.{stepped, is_tag_among, HasLeft, IsNewestTag, newest, Contents, Standing, IsSound, clock_same, fresh_less, safe_again, got_new}
+use Rattle.session.proofs.Common.{contents, followed_sound, instant_of}
 use Rattle.session_laws.proofs.Revising.{modify_awaits, modify_leads_on}
 use Rattle.std.specs.FinMap as map
 use Rattle.session.proofs.state.State.with_sets.Goals as goal
@@ -32,10 +34,10 @@ returns-clause-stands c = IfOk-weaker c.settled.result _ _ (λ t settled w st no
     let behind = map.remove both c.args.tag.0 in
     let leads = modify_leads_on s m k w here c.args.id c.args.tag is c.requires.runs c.args.sets plain none lawful c.unwrap-before.result.now after taken c.in_ok-after.ensures facts c.in_ok-state-inside.ensures
     c.take.new.self c.take.ensures.rest b in
-    let has_left : HasLeft k.agenda b (is_among c.as_slice.result.now) = subst (λ tags. HasLeft k.agenda b (is_among tags)) (sym c.as_slice.ensures.value) c.in_ok-agenda.ensures.left in
+    let has_left : HasLeft k.agenda b (is_tag_among c.as_slice.result.now) = subst (λ tags. HasLeft k.agenda b (is_tag_among tags)) (sym c.as_slice.ensures.value) c.in_ok-agenda.ensures.left in
     settled (stepped s.program w (Modify c.args.id c.args.sets))
     (modify_awaits s m k w here c.args.id c.args.tag is c.requires.runs c.args.sets plain none lawful c.unwrap-before.result.now after taken c.in_ok-after.ensures facts c.in_ok-state-inside.ensures
-    c.take.new.self c.take.ensures.rest b c.followed.new.net (is_among c.as_slice.result.now)
+    c.take.new.self c.take.ensures.rest b c.followed.new.net (is_tag_among c.as_slice.result.now)
     ((simp (same, come, c.moment-moment.ensures.clock, c.moment-moment.ensures.last_starts, c.moment-moment.ensures.promises) at c.in_ok-agenda.ensures.net) here.seen.all behind both (instant_of k) here.seen.forgotten leads here.seen.stands)
     ((simp (same, come, c.moment-moment.ensures.clock, c.moment-moment.ensures.last_starts, c.moment-moment.ensures.promises) at c.in_ok-agenda.ensures.agenda) here.seen.all behind both (instant_of k) here.seen.forgotten leads here.seen.stands)
     has_left)) c.settled.ensures.stands

@@ -1,4 +1,5 @@
-use Rattle.session.proofs.Common.{◌≡◌, true, sym, subst, to_z, of_z, w64, IfOk-weaker, Retract, is_of_type, stepped, is_among, HasLeft, IsNewestTag, newest, Contents, Standing, IsSound, clock_same, safe_less, contents, followed_sound, instant_of}
+use Rattle.session.proofs.Common.{◌≡◌, true, sym, subst, to_z, of_z, w64, IfOk-weaker, Retract, is_of_type, stepped, is_tag_among, HasLeft, IsNewestTag, newest}
+use Rattle.session.proofs.Common.{Contents, Standing, IsSound, clock_same, safe_less, contents, followed_sound, instant_of}
 use Rattle.session_laws.proofs.Removing.{retract_awaits, retract_leads_on}
 use Rattle.std.specs.FinMap as map
 use Rattle.session.proofs.state.State.without.Goals as goal
@@ -19,10 +20,10 @@ returns-clause-stands c = IfOk-weaker c.settled.result _ _ (λ t settled w st no
     let b = c.in_ok-agenda.agenda in
     let behind = map.remove here.seen.all c.args.tag.0 in
     let leads = retract_leads_on s m k w here c.args.id c.args.tag is c.requires.runs c.args.ty of_type none lawful c.untimed.result c.untimed.ensures c.take.new.self c.take.ensures.rest b in
-    let has_left : HasLeft k.agenda b (is_among c.as_slice.result.now) = subst (λ tags. HasLeft k.agenda b (is_among tags)) (sym c.as_slice.ensures.value) c.in_ok-agenda.ensures.left in
+    let has_left : HasLeft k.agenda b (is_tag_among c.as_slice.result.now) = subst (λ tags. HasLeft k.agenda b (is_tag_among tags)) (sym c.as_slice.ensures.value) c.in_ok-agenda.ensures.left in
     settled (stepped s.program w (Retract c.args.ty c.args.id))
     (retract_awaits s m k w here c.args.id c.args.tag is c.requires.runs c.args.ty of_type none lawful c.untimed.result c.untimed.ensures c.take.new.self c.take.ensures.rest b
-    c.followed.new.net c.release.new.self (is_among c.as_slice.result.now)
+    c.followed.new.net c.release.new.self (is_tag_among c.as_slice.result.now)
     ((simp (same, c.moment-moment.ensures.clock, c.moment-moment.ensures.last_starts, c.moment-moment.ensures.promises) at c.in_ok-agenda.ensures.net) here.seen.all behind here.seen.all (instant_of k) here.seen.forgotten leads here.seen.stands)
     ((simp (same, c.moment-moment.ensures.clock, c.moment-moment.ensures.last_starts, c.moment-moment.ensures.promises) at c.in_ok-agenda.ensures.agenda) here.seen.all behind here.seen.all (instant_of k) here.seen.forgotten leads here.seen.stands)
     has_left c.release.ensures.due c.release.ensures.lingering)) c.settled.ensures.stands

@@ -1,4 +1,4 @@
-use Rattle.tally_node.proofs.Common.{◌≡◌, ◌∙◌, sym, ap, refl, List, ◌&&◌, Named, has_name, has_right, passing}
+use Rattle.tally_node.proofs.Common.{◌≡◌, ◌∙◌, sym, ap, refl, List, Named, has_name, has_right, passing}
 use Rattle.tally_node.proofs.Beside.{none_beyond, positive, beyond_is}
 use Rattle.tally_node.proofs.node.TallyNode.extra_beside.Goals as goal
 

@@ -1,4 +1,4 @@
-use Rattle.tally_node.proofs.Common.{◌∙◌, sym, ap, subst, ◌+◌, ◌++◌, ◌∷◌, [], take, List, take_more, Row, has, InOrder, IsBeside}
+use Rattle.tally_node.proofs.Common.{◌∙◌, sym, ap, subst, ◌++◌, ◌∷◌, [], take, List, take_more, Row, has, InOrder, TellsBeside}
 use Rattle.tally_node.proofs.Beside.{extras_of}
 use Rattle.tally_node.proofs.Following.{take_all}
 use Rattle.tally_node.proofs.Searching.{AreListed, listed_more}
@@ -14,7 +14,7 @@ loop-row-preserved g c =
     let rows = c.deref-row-items.result.now in
     let i = c.loop-row.row-index in
     let row = c.row-item.result in
-    let beside = IsBeside (g.T.Tally.holds c.args.plan.now) (g.T.Tally.gathered c.args.plan.now) m look c.args.rule c.args.condition in
+    let beside = TellsBeside (g.T.Tally.holds c.args.plan.now) (g.T.Tally.gathered c.args.plan.now) m look c.args.rule c.args.condition in
     subst (λ (rs : List Row). AreListed beside rs c.add_extra.new.extras.items) (sym (take_more rows i row c.loop-row-test.true ∙ ap (λ (r : Row). take i rows ++ r ∷ []) (sym c.row-item.is)))
     (listed_more beside (take i rows) c.loop-row.extras.items c.add_extra.new.extras.items row c.in_ok-found.found c.loop-row.invariant c.in_ok-found.ensures c.in_ok-add_extra.ensures)
 
@@ -27,4 +27,4 @@ returns g c =
     let gathered = g.T.Tally.gathered c.args.plan.now in
     extras_of holds gathered m look c.args.rule c.args.condition rows c.loop-row.extras.items (subst InOrder (sym c.deref-row-items.ensures.value) c.in_ok-rows.ensures.in_order)
     (λ l agrees row. ap (λ (rs : List Row). has rs row) c.deref-row-items.ensures.value ∙ c.in_ok-rows.ensures.rows l agrees row)
-    (subst (λ (rs : List Row). AreListed (IsBeside holds gathered m look c.args.rule c.args.condition) rs c.loop-row.extras.items) (take_all rows c.loop-row.row-index c.loop-row-test.false) c.loop-row.invariant)
+    (subst (λ (rs : List Row). AreListed (TellsBeside holds gathered m look c.args.rule c.args.condition) rs c.loop-row.extras.items) (take_all rows c.loop-row.row-index c.loop-row-test.false) c.loop-row.invariant)

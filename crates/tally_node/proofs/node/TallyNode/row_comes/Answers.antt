@@ -1,5 +1,7 @@
-use Rattle.tally_node.proofs.Common.{◌≡◌, ◌∙◌, sym, ap, refl, subst, cond, List, Some, None, ◌||◌, true, fun_ext, eq_by_cmp, Named, Row, row_cmp, leads_alike, joins, has_name, left_at, has_left, has_right, Keeps, row_decides, row_present, shown, passing, AllArrive}
-use Rattle.tally_node.proofs.Following.{first_of, arrives_there, arrives_one}
+use Rattle.tally_node.proofs.Common.{◌≡◌, ◌∙◌, sym, ap, refl, subst, cond, List, Some, None, ◌||◌, true, fun_ext, eq_by_cmp, Named, Row, row_cmp, leads_alike}
+use Rattle.tally_node.proofs.Common.{joins, has_name, left_at, has_left, has_right, KeepsMemories, row_decides, row_present, shown, passing, AllArrive}
+use Rattle.tally_node.proofs.Common.{and_first}
+use Rattle.tally_node.proofs.Following.{arrives_there, arrives_one}
 use Rattle.tally_node.proofs.Parts.{unmoved}
 use Rattle.tally_node.proofs.Turning.{put_shown, shown_from, none_output}
 use Rattle.tally_node.proofs.node.TallyNode.row_comes.Goals as goal
@@ -30,11 +32,11 @@ returns g c =
     let named : (x : Named) → has_name c.as_slice.result.now x ≡ passing m.pattern look (has_right m look) row x =
     λ x. ap (λ (names : List Named). has_name names x) c.as_slice.ensures.value ∙ c.in_ok-names.ensures.names x in
     record {
-      keeps = subst (λ (copy : Row). Keeps m n look (λ r. has_left m look r || eq_by_cmp row_cmp copy r) (has_right m look)) c.in_ok-copy.ensures c.in_ok-put_left.ensures.keeps;
+      keeps = subst (λ (copy : Row). KeepsMemories m n look (λ r. has_left m look r || eq_by_cmp row_cmp copy r) (has_right m look)) c.in_ok-copy.ensures c.in_ok-put_left.ensures.keeps;
       tallies = λ world alike r.
           arrives_one holds world (eq_by_cmp row_cmp row r) (passing m.pattern look (has_right m look) r) (left_at m look r) (left_at n look r) tally (λ e. ap (has_left m look) (sym ((row_decides row r).0 e)) ∙ absent) (put r)
           (λ e. subst (holds tally world) (fun_ext (λ x. named x ∙ ap (λ (l : Row). passing m.pattern look (has_right m look) l x) ((row_decides row r).0 e)))
-          (c.in_ok-tally.ensures world (λ x f. alike x (first_of (has_right m look x) (joins m.pattern look row x) (sym (named x) ∙ f)))));
+          (c.in_ok-tally.ensures world (λ x f. alike x (and_first (has_right m look x) (joins m.pattern look row x) (sym (named x) ∙ f)))));
       leads = λ old leads.
           leads_alike old _ _ _ _
           (c.in_ok-note.ensures old (shown g.T.Tally.origin g.T.Tally.gives output m look) leads

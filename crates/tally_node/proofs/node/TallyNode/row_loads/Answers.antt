@@ -1,5 +1,8 @@
-use Rattle.tally_node.proofs.Common.{◌≡◌, ◌∙◌, sym, ap, refl, subst, cond, List, Some, None, ◌||◌, true, Bool, Bor, fun_ext, option_map, eq_by_cmp, Extra, Named, Row, row_cmp, leads_alike, Look, joins, has_name, left_at, has_left, has_right, Keeps, row_decides, row_present, IsLaden, shown, passing, AllLoaded}
-use Rattle.tally_node.proofs.Following.{first_of, arrives_there, arrives_one}
+use Rattle.tally_node.proofs.Common.{◌≡◌, ◌∙◌, sym, ap, refl, subst, cond, List, Some, None, ◌||◌, true, Bool, Bor, fun_ext, option_map, eq_by_cmp, Extra}
+use Rattle.tally_node.proofs.Common.{Named, Row, row_cmp, leads_alike, joins, has_name, left_at, has_left, has_right, KeepsMemories, row_decides, row_present}
+use Rattle.tally_node.proofs.Common.{IsTallyLaden, shown, passing, AllLoaded}
+use Rattle.fx_base.proofs.Tests.{and_first}
+use Rattle.tally_node.proofs.Following.{arrives_there, arrives_one}
 use Rattle.tally_node.proofs.Parts.{unmoved}
 use Rattle.tally_node.proofs.Turning.{put_shown, shown_from, none_output}
 use Rattle.tally_node.proofs.node.TallyNode.row_loads.Goals as goal
@@ -15,7 +18,7 @@ returns-then-has_left g c =
     let there : has_left m look row ≡ true = sym c.has_left.ensures ∙ c.if-has_left.true in
     unmoved g.T.Tally.origin g.T.Tally.gives (g.T.Tally.output c.args.plan.now) (AllLoaded holds laden look (λ r. o) (eq_by_cmp row_cmp row)) m m look _ (has_right m look) c.args.change.now
     (record { pattern = refl; rows = row_present (has_left m look) row there; names = λ n. refl; agrees = λ before. before }) (λ r. refl)
-    (λ world alike r. arrives_there (λ t world set. IsLaden holds laden t world set o) world (eq_by_cmp row_cmp row r) _ (left_at m look r) (λ e. ap (has_left m look) (sym ((row_decides row r).0 e)) ∙ there))
+    (λ world alike r. arrives_there (λ t world set. IsTallyLaden holds laden t world set o) world (eq_by_cmp row_cmp row r) _ (left_at m look r) (λ e. ap (has_left m look) (sym ((row_decides row r).0 e)) ∙ there))
 
 pub returns : goal.returns
 returns g c =
@@ -34,11 +37,11 @@ returns g c =
     let named : (x : Named) → has_name c.as_slice.result.now x ≡ passing m.pattern look (has_right m look) row x =
     λ x. ap (λ (names : List Named). has_name names x) c.as_slice.ensures.value ∙ c.in_ok-names.ensures.names x in
     record {
-      keeps = subst (λ (copy : Row). Keeps m n look (λ r. has_left m look r || eq_by_cmp row_cmp copy r) (has_right m look)) c.in_ok-copy.ensures c.in_ok-put_left.ensures.keeps;
+      keeps = subst (λ (copy : Row). KeepsMemories m n look (λ r. has_left m look r || eq_by_cmp row_cmp copy r) (has_right m look)) c.in_ok-copy.ensures c.in_ok-put_left.ensures.keeps;
       tallies = λ world alike r.
-          arrives_one (λ t world set. IsLaden holds laden t world set o) world (eq_by_cmp row_cmp row r) (passing m.pattern look (has_right m look) r) (left_at m look r) (left_at n look r) tally (λ e. ap (has_left m look) (sym ((row_decides row r).0 e)) ∙ absent) (put r)
-          (λ e. subst (λ (set : Named → Bool). IsLaden holds laden tally world set o) (fun_ext (λ x. named x ∙ ap (λ (l : Row). passing m.pattern look (has_right m look) l x) ((row_decides row r).0 e)))
-          (c.in_ok-tally.ensures world (λ x f. alike x (first_of (has_right m look x) (joins m.pattern look row x) (sym (named x) ∙ f)))));
+          arrives_one (λ t world set. IsTallyLaden holds laden t world set o) world (eq_by_cmp row_cmp row r) (passing m.pattern look (has_right m look) r) (left_at m look r) (left_at n look r) tally (λ e. ap (has_left m look) (sym ((row_decides row r).0 e)) ∙ absent) (put r)
+          (λ e. subst (λ (set : Named → Bool). IsTallyLaden holds laden tally world set o) (fun_ext (λ x. named x ∙ ap (λ (l : Row). passing m.pattern look (has_right m look) l x) ((row_decides row r).0 e)))
+          (c.in_ok-tally.ensures world (λ x f. alike x (and_first (has_right m look x) (joins m.pattern look row x) (sym (named x) ∙ f)))));
       leads = λ old leads.
           leads_alike old _ _ _ _
           (c.in_ok-note.ensures old (shown g.T.Tally.origin g.T.Tally.gives output m look) leads

@@ -1,4 +1,5 @@
-use Rattle.tally_node.proofs.Common.{◌∙◌, sym, ap, subst, ◌+◌, ◌||◌, take, Bor, eq_by_cmp, option_map, Extra, has, row_cmp, InOrder, same_equiv, has_left, has_right, row_decides, more_more, extra_for, rows_of_extras, PartStep, AllLoaded, shown}
+use Rattle.tally_node.proofs.Common.{◌∙◌, ap, subst, ◌+◌, ◌||◌, take, Bor, eq_by_cmp, option_map, Extra, has, row_cmp, InOrder, same_equiv, has_left, has_right}
+use Rattle.tally_node.proofs.Common.{row_decides, more_more, extra_for, rows_of_extras, PartStep, AllLoaded, shown}
 use Rattle.tally_node.proofs.Following.{rows_more, take_all}
 use Rattle.tally_node.proofs.Loading.{load_then}
 use Rattle.tally_node.proofs.Parts.{part_then}

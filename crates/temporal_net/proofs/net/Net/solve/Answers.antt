@@ -1,4 +1,5 @@
-use Rattle.temporal_net.proofs.Common.{◌≡◌, ℕ, ◌+◌, ◌<◌, ◌≤◌, length, false, sym, ◌∙◌, ap, subst, arith, cell, lowered, loses_over, AllShort, AreTable, HaveWays}
+use Rattle.temporal_net.proofs.Common.{◌≡◌, ℕ, ◌+◌, ◌<◌, ◌≤◌, length, false, sym, ◌∙◌, ap, subst, arith, cell, lowered, loses_over, AllShort, AreTable}
+use Rattle.temporal_net.proofs.Common.{HaveWays}
 use Rattle.temporal_net.proofs.Bounds.{solvable}
 use Rattle.temporal_net.proofs.Cycles.{all_short, next_rows}
 use Rattle.temporal_net.proofs.Solved.{written_back}

@@ -1,4 +1,6 @@
-use Rattle.window_gate.proofs.Common.{sym, subst, ℤ, List, map, to_z-of_z, IsBetween, Time, Length, Kept, Arrival, named_of, after, rows_inside, TagsDiffer, Keeps, KeepsTime, KeepsLength, MayChange, between_disjoint, Stands, Takes, MayPass, window_kept, window_of}
+use Rattle.window_gate.proofs.Common.{sym, subst, ℤ, List, map, to_z-of_z, IsBetween, Time, Length, Kept, Arrival, named_of, after, rows_inside, TagsDiffer}
+use Rattle.window_gate.proofs.Common.{KeepsWindow, KeepsTime, KeepsLength, MayChange, StandsForArrivals, TakesChange, MayPass, window_kept, window_of}
+use Rattle.window_gate.proofs.Common.{between_disjoint}
 use Rattle.window_gate.proofs.Insides.{differ_after}
 use Rattle.window_gate.proofs.gate.Gate.step.Goals as goal
 
@@ -8,7 +10,7 @@ returns-in_ok-delta-in-Whole-clause-stands c arrivals was stands takes = record 
   keeps = tt;
 }
 
-whole_between : (c : goal.In_ok-delta-in-Whole) (arrivals : List Arrival) (was : ℤ) → Stands c.args.self arrivals was → Takes (window_of c.args.self) arrivals was c.args.change.now c.args.now
+whole_between : (c : goal.In_ok-delta-in-Whole) (arrivals : List Arrival) (was : ℤ) → StandsForArrivals c.args.self arrivals was → TakesChange (window_of c.args.self) arrivals was c.args.change.now c.args.now
     → IsBetween (rows_inside (window_of c.args.self) was arrivals) (rows_inside (window_of c.args.self) c.args.now (after arrivals c.args.change.now)) c.in_ok-delta-in-Whole.delta
 whole_between c arrivals was stands takes =
     let P : Kept → Type 0 = λ kept. MayChange (window_kept kept) (map named_of arrivals) c.args.change.now
@@ -35,15 +37,15 @@ pub returns-in_ok-window-in-Time-clause-stands : goal.returns-in_ok-window-in-Ti
 returns-in_ok-window-in-Time-clause-stands c arrivals was stands takes = record {
   tags = differ_after (window_of c.args.self) arrivals c.args.change.now stands.tags takes.changes;
   keeps =
-      let P : Kept → Type 0 = λ kept. Keeps kept arrivals was → MayPass (window_kept kept) was c.args.now → MayChange (window_kept kept) (map named_of arrivals) c.args.change.now
+      let P : Kept → Type 0 = λ kept. KeepsWindow kept arrivals was → MayPass (window_kept kept) was c.args.now → MayChange (window_kept kept) (map named_of arrivals) c.args.change.now
       → KeepsTime c.in_ok-window-in-Time.window (after arrivals c.args.change.now) c.args.now in
       subst P (sym c.in-Time.is) (λ keeps pass may. time_keeps c arrivals was keeps stands.tags pass may) stands.keeps takes.passes takes.changes;
 }
 
-all_time : (c : goal.In_ok-window-in-Time) (arrivals : List Arrival) (was : ℤ) → Stands c.args.self arrivals was → Takes (window_of c.args.self) arrivals was c.args.change.now c.args.now
+all_time : (c : goal.In_ok-window-in-Time) (arrivals : List Arrival) (was : ℤ) → StandsForArrivals c.args.self arrivals was → TakesChange (window_of c.args.self) arrivals was c.args.change.now c.args.now
     → IsBetween (rows_inside (window_of c.args.self) was arrivals) (rows_inside (window_of c.args.self) c.args.now (after arrivals c.args.change.now)) c.in_ok-window-in-Time.delta
 all_time c arrivals was stands takes =
-    let P : Kept → Type 0 = λ kept. Keeps kept arrivals was → MayPass (window_kept kept) was c.args.now → MayChange (window_kept kept) (map named_of arrivals) c.args.change.now
+    let P : Kept → Type 0 = λ kept. KeepsWindow kept arrivals was → MayPass (window_kept kept) was c.args.now → MayChange (window_kept kept) (map named_of arrivals) c.args.change.now
     → IsBetween (rows_inside (window_kept kept) was arrivals) (rows_inside (window_kept kept) c.args.now (after arrivals c.args.change.now)) c.in_ok-window-in-Time.delta in
     subst P (sym c.in-Time.is) (λ keeps pass may. time_between c arrivals was keeps stands.tags pass may) stands.keeps takes.passes takes.changes
 
@@ -67,15 +69,15 @@ pub returns-in_ok-window-in-Length-clause-stands : goal.returns-in_ok-window-in-
 returns-in_ok-window-in-Length-clause-stands c arrivals was stands takes = record {
   tags = differ_after (window_of c.args.self) arrivals c.args.change.now stands.tags takes.changes;
   keeps =
-      let P : Kept → Type 0 = λ kept. Keeps kept arrivals was → MayChange (window_kept kept) (map named_of arrivals) c.args.change.now
+      let P : Kept → Type 0 = λ kept. KeepsWindow kept arrivals was → MayChange (window_kept kept) (map named_of arrivals) c.args.change.now
       → KeepsLength c.in_ok-window-in-Length.window (after arrivals c.args.change.now) c.args.now in
       subst P (sym c.in-Length.is) (λ keeps may. length_keeps c arrivals was keeps stands.tags may) stands.keeps takes.changes;
 }
 
-all_length : (c : goal.In_ok-window-in-Length) (arrivals : List Arrival) (was : ℤ) → Stands c.args.self arrivals was → Takes (window_of c.args.self) arrivals was c.args.change.now c.args.now
+all_length : (c : goal.In_ok-window-in-Length) (arrivals : List Arrival) (was : ℤ) → StandsForArrivals c.args.self arrivals was → TakesChange (window_of c.args.self) arrivals was c.args.change.now c.args.now
     → IsBetween (rows_inside (window_of c.args.self) was arrivals) (rows_inside (window_of c.args.self) c.args.now (after arrivals c.args.change.now)) c.in_ok-window-in-Length.delta
 all_length c arrivals was stands takes =
-    let P : Kept → Type 0 = λ kept. Keeps kept arrivals was → MayChange (window_kept kept) (map named_of arrivals) c.args.change.now
+    let P : Kept → Type 0 = λ kept. KeepsWindow kept arrivals was → MayChange (window_kept kept) (map named_of arrivals) c.args.change.now
     → IsBetween (rows_inside (window_kept kept) was arrivals) (rows_inside (window_kept kept) c.args.now (after arrivals c.args.change.now)) c.in_ok-window-in-Length.delta in
     subst P (sym c.in-Length.is) (λ keeps may. length_between c arrivals was keeps stands.tags may) stands.keeps takes.changes
 

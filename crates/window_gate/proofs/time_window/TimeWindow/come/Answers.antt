@@ -1,4 +1,4 @@
-use Rattle.window_gate.proofs.Common.{◌≡◌, ◌+ℤ◌, sym, subst, rules, arith, ints, FitsSigned, w64, to_z-of_z, GateChange, Time, MayChange, brings, Enter}
+use Rattle.window_gate.proofs.Common.{◌≡◌, ◌+ℤ◌, sym, subst, rules, arith, FitsSigned, w64, ints, to_z-of_z, GateChange, Time, MayChange, brings, Enter}
 use Rattle.window_gate.proofs.Holding.{enter_none, not_come}
 use Rattle.window_gate.proofs.Times.{moment_is}
 use Rattle.window_gate.proofs.time_window.TimeWindow.come.Goals as goal

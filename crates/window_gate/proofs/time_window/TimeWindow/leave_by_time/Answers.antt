@@ -1,4 +1,4 @@
-use Rattle.window_gate.proofs.Common.{sym, subst, to_z-of_z, has_come, Leave}
+use Rattle.window_gate.proofs.Common.{sym, subst, to_z-of_z, has_time_come, Leave}
 use Rattle.window_gate.proofs.Holding.{one_more_left, one_more_due, all_due_left}
 use Rattle.window_gate.proofs.time_window.TimeWindow.leave_by_time.Goals as goal
 
@@ -17,5 +17,5 @@ pub returns : goal.returns
 returns c =
     let time = c.ranges.now in
     let none = c.in_default.ensures in
-    subst (λ w. Leave c.args.self.now w (λ _ one. has_come c.args.self.now.millis c.args.now one) c.due.left.items) (sym none.unchanged)
+    subst (λ w. Leave c.args.self.now w (λ _ one. has_time_come c.args.self.now.millis c.args.now one) c.due.left.items) (sym none.unchanged)
     (all_due_left c.args.now c.args.self.now c.due.self c.due.left.items c.due.invariant.leave (simp to_z-of_z at c.due.invariant.due) (simp to_z-of_z at none.none))

@@ -1,4 +1,4 @@
-use Rattle.window_gate.proofs.Common.{◌≤ℤ◌, ◌∙◌, sym, ap, subst, map, to_z-of_z, List, most, Named, Time, MayChange, single, leaves, brings, Leave, Enter}
+use Rattle.window_gate.proofs.Common.{◌≤ℤ◌, ◌∙◌, sym, ap, subst, map, List, to_z-of_z, most, MayChange, Named, Time, single, leaves, brings, Leave, Enter}
 use Rattle.window_gate.proofs.Lengths.{slice_is}
 use Rattle.window_gate.proofs.Times.{step_keeps, step_between}
 use Rattle.window_gate.proofs.time_window.TimeWindow.step.Goals as goal

@@ -1,0 +1,8 @@
+use Rattle.change_read.proofs.Common.{◌∙◌}
+use Rattle.change_read.proofs.Merging.{are_whole}
+use Rattle.change_read.proofs.merge.has_fields.Goals as goal
+
+pub returns : goal.returns
+returns c =
+    c.are_all.ensures
+    ∙ are_whole c.args.fields.now c.args.members.now c.deref.result.now c.in_ok-named.all_given (c.deref.ensures.value ∙ c.in_ok-named.ensures.named) c.in_ok-named.ensures.given

@@ -1,5 +1,0 @@
-use Rattle.fold_fn.proofs.Common.{◌≡◌, ◌++◌, repeated}
-use Rattle.fold_fn.proofs.tree_multiset.TreeMultiset.values.Given as goal
-
-abbrev pub invariant-loop-value : goal.invariant-loop-value
-invariant-loop-value l = l.values.items ++ repeated l.value-iterator ≡ repeated l.initial.value-iterator

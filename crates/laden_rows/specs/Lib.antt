@@ -1,0 +1,3 @@
+pub mod Extras
+pub mod Laden
+pub mod Placed

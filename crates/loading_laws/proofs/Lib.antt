@@ -1,4 +1,0 @@
-mod Common
-pub mod Gates
-pub mod Lines
-pub mod Naming

@@ -1,5 +1,0 @@
-use Rattle.loading_laws.proofs.Gates.{gate_of_all}
-use Rattle.loading_laws.proofs.laws.a_gate_needs_what_its_window_does_not_let_be.Goals as goal
-
-pub returns : goal.returns
-returns c p q gate s t is also has stands = gate_of_all p q s t is.in_order also.in_order has gate stands
