@@ -1,0 +1,13 @@
+"""A client of the program `replay`, to import: docs/LIVE.md says how it is used.
+
+    from sozhipen import Session
+"""
+
+from .answers import ClientError, Ended, Fact, Fault, Firing, NoProgram, NotKnown
+from .lines import Script
+from .ordering import Ordered
+from .session import Answer, Session, program_words
+from .times import date_of, milliseconds
+
+__all__ = ["Answer", "ClientError", "Ended", "Fact", "Fault", "Firing", "NoProgram", "NotKnown", "Ordered", "Script",
+           "Session", "date_of", "milliseconds", "program_words"]

@@ -1,0 +1,226 @@
+"""The image of a run: what is kept of it, and its bytes, exactly one spelling of each image.
+
+The bytes are `FXC1` and the fields in their order. Numbers of 8, 16 or 64 bits stand with the highest byte first, those
+with a sign in two's complement; a truth value is a byte 0 or 1; a list is its length, of 64 bits, and its members; a
+text is the list of its bytes, in UTF-8; a value is a byte 0, 1 or 2 for a whole number, a truth value or a text, and
+its content. Nothing follows.
+"""
+
+from __future__ import annotations
+
+import builtins
+from dataclasses import dataclass
+from typing import Callable, TypeVar
+
+from ..meaning.trees import Value
+
+HEAD = b"FXC1"
+
+T = TypeVar("T")
+
+
+@dataclass(frozen=True)
+class RunPart:
+    """The text of the rule file, the lines of the script and the firings so far, and whether a line was faulty."""
+    rules: bytes
+    lines: int
+    firings: int
+    faulty: bool
+
+
+@dataclass(frozen=True)
+class Named:
+    id: int
+    tag: int
+
+
+@dataclass(frozen=True)
+class ImageRow:
+    facts: tuple[Named, ...]
+    values: tuple[int, ...]
+
+    @property
+    def tags(self) -> tuple[int, ...]:
+        return tuple(n.tag for n in self.facts)
+
+
+@dataclass(frozen=True)
+class ImageFact:
+    """A fact with the numbers of its type and its entry point, and the values of its fields in the order of
+    declaration."""
+    id: int
+    type: int
+    entry: int
+    fields: tuple[Value, ...]
+    tag: int
+    start: int
+    end: int
+
+
+@dataclass(frozen=True)
+class FiredMatch:
+    rule: int
+    row: ImageRow
+
+
+@dataclass(frozen=True)
+class Extra:
+    """What a condition of a rule counts for a row beyond the facts of the image: so many facts, and the values that an
+    accumulate takes of them."""
+    rule: int
+    condition: int
+    row: ImageRow
+    count: int
+    values: tuple[int, ...]
+
+
+@dataclass(frozen=True)
+class Image:
+    run: RunPart
+    clock: int
+    begun: bool
+    last_starts: tuple[int, ...]
+    promises: tuple[int, ...]
+    next_id: int
+    next_tag: int
+    facts: tuple[ImageFact, ...]
+    fired: tuple[FiredMatch, ...]
+    extras: tuple[Extra, ...]
+
+
+# ---- bytes of an image
+
+
+def unsigned(n: int, size: int = 8) -> bytes:
+    return n.to_bytes(size, "big")
+
+
+def signed(n: int) -> bytes:
+    return n.to_bytes(8, "big", signed=True)
+
+
+def flag(b: bool) -> bytes:
+    return unsigned(int(b), 1)
+
+
+def listed(write: Callable[[T], bytes], parts: tuple[T, ...]) -> bytes:
+    return unsigned(len(parts)) + b"".join(map(write, parts))
+
+
+def string(data: bytes) -> bytes:
+    return unsigned(len(data)) + data
+
+
+def value_bytes(value: Value) -> bytes:
+    if isinstance(value, bool):
+        return b"\x01" + flag(value)
+    return b"\x00" + signed(value) if isinstance(value, int) else b"\x02" + string(value.encode("utf-8"))
+
+
+def row_bytes(row: ImageRow) -> bytes:
+    return listed(lambda n: unsigned(n.id) + unsigned(n.tag), row.facts) + listed(signed, row.values)
+
+
+def fact_bytes(f: ImageFact) -> bytes:
+    return (unsigned(f.id) + unsigned(f.type, 2) + unsigned(f.entry, 2) + listed(value_bytes, f.fields)
+            + unsigned(f.tag) + signed(f.start) + signed(f.end))
+
+
+def extra_bytes(e: Extra) -> bytes:
+    return (unsigned(e.rule, 2) + unsigned(e.condition, 1) + row_bytes(e.row) + unsigned(e.count)
+            + listed(signed, e.values))
+
+
+def encode(image: Image) -> bytes:
+    run = image.run
+    return (HEAD + string(run.rules) + unsigned(run.lines) + unsigned(run.firings) + flag(run.faulty)
+            + signed(image.clock) + flag(image.begun) + listed(signed, image.last_starts)
+            + listed(signed, image.promises) + unsigned(image.next_id) + unsigned(image.next_tag)
+            + listed(fact_bytes, image.facts) + listed(lambda m: unsigned(m.rule, 2) + row_bytes(m.row), image.fired)
+            + listed(extra_bytes, image.extras))
+
+
+# ---- an image of bytes
+
+
+class BadImage(Exception):
+    """The bytes are no image's."""
+
+
+class ImageReader:
+    """Takes values from the front of bytes."""
+
+    def __init__(self, data: bytes):
+        self.data, self.place = data, 0
+
+    def bytes(self, count: int) -> bytes:
+        if count > len(self.data) - self.place:
+            raise BadImage
+        self.place += count
+        return self.data[self.place - count:self.place]
+
+    def unsigned(self, size: int = 8) -> int:
+        return int.from_bytes(self.bytes(size), "big")
+
+    def signed(self) -> int:
+        return int.from_bytes(self.bytes(8), "big", signed=True)
+
+    def flag(self) -> bool:
+        byte = self.unsigned(1)
+        if byte > 1:
+            raise BadImage
+        return byte == 1
+
+    def listed(self, read: Callable[[], T]) -> tuple[T, ...]:
+        """Each member has a byte at least, so a length beyond the bytes that are left is none."""
+        count = self.unsigned()
+        if count > len(self.data) - self.place:
+            raise BadImage
+        return tuple(read() for _ in range(count))
+
+    def string(self) -> builtins.bytes:
+        return self.bytes(self.unsigned())
+
+    def value(self) -> Value:
+        kind = self.unsigned(1)
+        if kind == 0:
+            return self.signed()
+        if kind == 1:
+            return self.flag()
+        if kind != 2:
+            raise BadImage
+        try:
+            return self.string().decode("utf-8")
+        except UnicodeDecodeError:
+            raise BadImage from None
+
+    def row(self) -> ImageRow:
+        return ImageRow(self.listed(lambda: Named(self.unsigned(), self.unsigned())), self.listed(self.signed))
+
+    def fact(self) -> ImageFact:
+        return ImageFact(self.unsigned(), self.unsigned(2), self.unsigned(2), self.listed(self.value), self.unsigned(),
+                         self.signed(), self.signed())
+
+    def fired(self) -> FiredMatch:
+        return FiredMatch(self.unsigned(2), self.row())
+
+    def extra(self) -> Extra:
+        return Extra(self.unsigned(2), self.unsigned(1), self.row(), self.unsigned(), self.listed(self.signed))
+
+    def run(self) -> RunPart:
+        return RunPart(self.string(), self.unsigned(), self.unsigned(), self.flag())
+
+    def image(self) -> Image:
+        if self.bytes(len(HEAD)) != HEAD:
+            raise BadImage
+        found = Image(self.run(), self.signed(), self.flag(), self.listed(self.signed), self.listed(self.signed),
+                      self.unsigned(), self.unsigned(), self.listed(self.fact), self.listed(self.fired),
+                      self.listed(self.extra))
+        if self.place < len(self.data):
+            raise BadImage
+        return found
+
+
+def decode(data: bytes) -> Image:
+    """The image that has these bytes, or BadImage."""
+    return ImageReader(data).image()

@@ -1,0 +1,186 @@
+"""The loads by the second evaluator, and measuring over small programs that stand for others."""
+
+import contextlib
+import io
+import os
+import re
+import tempfile
+import unittest
+from pathlib import Path
+from random import Random
+from unittest import mock
+
+from support import evaluator
+
+from sozhipen_tools.bench import measure
+from sozhipen_tools.bench.loads import FIRE, LOADS
+
+# Loads that are to fire nothing, such as do not in 200 lines, and in how many lines some of these do.
+NEVER = {"bare", "blank", "clocks", "skewed", "pile", "retracted", "cascade", "expiring", "burst", "burst_life",
+         "strangers", "strangers_one", "many_nots", "many_nots_one"}
+SELDOM = {"churn", "wide", "wide_one", "texts", "fields", "sums", "lengths", "forgetful", "forgetful_one"}
+LONGER = {"churn": 800, "wide": 400, "forgetful": 600}
+
+CLIPS = """grep -c . < "$(sed -n 's/^(load-facts "\\(.*\\)")$/\\1/p' "$2")" > counted
+while read -r facts; do for fact in $(seq "$facts"); do echo "fire $fact"; done; done < counted
+"""
+VALGRIND = 'echo "==1== Collected : $(( 1000 + 5 * $(wc -l) ))" >&2'
+
+
+class Case(unittest.TestCase):
+    def setUp(self) -> None:
+        folder = tempfile.TemporaryDirectory()
+        self.addCleanup(folder.cleanup)
+        self.folder = Path(folder.name)
+        path = mock.patch.dict(os.environ, {"PATH": f"{self.folder}{os.pathsep}{os.environ['PATH']}"})
+        path.start()
+        self.addCleanup(path.stop)
+        measure.adopt_orphans()
+
+    def program(self, name: str, commands: str) -> str:
+        file = self.folder / name
+        file.write_text(f"#!/bin/sh\n{commands}\n", encoding="utf-8")
+        file.chmod(0o755)
+        return str(file)
+
+    def evaluator(self) -> str:
+        return str(evaluator(self.folder, "reference.replay"))
+
+    def told(self, *words: object) -> tuple[int, str]:
+        """The status and the output of a call."""
+        with contextlib.redirect_stdout(io.StringIO()) as out:
+            status = measure.main([*map(str, words)])
+        return status, out.getvalue()
+
+    def refused(self, *words: object) -> str:
+        with contextlib.redirect_stderr(io.StringIO()) as err, self.assertRaises(SystemExit) as ended:
+            measure.main([*map(str, words)])
+        self.assertEqual(ended.exception.code, 2)
+        return err.getvalue().splitlines()[-1]
+
+
+class Loads(Case):
+    def fired(self, name: str, n: int) -> int:
+        files = measure.written(self.folder, name, n)
+        spent = measure.ran(measure.program_words(self.evaluator(), files), files.script, self.folder)
+        self.assertEqual(spent.status, 0, (self.folder / "printed").read_text(encoding="utf-8")[:200])
+        return spent.fired
+
+    def test_images_of_the_evaluator(self) -> None:
+        status, told = self.told("--replay", self.evaluator(), "--runs", "1", "--images", "inserts:40")
+        self.assertEqual(status, 0)
+        self.assertRegex(told,
+                         r"  saved in -?\d+\.\d{3} s, peak \d\.\d\d  image 0\.0 MiB  resumed in \d+\.\d{3} s, peak "
+                         r"\d\.\d\d\n")
+
+    def test_each_is_accepted_and_fires(self) -> None:
+        for name in LOADS:
+            with self.subTest(name):
+                fired = self.fired(name, 200)
+                self.assertEqual(fired == 0, name in NEVER or name in SELDOM)
+
+    def test_seldom_ones_fire_in_longer_scripts(self) -> None:
+        for name, n in LONGER.items():
+            with self.subTest(name):
+                self.assertGreater(self.fired(name, n), 0)
+
+    def test_scripts_have_about_so_many_lines_each_time_the_same(self) -> None:
+        for name, make in LOADS.items():
+            with self.subTest(name):
+                lines = list(make(1000, Random(7)).script)
+                self.assertTrue(900 <= len(lines) <= 1000, len(lines))
+                self.assertEqual(list(make(1000, Random(7)).script), lines)
+
+    def test_small_ones_are_written(self) -> None:
+        for name in LOADS:
+            self.assertGreater(measure.written(self.folder, name, 10).lines, 5, name)
+
+    def test_twins_have_a_rule_for_each_rule_or_alternatives(self) -> None:
+        for name, make in LOADS.items():
+            made = make(10, Random(7))
+            if made.clips:
+                self.assertEqual(made.clips.count("(defrule "), made.rules.count('rule "'), name)
+                self.assertEqual(made.clips.count("("), made.clips.count(")"), name)
+
+    def test_alternatives_fire_as_those_by_hand(self) -> None:
+        scripts = [list(LOADS[name](300, Random(7)).script) for name in ("alternatives", "alternatives_by_hand")]
+        self.assertEqual(*scripts)
+        self.assertEqual(self.fired("alternatives", 300), self.fired("alternatives_by_hand", 300))
+
+    def test_pending_ones_fire_near_the_beginning_and_at_the_end(self) -> None:
+        lines = list(LOADS["endless_pending"](1000, Random(7)).script)
+        self.assertEqual([place for place, text in enumerate(lines) if text == FIRE], [50, len(lines) - 1])
+
+
+class Measuring(Case):
+    def test_rows(self) -> None:
+        status, out = self.told("--replay", self.evaluator(), "--runs", 1, "--folder", self.folder / "files",
+                                "inserts:100,200", "pairs:100")
+        self.assertEqual(status, 0)
+        rows = out.splitlines()
+        self.assertRegex(rows[0], r"^inserts +100 lines  \d+\.\d{3} s  [\d.]+ µs/line  [\d.]+ MiB  fired \d+$")
+        self.assertRegex(rows[1], r"^inserts +200 lines .* fired 15  growth \d\.\d\d$")
+        self.assertRegex(rows[2], r"^pairs +\d+ lines .* fired \d+$")
+        self.assertTrue({"inserts.drl", "inserts.100.jsonl", "inserts.200.jsonl",
+                         "pairs.drl"} <= set(os.listdir(self.folder / "files")))
+
+    def test_peak_is_the_programs_own(self) -> None:
+        files = measure.written(self.folder, "inserts", 10)
+        self.assertLess(measure.ran([self.program("small", "exit 0")], files.script, self.folder).mebibytes, 8)
+
+    def test_beside_clips(self) -> None:
+        self.program("clips", CLIPS)
+        words = ("--runs", 2, "--clips", "--replay")
+        every = self.program("every", "grep insert | sed 's/^/fire /'")
+        status, out = self.told(*words, every, "inserts:50", "pairs:50")
+        self.assertEqual(status, 0)
+        self.assertRegex(out.splitlines()[0],
+                         r"fired 49  \| CLIPS \d+\.\d{3} s  [\d.]+ MiB  fired 49(  ratio [\d.]+)?$")
+        self.assertNotIn("CLIPS", out.splitlines()[1])
+        status, out = self.told(*words, self.evaluator(), "inserts:50")
+        self.assertEqual(status, 1)
+        self.assertIn("MiB  fired 49, not as often", out)
+
+    def test_instructions_are_of_the_lines_alone(self) -> None:
+        self.program("valgrind", VALGRIND)
+        status, out = self.told("--runs", 1, "--callgrind", "--replay", self.program("none", "exit 0"), "join:100")
+        self.assertEqual((status, re.findall(r"[\d,]+ instructions/line", out)), (0, ["5 instructions/line"]))
+
+    def test_latency(self) -> None:
+        live = str(evaluator(self.folder, "reference.live"))
+        status, out = self.told("--runs", 1, "--latency", "--replay", live, "pairs:60")
+        self.assertEqual(status, 0)
+        self.assertRegex(out,
+                         r"p50 [\d.]+ µs  p99 [\d.]+ µs  p99\.9 [\d.]+ µs  worst [\d.]+ µs \(line \d+\)  a mark alone "
+                         r"[\d.]+ µs\n$")
+        with self.assertRaisesRegex(SystemExit, "the program ended"):
+            self.told("--runs", 1, "--latency", "--replay", self.program("none", "exit 0"), "pairs:60")
+
+    def test_lines_of_a_file_are_clocked(self) -> None:
+        status, out = self.told("--runs", 1, "--lines", "--replay", self.evaluator(), "pairs:60")
+        self.assertEqual(status, 0)
+        self.assertRegex(out,
+                         r"  from a file p50 [\d.]+ µs  p99 [\d.]+ µs  p99\.9 [\d.]+ µs  worst [\d.]+ µs \(line "
+                         r"\d+\)\n$")
+
+    def test_a_bad_end_is_told(self) -> None:
+        status, out = self.told("--runs", 1, "--replay", self.program("none", "exit 3"), "pairs:60")
+        self.assertEqual((status, out.split("fired ")[1]), (1, "0  status 3\n"))
+
+    def test_list(self) -> None:
+        status, out = self.told("--list")
+        self.assertEqual((status, [row.split()[0] for row in out.splitlines()]), (0, list(LOADS)))
+        self.assertTrue(all(re.search(r"\S +\S.*\.$", row) for row in out.splitlines()))
+
+    def test_wrong_words(self) -> None:
+        there = ("--replay", self.evaluator())
+        self.assertIn("no load insert: --list tells them", self.refused(*there, "insert:100"))
+        self.assertIn("NAME:LINES", self.refused(*there, "inserts:"))
+        self.assertIn("NAME:LINES", self.refused(*there, "inserts:0,2"))
+        self.assertIn("no such program: gone", self.refused("--replay", "gone", "inserts:100"))
+        self.assertIn("--list, or --replay PROGRAM", self.refused(*there))
+        self.assertIn("--list, or --replay PROGRAM", self.refused(*there, "--runs", "0", "inserts:100"))
+
+
+if __name__ == "__main__":
+    unittest.main()
