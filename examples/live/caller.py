@@ -1,20 +1,24 @@
 #!/usr/bin/env python3
 """Watches withdrawals with a running `replay`, and prints alerts that a person can read:
 
-    python3 caller.py PROGRAM RULES < withdrawals.csv
+    PYTHONPATH=tools python3 examples/live/caller.py PROGRAM RULES < withdrawals.csv
 
-Rows come in the order of their arrival. Each is held back for two seconds, the lateness of its entry point, so that what starts first
-goes in first, and the clock is moved to the moments of arrival. In a real stream these are the machine's clock, and a timer calls
-`until` each second, so that alerts of what did not happen come too. docs/LIVE.md says how the client is used.
-The status is the program's, and 2 where there is no program, or it ends before its script does.
+PYTHONPATH is for a clone; where the package `sozhipen` is installed it is not wanted.
+
+Rows come in the order of their arrival. Each is held back for two seconds, the lateness of its entry point, so that
+what starts first goes in first, and the clock is moved to the moments of arrival. In a real stream these are the
+machine's clock, and a timer calls `until` each second, so that alerts of what did not happen come too. docs/LIVE.md
+says how the client is used. The status is the program's, and 2 where there is no program, or it ends before its script
+does.
 """
 
+import argparse
 import csv
 import sys
 
-from convert import WAIT, BadRow, withdrawal  # it finds the client, too
+from convert import WAIT, BadRow, withdrawal  # beside this file
 
-from client import ClientError, Ordered, Session  # noqa: E402
+from sozhipen import ClientError, Ordered, Session
 
 
 def not_taken(what):
@@ -70,11 +74,13 @@ class Desk:
 
 
 def main():
-    if len(sys.argv) != 3:
-        print("usage: caller.py PROGRAM RULES < ROWS", file=sys.stderr)
-        return 2
+    about = "caller.py PROGRAM RULES < ROWS: watches withdrawals, and prints alerts."
+    parser = argparse.ArgumentParser(usage=argparse.SUPPRESS, description=about)
+    parser.add_argument("program", metavar="PROGRAM", help="the built program")
+    parser.add_argument("rules", metavar="RULES", help="the rule file")
+    asked = parser.parse_args()
     try:
-        session = Session(sys.argv[2], sys.argv[1])
+        session = Session(asked.rules, asked.program)
         desk, table = Desk(session), csv.DictReader(sys.stdin)
         for row in table:
             desk.take(row, table.line_num)

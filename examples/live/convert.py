@@ -1,18 +1,21 @@
 #!/usr/bin/env python3
-"""Makes a script of a table of withdrawals: python3 convert.py < withdrawals.csv > withdrawals.jsonl
+"""Makes a script of a table of withdrawals:
 
-The rows are sorted by the start of the event, since an entry point takes its events in that order. Before each insert the
-clock is moved to its start, and behind it all that is pending is fired. The last move lets every `not` end its waiting.
+    PYTHONPATH=tools python3 examples/live/convert.py < withdrawals.csv > withdrawals.jsonl
+
+PYTHONPATH is for a clone; where the package `sozhipen` is installed it is not wanted.
+
+The rows are sorted by the start of the event, since an entry point takes its events in that order. Before each insert
+the clock is moved to its start, and behind it all that is pending is fired. The last move lets every `not` end its
+waiting.
 """
 
+import argparse
 import csv
 import decimal
 import sys
-from pathlib import Path
 
-sys.path.insert(0, str(Path(__file__).resolve().parent.parent.parent / "tools"))
-
-from client import Script, milliseconds  # noqa: E402
+from sozhipen import Script, milliseconds
 
 WAIT = 63_000  # milliseconds behind the last event: a minute of the rule, two seconds of lateness, and more
 COLUMNS = ("arrived", "at", "card", "place", "amount")
@@ -39,13 +42,16 @@ def withdrawal(row, number):
     if missing:
         raise BadRow(f"line {number} of the table: no {', '.join(missing)}")
     try:
-        fields = {"at": milliseconds(row["at"]), "card": row["card"], "place": row["place"], "cents": cents(row["amount"])}
+        fields = {"at": milliseconds(row["at"]), "card": row["card"], "place": row["place"],
+                  "cents": cents(row["amount"])}
         return milliseconds(row["arrived"]), fields
     except ValueError as error:
         raise BadRow(f"line {number} of the table: {error}") from None
 
 
 def main():
+    about = "convert.py < ROWS > SCRIPT: makes a script of a table of withdrawals."
+    argparse.ArgumentParser(usage=argparse.SUPPRESS, description=about).parse_args()
     table = csv.DictReader(sys.stdin)
     try:
         events = sorted((withdrawal(row, table.line_num)[1] for row in table), key=lambda fields: fields["at"])
