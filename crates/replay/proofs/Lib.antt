@@ -12,4 +12,6 @@ pub mod Calls
 pub mod Runs
 pub mod ImagesRead
 pub mod ImagesWritten
+pub mod Programs
 pub mod GoingOn
+pub mod Taken

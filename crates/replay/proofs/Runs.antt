@@ -6,7 +6,7 @@ use Rattle.replay.proofs.Common.{run_part_at, run_on, Outcome, RunState, setting
 use Rattle.replay.proofs.Common.{Behind, TooLong, Unfit, BeginsIn, CanBegin, IsBeginningFor, part_of, image_bytes, can_go_on, image_limit, ShelfSeen, seen}
 use Rattle.replay.proofs.Common.{TellsScript, MayEnd, RunOf, Says, Report, IsReport, IsWritten, IsFront, IsLong, IsRunStatus, IsBehindSome, IsRunBehind}
 use Rattle.replay.proofs.Common.{IsSaved, IsSaveStatus, IsStopped, TakesFor, checkpoint_report, fault_status, image_report, outcome_report, run_status, Wanted}
-use Rattle.replay.proofs.Common.{wanted_at, MayRefuse}
+use Rattle.replay.proofs.Common.{wanted_at, MayRefuse, IsImage}
 use Rattle.image_laws.specs.Images.{IsImageOf}
 use Rattle.script_run.specs.declared.fault.RunFault.{RunFault}
 use Rattle.script_run.specs.declared.fault.RunFault.TheVariants.{ReadFault, WriteFault, NoMemory, ScriptLong}
@@ -157,9 +157,10 @@ save_stopped gives fires counts limit (Behind image) p script left before = refl
 
 -- the image of an engine that a run left is the one that is wanted
 pub saved_so : {E : Type 0} (p : Program) (table : LifeTable) (limit : ℕ) (first : RunPart) (stands : E → World → Type 0) (e : E) (progress : Progress) (o : Option RunState) (image : Image)
-    → ReachesWorld stands o (Some (e, progress)) → image.run ≡ run_part_at limit first progress → ((w : World) → stands e w → IsImageOf p table w image) → IsSaved p table limit first o (image_report image)
-saved_so p table limit first stands e progress None image h run is = absurd h
-saved_so p table limit first stands e progress (Some s) image h run is = (image, is s.world h.1, run ∙ ap (run_part_at limit first) h.0, refl)
+    → ReachesWorld stands o (Some (e, progress)) → image.run ≡ run_part_at limit first progress → ((w : World) → stands e w → IsImageOf p table w image) → IsImage image
+    → IsSaved p table limit first o (image_report image)
+saved_so p table limit first stands e progress None image h run is fits = absurd h
+saved_so p table limit first stands e progress (Some s) image h run is fits = (image, is s.world h.1, run ∙ ap (run_part_at limit first) h.0, fits, refl)
 
 -- the status of an image that is written
 report_status : (long small faulty : Bool) (bytes : List ℕ)
@@ -180,11 +181,12 @@ limited_so p table limit first stands (Some s) h = absurd h
 
 -- the same, as far as the script is told
 pub saved_told : {E : Type 0} (p : Program) (table : LifeTable) (limit : ℕ) (first : RunPart) (stands : E → World → Type 0) (e : E) (progress : Progress) (image : Image) (outcome : List ℕ → Outcome)
-    (left : Option (List ℕ)) (text : List ℕ) (ended : Ended) → image.run ≡ run_part_at limit first progress → ((w : World) → stands e w → IsImageOf p table w image)
+    (left : Option (List ℕ)) (text : List ℕ) (ended : Ended) → image.run ≡ run_part_at limit first progress → ((w : World) → stands e w → IsImageOf p table w image) → IsImage image
     → IfSome left (λ bytes. (text ≡ (outcome bytes).bytes) × (ended ≡ (outcome bytes).ended) × ReachesWorld stands (outcome bytes).comes_to (Some (e, progress)))
     → IfSome left (λ bytes. IsSaved p table limit first (outcome bytes).comes_to (image_report image))
-saved_told p table limit first stands e progress image outcome None text ended run is h = tt
-saved_told p table limit first stands e progress image outcome (Some bytes) text ended run is h = saved_so p table limit first stands e progress (outcome bytes).comes_to image h.2 run is
+saved_told p table limit first stands e progress image outcome None text ended run is fits h = tt
+saved_told p table limit first stands e progress image outcome (Some bytes) text ended run is fits h =
+    saved_so p table limit first stands e progress (outcome bytes).comes_to image h.2 run is fits
 
 pub limited_told : {E : Type 0} (p : Program) (table : LifeTable) (limit : ℕ) (first : RunPart) (stands : E → World → Type 0) (outcome : List ℕ → Outcome)
     (left : Option (List ℕ)) (text : List ℕ) (ended : Ended)

@@ -88,7 +88,7 @@ same_lives_text p a b h k = ap (λ (table : LifeTable). lives_text p.types table
 -- a run that is saved has at most one report: a world has one image
 pub one_saved : (p : Program) (table : LifeTable) (limit : ℕ) (first : RunPart) (o : Option RunState) (r q : Report) → IsSaved p table limit first o r → IsSaved p table limit first o q → r ≡ q
 one_saved p table limit first None r q h k = h ∙ sym k
-one_saved p table limit first (Some s) r q h k = h.3 ∙ ap image_report (one_image p table s.world h.0 k.0 h.1 k.1 (h.2 ∙ sym k.2)) ∙ sym k.3
+one_saved p table limit first (Some s) r q h k = h.4 ∙ ap image_report (one_image p table s.world h.0 k.0 h.1 k.1 (h.2 ∙ sym k.2)) ∙ sym k.4
 
 -- what is written behind an image is what is written in a world of it
 pub behind_one : (p : Program) (table : LifeTable) (image : Image) (Ends : ℕ → Type 0) (Says : World → Report → Type 0) → ((w : World) (r q : Report) → Says w r → Says w q → r ≡ q)

@@ -16,7 +16,7 @@ use Rattle.script_run.specs.Texts.{limit_text}
 use Rattle.script_run.specs.Unfinished.{Long, StoppedAtRead}
 use Rattle.checkpoint.specs.declared.image.Image.{Image}
 use Rattle.checkpoint.specs.declared.image.RunPart.{RunPart}
-use Rattle.checkpoint.specs.Bytes.{image_bytes}
+use Rattle.checkpoint.specs.Bytes.{image_bytes, IsImage}
 use Rattle.image_laws.specs.Fitting.{Fits}
 use Rattle.image_laws.specs.Images.{IsImageOf}
 use Rattle.rule_model.specs.declared.program.Program.{Program}
@@ -65,10 +65,11 @@ image_report image = if nat_lt image_limit (length (image_bytes image)) then che
     else (if can_go_on image then record { bytes = image_bytes image; status = run_status (Script image.run.faulty) } else checkpoint_report Unfit)
 
 -- What is written of a run of which the image is wanted: the line of the limit, where that was met, or else the image of the world that the
--- run comes to, with what it says of the run that began behind this part.
+-- run comes to, with what it says of the run that began behind this part, and which its bytes are read back as.
 abbrev pub IsSaved : Program → LifeTable → ℕ → RunPart → Option RunState → Report → Type 0
 IsSaved p table limit first None r = r ≡ record { bytes = limit_text limit; status = 4 }
-IsSaved p table limit first (Some s) r = (image : Image) × IsImageOf p table s.world image × (image.run ≡ run_part_at limit first s.progress) × (r ≡ image_report image)
+IsSaved p table limit first (Some s) r =
+    (image : Image) × IsImageOf p table s.world image × (image.run ≡ run_part_at limit first s.progress) × IsImage image × (r ≡ image_report image)
 
 -- the statuses of a run, and of one that is saved
 abbrev pub IsRunStatus : ℕ → Type 0

@@ -1,5 +1,7 @@
 //! Laws of the run, each the contract of a function that does nothing.
-ghost use Rattle.std.specs.Prelude.{◌≡◌, ◌↔◌, ℕ, List, None};
+ghost use Rattle.std.specs.Prelude.{◌≡◌, ◌↔◌, ◌++◌, ℕ, List, [], None};
+ghost use Rattle.checkpoint.specs.declared.image.Image.{Image};
+ghost use Rattle.checkpoint.specs.Bytes.{image_bytes, IsImage};
 ghost use Rattle.gen_load.specs.Rules.{rules_text};
 ghost use Rattle.rule_model.specs.declared.program.Program.{Program};
 ghost use Rattle.rule_world.specs.Worlds.{World};
@@ -38,4 +40,9 @@ pub fn the_rule_file_of_a_load_is_accepted()
 pub fn there_is_at_most_one_report()
     ensures { (gives : Gives) (fires : Fires) (counts : Counts) (w : Wanted) (script : List ℕ) (r q : Report)
         → IsDefinite w → IsReport gives fires counts w script r → IsReport gives fires counts w script q → r ≡ q }
+{}
+
+/// No image begins another one, so a file that was cut, or of which more was written, is refused.
+pub fn no_image_begins_another()
+    ensures { (a b : Image) (rest : List ℕ) → IsImage a → IsImage b → image_bytes b ≡ image_bytes a ++ rest → rest ≡ [] }
 {}

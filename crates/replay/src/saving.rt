@@ -1,7 +1,7 @@
 //! A run of which the image is written in place of its lines.
 ghost use Rattle.std.specs.Prelude.{◌≡◌, ◌⊎◌, ◌≤◌, List, Option, ℕ, Some, IfOk};
 ghost use Rattle.fx_io.specs.Outside.{Rose, append, AppendsFront};
-ghost use Rattle.checkpoint.specs.Bytes.{image_bytes};
+ghost use Rattle.checkpoint.specs.Bytes.{image_bytes, IsImage};
 ghost use Rattle.checkpoint.specs.declared.image.Image.{Image as ImageData};
 ghost use Rattle.command_words.specs.declared.asking.Asked.TheVariants.{RuleFile};
 ghost use Rattle.image_laws.specs.Images.{IsImageOf};
@@ -74,7 +74,7 @@ fn image_of<E: Engine>(alloc: Global, engine: E, run: RunPart) -> Result<Image, 
 fn write_image<E: Engine, K: Sink>(alloc: Global, engine: E, run: RunPart, out: &mut K) -> u8
     ensures said { ((result ≡ 7) × (K.written out.new ≡ K.written out.old))
         ⊎ ((image : ImageData) × (image.run ≡ run) × ((w : World) → E.stands engine w → IsImageOf (E.made_with engine) (E.table engine) w image)
-        × Says (K.written out.old) (K.written out.new) result (image_report image)) }
+        × IsImage image × Says (K.written out.old) (K.written out.new) result (image_report image)) }
     ensures answers { (result ≤ 1) ⊎ ((6 ≤ result) × (result ≤ 7)) ⊎ (result ≡ 9) }
     ensures cause { result ≡ 6 → Rose (K.faults out.old) (K.faults out.new) }
 {

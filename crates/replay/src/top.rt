@@ -7,7 +7,7 @@ ghost use Rattle.command_words.specs.Asked.{asked_by, IsWithinBounds};
 ghost use Rattle.rule_model.specs.declared.life.LifeTable.{LifeTable as LifeTableData};
 ghost use Rattle.rule_lives.specs.Keeping.{AreLives};
 ghost use Rattle.rule_world.specs.Programs.{IsRunnable};
-ghost use Rattle.replay.specs.Behind.{GoesOn, IsUnread};
+ghost use Rattle.replay.specs.Behind.{GoesOn, IsRefusedOn, IsTakenAgain, IsUnread, KeepWorlds};
 ghost use Rattle.replay.specs.Beginnings.{CanBegin, IsBeginningFor, RunsIn};
 ghost use Rattle.replay.specs.Calls.{ShelfSeen, seen_of_shelf, seen, wanted_told, RunOf};
 ghost use Rattle.replay.specs.Notices.{usage};
@@ -251,10 +251,18 @@ pub fn replay<E: Engine, F: Shelf, S: Source, K: Sink>(
     ensures stopped { (files : Files) (bytes : List ℕ) → F.files shelf.old ≡ Some files → S.left script.old ≡ Some bytes → (result ≡ 5) ⊎ (result ≡ 8)
         → IsStopped E.gives E.fires E.counts (wanted words.now files) bytes (S.left script.new) (K.written out.old) (K.written out.new) }
 
-    // Behind the image of what the run of an earlier script comes to: the lines and the status of both scripts as one, without the lines of
-    // the first.
-    ensures goes_on { (files : Files) (first second : List ℕ) → F.files shelf.old ≡ Some files → S.left script.old ≡ Some second → result ≤ 4
+    // Behind the image of what the run of an earlier script comes to, with an engine whose changes and firings lead from worlds that runs come to
+    // to such worlds: the lines and the status of both scripts as one, without the lines of the first, or the image of both. What was saved is
+    // taken again.
+    ensures goes_on { KeepWorlds E.gives E.fires
+        → (files : Files) (first second : List ℕ) → F.files shelf.old ≡ Some files → S.left script.old ≡ Some second → result ≤ 4
         → GoesOn E.gives E.fires E.counts (wanted words.now files) first second (K.written out.old) (K.written out.new) result }
+    ensures refused_on { KeepWorlds E.gives E.fires
+        → (files : Files) (first second : List ℕ) → F.files shelf.old ≡ Some files → S.left script.old ≡ Some second → result ≡ 9
+        → IsRefusedOn E.gives E.fires E.counts (wanted words.now files) first second (K.written out.old) (K.written out.new) result }
+    ensures taken_again { KeepWorlds E.gives E.fires
+        → (files : Files) (first second : List ℕ) → F.files shelf.old ≡ Some files → S.left script.old ≡ Some second → result ≤ 1
+        → IsTakenAgain E.gives E.fires E.counts (wanted words.now files) first second (K.written out.old) (K.written out.new) }
 
     // Where no script is to be run, whatever the script tells, and where no rule file is to be read, as of a load, whatever shelf and script
     // tell: exactly the report, or a front of it.

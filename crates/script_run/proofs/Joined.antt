@@ -1,6 +1,6 @@
 -- The run of a script in two parts.
 use Rattle.script_run.proofs.Common.{◌≡◌, inl, inr, ◌≤◌, ◌+◌, ◌-◌, ◌++◌, ◌==◌, ℕ, zero, suc, Bool, true, false, List, [], ◌∷◌, length, nat_lt, Option, Some}
-use Rattle.script_run.proofs.Common.{None, refl, sym, ap, ◌∙◌, arith, if◌then◌else◌, onto_first, Program, World, empty_world, OutLine, Fires, Firings}
+use Rattle.script_run.proofs.Common.{None, refl, sym, ap, subst, ◌∙◌, arith, if◌then◌else◌, onto_first, Program, World, empty_world, OutLine, Fires, Firings}
 use Rattle.script_run.proofs.Common.{all_fired, limit_met, none_left, onto_lines, then_fires, wants_one, one_less, RunSetting, RunState, Outcome, LineEffect}
 use Rattle.script_run.proofs.Common.{goes_on, stops, then_run, whole_run, first_state, state_in, state_after, step_in, fire_step, command_step, asked_step}
 use Rattle.std.proofs.lemmas.Option.{same_Some}
@@ -26,7 +26,7 @@ bytes_of o = o.bytes
 abbrev Joins : RunSetting → RunState → RunState → List (List ℕ) → List (List ℕ) → Type 0
 Joins setting s t xs ys = run setting s (xs ++ ys) ≡ then_run (run setting s xs).bytes (run setting t ys)
 
-no_more : (s t : RunState) → None ≡ Some t → ⊥
+pub no_more : (s t : RunState) → None ≡ Some t → ⊥
 no_more s t e = cc
 
 joined : (setting : RunSetting) (s t : RunState) (xs ys : List (List ℕ)) → (run setting s xs).comes_to ≡ Some t → Joins setting s t xs ys
@@ -98,7 +98,7 @@ unfolding line_step
 step_within setting number n w line =
     if_step n (nat_lt 65536 (length line)) _ _ (omega arith) (if_step n (is_line_blank line) _ _ (omega arith) (asked_within setting number n w (asked line)))
 
-run_within : (setting : RunSetting) (s t : RunState) (xs : List (List ℕ)) → (run setting s xs).comes_to ≡ Some t → t.progress.left ≤ s.progress.left
+pub run_within : (setting : RunSetting) (s t : RunState) (xs : List (List ℕ)) → (run setting s xs).comes_to ≡ Some t → t.progress.left ≤ s.progress.left
 unfolding run
 run_within setting s t [] e = let is : s ≡ t = same_Some s t e in rw is (omega arith)
 run_within setting s t (x ∷ xs) e =
@@ -119,6 +119,25 @@ goes_on_there limit first s h = ap with_left (left_is limit first.firings s.prog
   where
     with_left : ℕ → RunState
     with_left n = state_in s.world (record { lines = s.progress.lines; left = n; faulted = s.progress.faulted })
+
+on_is : (limit before one two : ℕ) → one ≤ limit - before → two ≤ one
+    → (before + ((limit - before) - one)) + ((limit - (before + ((limit - before) - one))) - two) ≡ before + ((limit - before) - two)
+on_is limit before one two h k = grind (arith, h, k)
+
+-- what an image says of a run behind an image is what it says of both runs as one
+pub part_joined : (setting : RunSetting) (w : World) (first : RunPart) (a b : List (List ℕ)) (s t : RunState) → (run_on setting w first a).comes_to ≡ Some s
+    → (run_on setting s.world (run_part_at setting.limit first s.progress) b).comes_to ≡ Some t
+    → run_part_at setting.limit (run_part_at setting.limit first s.progress) t.progress ≡ run_part_at setting.limit first t.progress
+part_joined setting w first a b s t one two =
+    let limit : ℕ = setting.limit in
+    let low : s.progress.left ≤ limit - first.firings = run_within setting (state_in w (progress_behind limit first)) s a one in
+    let less : t.progress.left ≤ s.progress.left =
+        subst (λ n. t.progress.left ≤ n) (left_is limit first.firings s.progress.left low)
+        (run_within setting (state_in s.world (progress_behind limit (run_part_at limit first s.progress))) t b two) in
+    ap with_firings (on_is limit first.firings s.progress.left t.progress.left low less)
+  where
+    with_firings : ℕ → RunPart
+    with_firings n = record { rules = first.rules; lines = t.progress.lines; firings = n; faulty = t.progress.faulted }
 
 all_left : (limit : ℕ) → limit ≡ limit - 0
 all_left limit = omega arith

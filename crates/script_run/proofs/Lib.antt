@@ -5,3 +5,5 @@ pub mod Ahead
 pub mod Stops
 pub mod HeldText
 pub mod Joined
+pub mod Kept
+pub mod Limits

@@ -5,7 +5,7 @@ ghost use Rattle.std.specs.Prelude.{◌≡◌, ◌⊎◌, ◌<◌, ◌≤◌, �
 ghost use Rattle.fx_io.specs.Outside.{Rose, append, count_after};
 ghost use Rattle.command_words.specs.declared.asking.Asked.{Asked};
 ghost use Rattle.command_words.specs.Asked.{asked_by};
-ghost use Rattle.replay.specs.Behind.{GoesOn, IsUnread};
+ghost use Rattle.replay.specs.Behind.{GoesOn, IsRefusedOn, IsTakenAgain, IsUnread};
 ghost use Rattle.replay.specs.Refusals.{refusal_text};
 ghost use Rattle.replay.specs.Report.{Report, IsFront, IsReport, Reports, IsWritten, IsStopped, TakesFor, IsLong};
 ghost use Rattle.replay.specs.Notices.{usage};
@@ -59,9 +59,13 @@ pub fn run<F: Shelf, S: Source, K: Sink>(
         → IsStopped gives fires held_counts (wanted words.now files) bytes (S.left script.new) (K.written out.old) (K.written out.new) }
 
     // Behind the image of what the run of an earlier script comes to: the lines and the status of both scripts as one, without the lines of
-    // the first.
+    // the first, or the image of both, with 9 too, where that is refused. What was saved is taken as a checkpoint again.
     ensures goes_on { (files : Files) (first second : List ℕ) → F.files shelf.old ≡ Some files → S.left script.old ≡ Some second → result ≤ 4
         → GoesOn gives fires held_counts (wanted words.now files) first second (K.written out.old) (K.written out.new) result }
+    ensures refused_on { (files : Files) (first second : List ℕ) → F.files shelf.old ≡ Some files → S.left script.old ≡ Some second → result ≡ 9
+        → IsRefusedOn gives fires held_counts (wanted words.now files) first second (K.written out.old) (K.written out.new) result }
+    ensures taken_again { (files : Files) (first second : List ℕ) → F.files shelf.old ≡ Some files → S.left script.old ≡ Some second → result ≤ 1
+        → IsTakenAgain gives fires held_counts (wanted words.now files) first second (K.written out.old) (K.written out.new) }
 
     // Where no script is to be run, whatever the script tells, and where no rule file is to be read, as of a load, whatever shelf and script
     // tell: exactly the report, or a front of it.

@@ -33,8 +33,8 @@ returns-in-Ok-Some-clause-run g c name image first last h =
         image_report it.0,
         image_status it.0,
         (λ w begins. saved_told c.args.program c.args.lives c.args.limit (part_of c.args.beginning) g.E.Engine.stands c.in-Ok-Some.engine c.in-Ok-Some.at it.0
-            (λ (bytes : List ℕ). run_on (setting_of g.E.Engine.gives g.E.Engine.fires g.E.Engine.counts c.args.limit c.args.program c.args.lives) w (part_of c.args.beginning) (lines_of bytes)) _ _ _ it.1 it.2 (done.2 w (c.in-Ok.ensures.stands w begins))),
-        it.3,
+            (λ (bytes : List ℕ). run_on (setting_of g.E.Engine.gives g.E.Engine.fires g.E.Engine.counts c.args.limit c.args.program c.args.lives) w (part_of c.args.beginning) (lines_of bytes)) _ _ _ it.1 it.2 it.3 (done.2 w (c.in-Ok.ensures.stands w begins))),
+        it.4,
       )
     ])
     (ends_saved c.in-Ok-Some.at.faulted c.write_image.ensures.answers) c.write_image.ensures.cause (may_save _ _ _ name c.args.limit image c.args.beginning h)

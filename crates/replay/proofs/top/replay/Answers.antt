@@ -1,5 +1,8 @@
-use Rattle.replay.proofs.Common.{Option, subst, sym, Asked, wanted_by, IsUnread}
-use Rattle.replay.proofs.GoingOn.{goes_on}
+use Rattle.replay.proofs.Common.{Option, subst, sym, arith, Asked, wanted_by, IsUnread}
+use Rattle.command_words.specs.Asked.{asked_by}
+use Rattle.replay.proofs.GoingOn.{goes_on, refused_on}
+use Rattle.replay.proofs.Programs.{wants_runnable}
+use Rattle.replay.proofs.Taken.{taken_again}
 use Rattle.replay.proofs.Calls.{wanted_is, written_told, long_told, stopped_told, refusal_told, written_no_script, written_no_file, completes, completes_unread}
 use Rattle.replay.proofs.Calls.{completes_load}
 use Rattle.replay.proofs.top.replay.Goals as goal
@@ -95,10 +98,25 @@ returns-in-Ok-clause-nothing_left g c =
     run.nothing_left
 
 pub returns-in-Ok-clause-goes_on : goal.returns-in-Ok-clause-goes_on
-returns-in-Ok-clause-goes_on g c files first second told tells low =
+returns-in-Ok-clause-goes_on g c keep files first second told tells low =
     let run = rw c.in-Ok.ensures.asks at c.do_asked.ensures.run in
     let written = (written_told run files second told tells).exact low in
-    rw (wanted_is c.args.words.now files) (goes_on g.E.Engine.gives g.E.Engine.fires g.E.Engine.counts _ first second _ _ _ written.0 written.1 written.2 low)
+    rw (wanted_is c.args.words.now files)
+    (goes_on g.E.Engine.gives g.E.Engine.fires g.E.Engine.counts keep _ first second _ _ _ written.0 (wants_runnable (asked_by c.args.words.now) files) written.1 written.2 low)
+
+pub returns-in-Ok-clause-refused_on : goal.returns-in-Ok-clause-refused_on
+returns-in-Ok-clause-refused_on g c keep files first second told tells nine =
+    let run = rw c.in-Ok.ensures.asks at c.do_asked.ensures.run in
+    let written = (written_told run files second told tells).refused nine in
+    rw (wanted_is c.args.words.now files)
+    (refused_on g.E.Engine.gives g.E.Engine.fires g.E.Engine.counts keep _ first second _ _ _ written.0 (wants_runnable (asked_by c.args.words.now) files) written.1 written.2)
+
+pub returns-in-Ok-clause-taken_again : goal.returns-in-Ok-clause-taken_again
+returns-in-Ok-clause-taken_again g c keep files first second told tells low =
+    let run = rw c.in-Ok.ensures.asks at c.do_asked.ensures.run in
+    let written = (written_told run files second told tells).exact (omega (arith, low)) in
+    rw (wanted_is c.args.words.now files)
+    (taken_again g.E.Engine.gives g.E.Engine.fires g.E.Engine.counts keep _ first second _ _ _ written.0 (wants_runnable (asked_by c.args.words.now) files) written.1 written.2 low)
 
 pub returns-in-Ok-clause-unread : goal.returns-in-Ok-clause-unread
 returns-in-Ok-clause-unread g c files told refused =
