@@ -21,14 +21,6 @@ SameFirings m n (all_fired a v k) (all_fired b w l) = (a ≡ b) × (v ≡ w) × 
 SameFirings m n (all_fired a v k) (limit_met b) = Unit {0}
 SameFirings m n (limit_met a) r = Unit {0}
 
-none_same : (m n : ℕ) (o : Option (List OutLine × World)) (w : World) (r : Firings) → (o ≡ None → SameFirings m n (all_fired [] w 0) r) → SameFirings m n (none_left o w) r
-none_same m n None w r h = h refl
-none_same m n (Some f) w r h = tt
-
-same_none : (m n : ℕ) (o : Option (List OutLine × World)) (w v : World) (k : ℕ) → (o ≡ None → (v ≡ w) × (m + 0 ≡ n + k)) → SameFirings m n (all_fired [] v k) (none_left o w)
-same_none m n None w v k h = (refl, h refl)
-same_none m n (Some f) w v k h = tt
-
 onto_same : (m n : ℕ) (lines : List OutLine) (r q : Firings) → SameFirings m n r q → SameFirings (suc m) (suc n) (onto_lines lines r) (onto_lines lines q)
 onto_same m n lines (all_fired a v k) (all_fired b w l) h = (ap (λ (z : List OutLine). lines ++ z) h.0, h.1, omega (arith, h.2))
 onto_same m n lines (all_fired a v k) (limit_met b) h = tt
@@ -130,7 +122,7 @@ module _ (setting : RunSetting) (limit : ℕ) where
   abbrev SameEnds : ℕ → ℕ → Outcome → Outcome → Type 0
   SameEnds m n a b = (s t : RunState) → a.comes_to ≡ Some s → b.comes_to ≡ Some t → AreSame m n a b s t
 
-  comes_of : Outcome → Option RunState
+  abbrev comes_of : Outcome → Option RunState
   comes_of o = o.comes_to
 
   at_ends : (lines : ℕ) (faulted : Bool) (w : World) (m n : ℕ) → SameEnds m n (at_end (at_left lines faulted w m)) (at_end (at_left lines faulted w n))
@@ -158,7 +150,7 @@ module _ (setting : RunSetting) (limit : ℕ) where
           → SameEnds m n (run setting (at_left lines faulted w m) (x ∷ xs)) (run other (at_left lines faulted w n) (x ∷ xs))
       here (goes_on c) (goes_on d) is also same rest =
           let there : at_left (lines + 1) (faulted || c.faulty) c.world d.left ≡ state_after (at_left lines faulted w n) d
-          = ap₂ (λ (bad : Bool) (v : World). at_left (lines + 1) (faulted || bad) v d.left) same.2.0 same.1 in
+          = ap₂ (λ (bad : Bool) (v : World). at_left (lines + 1) (faulted || bad) v d.left) same.2 same.1 in
           let ends : SameEnds c.left d.left (run setting (state_after (at_left lines faulted w m) c) xs) (run other (state_after (at_left lines faulted w n) d) xs)
           = subst (λ (u : RunState). SameEnds c.left d.left (run setting (state_after (at_left lines faulted w m) c) xs) (run other u xs)) there
           (rest c.world (faulted || c.faulty) c.left d.left) in
