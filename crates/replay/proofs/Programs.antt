@@ -1,9 +1,10 @@
 -- The program of an accepted rule file may be run.
-use Rattle.replay.proofs.Common.{◌≡◌, ℕ, List, Option, Some, None, Result, Ok, Err, refl, sym, subst, Failure, failure_of, checked, checked_by, Written, Parsed}
+use Rattle.replay.proofs.Common.{◌≡◌, ℕ, List, Option, Some, None, Result, Ok, Err, refl, sym, subst, Failure, failure_of, checked_by, Written, Parsed}
 use Rattle.replay.proofs.Common.{is_file, lexical, outside, parsed, too_long, rules_text, Asked, RuleFile, Load, Mode, Run, Save, Check, Lives, Proof, Program}
 use Rattle.replay.proofs.Common.{Checkpoint, checkpoint_in, has_image, is_refused, of_checked, of_obstacle, of_parsed, plain_file, reading, Reading, Accepted}
 use Rattle.replay.proofs.Common.{Refused, obstacle, Wanted, Files, saves, saves_on, resumes, wanted_behind, wanted_by, wanted_by_file, wanted_by_reading, wanted_from}
 use Rattle.replay.proofs.Common.{wanted_rules, sums_up}
+use Rattle.drl_check.specs.Outcomes.{checked}
 use Rattle.drl_check.proofs.Exact.{exact_none}
 use Rattle.drl_check.proofs.Runnable.{accepted_runnable}
 use Rattle.drl_grammar.specs.declared.file.File.{File}

@@ -1,16 +1,16 @@
 -- What was saved is taken as a checkpoint.
 use Rattle.replay.proofs.Common.{◌≡◌, inl, inr, ◌≤◌, ◌^◌, ◌++◌, ◌&&◌, ℕ, Bool, true, false, List, [], ◌∷◌, drop, length, nat_lt, Option, Some, None, refl, sym}
-use Rattle.replay.proofs.Common.{ap, subst, ◌∙◌, arith, nat_tests, append_assoc, append-nil, bytes_eq, if◌then◌else◌, append, lines_of, Image, image_bytes, IsImage}
+use Rattle.replay.proofs.Common.{ap, subst, ◌∙◌, arith, nat_tests, append_assoc, append-nil, bytes_eq, if◌then◌else◌, append, lines_of, Image}
 use Rattle.replay.proofs.Common.{Script, LifeTable, Program, AreLives, Gives, Fires, Counts, first_part, run_part_at, Outcome, RunState, setting_of, whole_run}
-use Rattle.replay.proofs.Common.{image_limit, can_go_on, has_image, of_decoded, checkpoint_of, Unfit, TooLong, IsImageOfRun, Report, Reports, IsReport, IsSaved}
+use Rattle.replay.proofs.Common.{can_go_on, has_image, Unfit, TooLong, IsImageOfRun, Report, Reports, IsReport, IsSaved}
 use Rattle.replay.proofs.Common.{checkpoint_report, image_report, run_status, Wanted, usage_line, refuses, refuses_checkpoint, runs, resumes, saves, saves_on}
 use Rattle.replay.proofs.Common.{accepts, tells_lives, proves, sums_up}
 use Rattle.std.specs.Prelude.{codes, nat_le}
 use Rattle.std.proofs.lemmas.Bool.{and_parts}
-use Rattle.checkpoint.specs.Bytes.{field_bytes}
-use Rattle.checkpoint.specs.Reading.{decoded, fields_at}
+use Rattle.std.proofs.lemmas.Slice.Eq.{bytes_eq-Decides}
+use Rattle.checkpoint.specs.Bytes.{field_bytes, image_bytes, IsImage}
+use Rattle.checkpoint.specs.Reading.{fields_at}
 use Rattle.checkpoint.proofs.Structs.{fields_exact}
-use Rattle.checkpoint.proofs.Whole.{decoded_again}
 use Rattle.image_laws.specs.Fitting.{Fits}
 use Rattle.image_laws.specs.Images.{IsImageOf}
 use Rattle.image_laws.proofs.Fit.{image_fits}
@@ -19,7 +19,9 @@ use Rattle.rule_lives.proofs.Safe.{safe_life}
 use Rattle.rule_world.specs.Programs.{IsRunnable}
 use Rattle.script_run.specs.Parts.{EndsLine}
 use Rattle.replay.specs.Behind.{IsSoundWorld, KeepWorlds, AreTaken, IsTakenAgain}
+use Rattle.replay.specs.Checkpoints.{checkpoint_of, image_limit}
 use Rattle.replay.proofs.GoingOn.{whole_sound, saved_so}
+use Rattle.replay.proofs.ImagesRead.{image_is}
 use Rattle.replay.proofs.Programs.{WantsRunnable}
 use Rattle.replay.proofs.Tables.{by_table}
 
@@ -38,13 +40,12 @@ written_low : (image : Image) → (image_report image).status ≤ 1
     → (nat_lt image_limit (length (image_bytes image)) ≡ false) × (can_go_on image ≡ true) × ((image_report image).bytes ≡ image_bytes image)
 written_low image low = tests_low (nat_lt image_limit (length (image_bytes image))) (can_go_on image) image.run.faulty (image_bytes image) low
 
-same_bytes : (bytes : List ℕ) → bytes_eq bytes bytes ≡ true
-same_bytes bytes = grind
-
 read_back : (rules : List ℕ) (image : Image) → IsImage image → image.run.rules ≡ rules → nat_lt image_limit (length (image_bytes image)) ≡ false
     → checkpoint_of rules (image_bytes image) ≡ has_image image
-unfolding checkpoint_of
-read_back rules image is same short = rw (short, decoded_again image is, same, same_bytes rules) refl
+unfolding image_limit
+read_back rules image is same short =
+    image_is rules (image_bytes image) image (grind (arith, nat_tests, short)) (is, refl)
+    (subst (λ (text : List ℕ). bytes_eq text rules ≡ true) (sym same) ((bytes_eq-Decides rules rules).1 refl))
 
 is_small : (n : ℕ) → nat_le n (2 ^ 61) ≡ true → n ≤ 2 ^ 61
 is_small n e = grind (arith, nat_tests)
@@ -125,7 +126,7 @@ module _ (gives : Gives) (fires : Fires) (counts : Counts) (keep : KeepWorlds gi
 
 -- ---- images of which one begins another
 
-behind_of : Option (Image × List ℕ) → List ℕ
+abbrev behind_of : Option (Image × List ℕ) → List ℕ
 behind_of None = []
 behind_of (Some found) = found.1
 
