@@ -5,7 +5,8 @@ use Rattle.replay.proofs.Common.{Program, Gives, Fires, Counts, Refusal, checkpo
 use Rattle.replay.proofs.Common.{IsRefusedReading, lines_of, LifeTable, run_on, setting_of, Report, IsToldBehind, IsDefinite, IsFront, IsFrontOfEach, IsReport}
 use Rattle.replay.proofs.Common.{IsRunBehind, IsRunStatus, IsSavedBehind, IsSaveStatus, Wanted, Files, usage_line, refuses, refuses_checkpoint, runs, resumes}
 use Rattle.replay.proofs.Common.{saves, saves_on, accepts, tells_lives, proves, sums_up, wanted_by_file, wanted_by_reading, wanted_from, wanted_rules}
-use Rattle.replay.proofs.Common.{IsRefusedFile, HasRefused}
+use Rattle.replay.proofs.Common.{IsRefusedFile, HasRefused, Run, Check, Lives, Proof, Save}
+use Rattle.replay.specs.Beginnings.{shows_rules}
 use Rattle.drl_parse.specs.Parsed.{parsed, parsed_by}
 use Rattle.replay.specs.declared.refusal.RefusalCode.TheVariants.{Missing}
 use Rattle.replay.specs.Checkpoints.{checkpoint_of, rules_shown}
@@ -142,3 +143,23 @@ refused_file name (Some files) read refusal there h e = here (files name) there 
     here (Some file) there h =
         let is : reading file ≡ Refused refusal = sym (within_taken file) ∙ ap reading (sym h) ∙ e in
         subst IsRefusedReading (sym is) tt
+
+-- what is wanted by the text of the rules is so by another text, unless that text is looked at
+pub shows_enough : (mode : Mode) (limit : ℕ) (image : Option (List ℕ)) (files : Files) (rules text : List ℕ) (p : Program) → (shows_rules mode image ≡ true → text ≡ rules)
+    → wanted_from mode limit image files rules p ≡ wanted_from mode limit image files text p
+shows_enough Run limit None files rules text p h = refl
+shows_enough Run limit (Some image) files rules text p h = ap (λ (r : List ℕ). wanted_from Run limit (Some image) files r p) (sym (h refl))
+shows_enough Save limit image files rules text p h = ap (λ (r : List ℕ). wanted_from Save limit image files r p) (sym (h refl))
+shows_enough Check limit None files rules text p h = refl
+shows_enough Check limit (Some image) files rules text p h = refl
+shows_enough Lives limit None files rules text p h = refl
+shows_enough Lives limit (Some image) files rules text p h = refl
+shows_enough Proof limit None files rules text p h = refl
+shows_enough Proof limit (Some image) files rules text p h = refl
+
+-- the text of the rules of an accepted file, where it was shown, is enough
+pub shown_enough : (mode : Mode) (limit : ℕ) (image : Option (List ℕ)) (files : Files) (bytes read text : List ℕ) (found : Reading) (p : Program) (shows : Bool)
+    → shows ≡ shows_rules mode image → found ≡ Accepted p → (shows ≡ true → (IsRefusedReading found → ⊥) → text ≡ rules_shown read) → read ≡ bytes
+    → wanted_from mode limit image files (rules_shown bytes) p ≡ wanted_from mode limit image files text p
+shown_enough mode limit image files bytes read text found p shows is accepted shown same =
+    shows_enough mode limit image files (rules_shown bytes) text p (λ on. shown (is ∙ on) (λ refused. subst IsRefusedReading accepted refused) ∙ ap rules_shown same)

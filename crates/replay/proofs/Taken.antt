@@ -30,7 +30,7 @@ use Rattle.replay.proofs.Tables.{by_table}
 tests_low : (long goes faulty : Bool) (bytes : List ℕ)
     → (if long then checkpoint_report TooLong else (if goes then record { bytes = bytes; status = run_status (Script faulty) } else checkpoint_report Unfit)).status ≤ 1
     → (long ≡ false) × (goes ≡ true)
-        × ((if long then checkpoint_report TooLong else (if goes then record { bytes = bytes; status = run_status (Script faulty) } else checkpoint_report Unfit)).bytes ≡ bytes)
+    × ((if long then checkpoint_report TooLong else (if goes then record { bytes = bytes; status = run_status (Script faulty) } else checkpoint_report Unfit)).bytes ≡ bytes)
 tests_low true goes faulty bytes low = absurd (omega (arith, low))
 tests_low false false faulty bytes low = absurd (omega (arith, low))
 tests_low false true faulty bytes low = (refl, refl, refl)
@@ -104,15 +104,15 @@ module _ (gives : Gives) (fires : Fires) (counts : Counts) (keep : KeepWorlds gi
     r.bytes,
     said.0,
     taken_so gives fires counts keep limit p runnable table are rules script ends r
-    (by_table p (λ (t : LifeTable). IsSaved p t limit (first_part rules) (whole_run (setting_of gives fires counts limit p t) (lines_of script)).comes_to r) report.0 table report.1 are report.2)
-    (subst (λ n. n ≤ 1) said.1 low),
+        (by_table p (λ (t : LifeTable). IsSaved p t limit (first_part rules) (whole_run (setting_of gives fires counts limit p t) (lines_of script)).comes_to r) report.0 table report.1 are report.2)
+        (subst (λ n. n ≤ 1) said.1 low),
   )
   taken_again (saves_on limit image p) first script before after status r runnable report said low = λ table are ends is. (
     r.bytes,
     said.0,
     taken_so gives fires counts keep limit p runnable table are image.run.rules (first ++ script) (both_end first script is.ends ends) r
-    (saved_so gives fires counts keep limit p runnable table first script image is r are report (λ unfit nine. omega (arith, nine, low, said.1)))
-    (subst (λ n. n ≤ 1) said.1 low),
+        (saved_so gives fires counts keep limit p runnable table first script image is r are report (λ unfit nine. omega (arith, nine, low, said.1)))
+        (subst (λ n. n ≤ 1) said.1 low),
   )
   taken_again (resumes limit image p) first script before after status r runnable report said low = tt
   taken_again usage_line first script before after status r runnable report said low = tt

@@ -1,8 +1,8 @@
 -- Where a run begins, and in which worlds.
-use Rattle.std.specs.Prelude.{◌≡◌, ◌⊎◌, ℕ, List, Option, Some, None}
+use Rattle.std.specs.Prelude.{◌≡◌, ◌⊎◌, ℕ, Bool, true, false, List, Option, Some, None}
 use Rattle.fx_io.specs.Outside.{Rose, IsOnShelf}
 use Rattle.command_words.specs.declared.asking.Mode.{Mode}
-use Rattle.command_words.specs.declared.asking.Mode.TheVariants.{Run, Save}
+use Rattle.command_words.specs.declared.asking.Mode.TheVariants.{Run, Check, Lives, Proof, Save}
 use Rattle.checkpoint.specs.declared.image.RunPart.{RunPart}
 use Rattle.image_laws.specs.Fitting.{Fits}
 use Rattle.image_laws.specs.Images.{IsImageOf}
@@ -34,6 +34,15 @@ CanBegin p table (Behind image) = Fits p table image
 -- a mode runs the script
 abbrev pub RunsIn : Mode → Type 0
 RunsIn mode = (mode ≡ Run) ⊎ (mode ≡ Save)
+
+-- whether a mode looks at the text of the rules: a run is saved, or goes on from the checkpoint that is named
+abbrev pub shows_rules : Mode → Option (List ℕ) → Bool
+shows_rules Save image = true
+shows_rules Run (Some image) = true
+shows_rules Run None = false
+shows_rules Check image = false
+shows_rules Lives image = false
+shows_rules Proof image = false
 
 -- with the name of an image, where one is given: a run begins behind the image of a file that is there, if the shelf tells its files
 abbrev pub IsBeginningFor : Option (List ℕ → Option (List ℕ)) → Mode → Option (List ℕ) → Beginning → Type 0

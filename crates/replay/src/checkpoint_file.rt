@@ -5,8 +5,8 @@ ghost use Rattle.checkpoint.specs.declared.image.Image.{Image as ImageData};
 ghost use Rattle.rule_model.specs.declared.program.Program.{Program};
 ghost use Rattle.replay.specs.declared.beginning.Beginning.TheVariants.{Behind};
 ghost use Rattle.replay.specs.declared.refused_checkpoint.CheckpointCode.{CheckpointCode as CodeData};
-ghost use Rattle.replay.specs.Beginnings.{IsBeginningFor, RefusesFor};
-ghost use Rattle.replay.specs.Checkpoints.{checkpoint_of, checkpoint_in, has_image, rules_shown, TellsCheckpointFault};
+ghost use Rattle.replay.specs.Beginnings.{IsBeginningFor, RefusesFor, shows_rules};
+ghost use Rattle.replay.specs.Checkpoints.{checkpoint_of, checkpoint_in, has_image, TellsCheckpointFault};
 ghost use Rattle.replay.specs.Wanted.{Files, wanted_at, wanted_from, refuses_checkpoint};
 ghost use Rattle.replay.specs.declared.checkpoint_file.CheckpointFault.TheVariants.{NoMemory as OutOfMemory};
 
@@ -15,8 +15,6 @@ use crate::refused_checkpoint::CheckpointCode;
 use crate::rule_file::{FileFault, read_whole};
 use checkpoint::{DecodeFault, Image, decode};
 use command_words::Mode;
-use drl_parse::{ParseFault, parse};
-use drl_show::show;
 use fx_base::{NoMemory, Seq};
 use fx_io::Shelf;
 use std::alloc::Global;
@@ -37,18 +35,6 @@ impl From<NoMemory> for CheckpointFault {
 
     fn from(_: NoMemory) -> Self {
         CheckpointFault::NoMemory
-    }
-}
-
-// The text of the rules of a file, as it is shown.
-#[tactic(auto, unfolding(crate::specs::Checkpoints::rules_shown))]
-fn rules_of(alloc: Global, file: &[u8]) -> Result<Vec<u8>, NoMemory>
-    ensures { IfOk result (λ rules. rules.items ≡ rules_shown file.now) }
-{
-    match parse(alloc, file) {
-        Ok(file) => show(alloc, &file),
-        Err(ParseFault::NoMemory) => Err(NoMemory),
-        Err(_) => Ok(Vec::new(alloc)),
     }
 }
 
@@ -100,48 +86,59 @@ fn read_image<F: Shelf>(
     image_of(alloc, rules, &bytes)
 }
 
-// Behind the image in the file of this name, of the rules of these bytes.
+// Behind the image in the file of this name, of rules with this text.
 fn behind<F: Shelf>(
     alloc: Global,
     name: &str,
-    file: &[u8],
+    rules: &[u8],
     shelf: &mut F,
 ) -> Result<Beginning, CheckpointFault>
     ensures found { IfOk result (λ beginning. (image : ImageData) × (beginning ≡ Behind image)
-        × ((files : Files) → F.files shelf.old ≡ Some files → checkpoint_in (rules_shown file.now) (files name.now) ≡ has_image image)) }
-    ensures refused { IfErr result (λ fault. (files : Files) → F.files shelf.old ≡ Some files → TellsCheckpointFault (checkpoint_in (rules_shown file.now) (files name.now)) fault) }
+        × ((files : Files) → F.files shelf.old ≡ Some files → checkpoint_in rules.now (files name.now) ≡ has_image image)) }
+    ensures refused { IfErr result (λ fault. (files : Files) → F.files shelf.old ≡ Some files → TellsCheckpointFault (checkpoint_in rules.now (files name.now)) fault) }
     ensures there { IfOk result (λ _. IsOnShelf (F.files shelf.old) name.now) }
     ensures cause { (code : CodeData) → IsErrOf result (CheckpointFault.Refused code)
         → Rose (F.misses shelf.old name.now) (F.misses shelf.new name.now) ⊎ IsOnShelf (F.files shelf.old) name.now }
     ensures failed { IsErrOf result CheckpointFault.ReadFault → Rose (F.faults shelf.old name.now) (F.faults shelf.new name.now) }
 {
-    let rules = rules_of(alloc, file)?;
-    let image = read_image(alloc, shelf, name, &rules)?;
+    let image = read_image(alloc, shelf, name, rules)?;
     Ok(Beginning::Behind(image))
 }
 
-/// Where the run begins that a mode asks for, with the rule file of these bytes and the checkpoint that is named, if one is.
+/// Where the run begins that a mode asks for, of rules with this text, with the checkpoint that is named, if one is.
 pub(crate) fn beginning<F: Shelf>(
     alloc: Global,
     mode: Mode,
     image: Option<&str>,
-    file: &[u8],
+    rules: Vec<u8>,
     shelf: &mut F,
 ) -> Result<Beginning, CheckpointFault>
     ensures found { IfOk result (λ beginning. (files : Files) → F.files shelf.old ≡ Some files → (limit : ℕ) (p : Program)
-        → wanted_from mode limit (option_map (λ name. name.now) image.entry) files (rules_shown file.now) p ≡ wanted_at mode limit beginning p) }
+        → wanted_from mode limit (option_map (λ name. name.now) image.entry) files rules.items p ≡ wanted_at mode limit beginning p) }
     ensures asked { IfOk result (IsBeginningFor (F.files shelf.old) mode (option_map (λ name. name.now) image.entry)) }
     ensures refused { (code : CodeData) → IsErrOf result (CheckpointFault.Refused code) → (files : Files) → F.files shelf.old ≡ Some files → (limit : ℕ) (p : Program)
-        → wanted_from mode limit (option_map (λ name. name.now) image.entry) files (rules_shown file.now) p ≡ refuses_checkpoint code }
+        → wanted_from mode limit (option_map (λ name. name.now) image.entry) files rules.items p ≡ refuses_checkpoint code }
     ensures cause { (code : CodeData) → IsErrOf result (CheckpointFault.Refused code)
         → RefusesFor (F.files shelf.old) (F.misses shelf.old) (F.misses shelf.new) mode (option_map (λ name. name.now) image.entry) }
     ensures failed { IsErrOf result CheckpointFault.ReadFault → (name : List ℕ) × (option_map (λ it. it.now) image.entry ≡ Some name)
         × Rose (F.faults shelf.old name) (F.faults shelf.new name) }
 {
     match (mode, image) {
-        (Mode::Run, Some(name)) => behind(alloc, name, file, shelf),
-        (Mode::Save, Some(name)) => behind(alloc, name, file, shelf),
-        (Mode::Save, None) => Ok(Beginning::First(Seq::from_vec(rules_of(alloc, file)?))),
-        _ => Ok(Beginning::First(Seq::from_vec(Vec::new(alloc)))),
+        (Mode::Run, Some(name)) => behind(alloc, name, &rules, shelf),
+        (Mode::Save, Some(name)) => behind(alloc, name, &rules, shelf),
+        _ => Ok(Beginning::First(Seq::from_vec(rules))),
+    }
+}
+
+/// Whether a mode looks at the text of the rules: a run is saved, or goes on from a checkpoint.
+pub(crate) fn shows_rules(mode: Mode, image: Option<&str>) -> bool
+    ensures { result ≡ shows_rules mode (option_map (λ it. it.now) image.entry) }
+{
+    match mode {
+        Mode::Save => true,
+        Mode::Run => image.is_some(),
+        Mode::Check => false,
+        Mode::Lives => false,
+        Mode::Proof => false,
     }
 }

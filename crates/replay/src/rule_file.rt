@@ -1,4 +1,4 @@
-ghost use Rattle.std.specs.Prelude.{◌≡◌, ◌<◌, ◌≤◌, ◌-◌, ℕ, List, length, take, drop, slice_index_or, Ok, Err, Result, IfOk, IfSome, IsErrOf};
+ghost use Rattle.std.specs.Prelude.{◌≡◌, ◌<◌, ◌≤◌, ◌-◌, ℕ, true, List, length, take, drop, slice_index_or, Ok, Err, Result, IfOk, IfSome, IsErrOf};
 ghost use Rattle.fx_io.specs.Outside.{Rose, file_told, IsMissing, IsOnShelf};
 ghost use Rattle.drl_parse.specs.Parsed.{Parsed, GivesParsed as GivesFile};
 ghost use Rattle.drl_check.specs.Answers.{FailsCheck};
@@ -9,7 +9,9 @@ ghost use Rattle.subrules.specs.Faults.{obstacle};
 ghost use Rattle.subrules.specs.Outcomes.{IsExpanded, IsRefusal};
 ghost use Rattle.rule_world.specs.Programs.{IsRunnable};
 ghost use Rattle.rule_model.specs.declared.program.Program.{Program as ProgramData};
-ghost use Rattle.replay.specs.Refusals.{of_parsed, of_obstacle, of_checked, reading, IsSoundReading};
+ghost use Rattle.replay.specs.Refusals.{of_parsed, of_obstacle, of_checked, reading, IsRefusedReading, IsSoundReading};
+ghost use Rattle.drl_show.specs.Shown.{shown};
+ghost use Rattle.replay.specs.Checkpoints.{rules_shown};
 ghost use Rattle.replay.specs.Titles.{renamed, with_titles};
 ghost use Rattle.replay.specs.declared.rule_file.Reading.TheVariants.{Refused};
 ghost use Rattle.replay.specs.declared.rule_file.FileFault.TheVariants.{NoMemory as OutOfMemory};
@@ -18,6 +20,7 @@ use crate::refusal::{Refusal, RefusalCode, whole_file};
 use drl_check::{CheckFault, check};
 use drl_grammar::Written;
 use drl_parse::{ParseFault, parse};
+use drl_show::show;
 use fx_base::{Copies, NoMemory, Seq, Text};
 use fx_io::{Shelf, ShelfFault};
 use rule_model::{Program, Rule};
@@ -233,13 +236,46 @@ fn read_file(alloc: Global, file: &Written) -> Result<Reading, NoMemory>
     }
 }
 
+// The text of the rules of a file, where it is to be shown.
+fn shown_text(alloc: Global, file: &Written, shows: bool) -> Result<Vec<u8>, NoMemory>
+    ensures { shows ≡ true → IfOk result (λ text. text.items ≡ shown file.now) }
+{
+    if shows {
+        show(alloc, file)
+    } else {
+        Ok(Vec::new(alloc))
+    }
+}
+
+/// What the bytes of a rule file are, and the text of the rules of one that is accepted, where that is to be shown. They are read once.
+#[tactic(auto, unfolding(crate::specs::Checkpoints::rules_shown))]
+pub(crate) fn read_rules(
+    alloc: Global,
+    bytes: &[u8],
+    shows: bool,
+) -> Result<(Reading, Vec<u8>), NoMemory>
+    ensures reading { IfOk result (λ read. read.0 ≡ reading bytes.now) }
+    ensures sound { IfOk result (λ read. IsSoundReading read.0) }
+    ensures text { shows ≡ true → IfOk result (λ read. (IsRefusedReading read.0 → ⊥) → read.1.items ≡ rules_shown bytes.now) }
+{
+    match parse(alloc, bytes) {
+        Ok(file) => {
+            let text = shown_text(alloc, &file, shows)?;
+            let reading = read_file(alloc, &file)?;
+            Ok((reading, text))
+        }
+        Err(fault) => {
+            let refusal = parse_refusal(fault)?;
+            Ok((Reading::Refused(refusal), Vec::new(alloc)))
+        }
+    }
+}
+
 /// What the bytes of a rule file are.
 pub(crate) fn reading_of(alloc: Global, bytes: &[u8]) -> Result<Reading, NoMemory>
     ensures reading { IfOk result (λ found. found ≡ reading bytes.now) }
     ensures sound { IfOk result IsSoundReading }
 {
-    match parse(alloc, bytes) {
-        Ok(file) => read_file(alloc, &file),
-        Err(fault) => Ok(Reading::Refused(parse_refusal(fault)?)),
-    }
+    let (reading, _) = read_rules(alloc, bytes, false)?;
+    Ok(reading)
 }

@@ -16,13 +16,13 @@ ghost use Rattle.replay.specs.Report.{Report, IsFront, IsReport, Reports, IsWrit
 ghost use Rattle.replay.specs.Wanted.{Files, runs, wanted, wanted_at, wanted_by, wanted_by_name, IfRefuses, ReadsFile, RunsScript, SavesRun, HasRefused, IsUnfit, ReadFails, MayRefuse};
 
 use crate::beginning::Beginning;
-use crate::checkpoint_file::{CheckpointFault, beginning};
+use crate::checkpoint_file::{CheckpointFault, beginning, shows_rules};
 use crate::load::run_load;
 use crate::modes::{accept, tell_lives};
 use crate::proving::tell_proof;
 use crate::refusal::{RefusalCode, whole_file};
 use crate::refused_checkpoint::refuse_checkpoint;
-use crate::rule_file::{FileFault, Reading, read_whole, reading_of};
+use crate::rule_file::{FileFault, Reading, read_rules, read_whole};
 use crate::running::run_program;
 use crate::saving::save_program;
 use crate::saying::{refuse, say};
@@ -102,12 +102,16 @@ fn answer<E: Engine, F: Shelf, S: Source, K: Sink>(
         Err(FileFault::ReadFault) => return 5,
         Err(FileFault::NoMemory) => return 7,
     };
-    let program = match reading_of(alloc, &file) {
-        Ok(Reading::Accepted(program)) => program,
-        Ok(Reading::Refused(refusal)) => return refuse(alloc, out, refusal),
+    let shows = shows_rules(plan.mode, image);
+    let (reading, rules) = match read_rules(alloc, &file, shows) {
+        Ok(read) => read,
         Err(_) => return 7,
     };
-    match beginning(alloc, plan.mode, image, &file, shelf) {
+    let program = match reading {
+        Reading::Accepted(program) => program,
+        Reading::Refused(refusal) => return refuse(alloc, out, refusal),
+    };
+    match beginning(alloc, plan.mode, image, rules, shelf) {
         Ok(beginning) => do_mode::<E, S, K>(alloc, plan, program, beginning, script, out),
         Err(CheckpointFault::Refused(code)) => refuse_checkpoint(alloc, out, code),
         Err(CheckpointFault::ReadFault) => 5,

@@ -132,8 +132,8 @@ part_joined setting w first a b s t one two =
     let limit : ℕ = setting.limit in
     let low : s.progress.left ≤ limit - first.firings = run_within setting (state_in w (progress_behind limit first)) s a one in
     let less : t.progress.left ≤ s.progress.left =
-        subst (λ n. t.progress.left ≤ n) (left_is limit first.firings s.progress.left low)
-        (run_within setting (state_in s.world (progress_behind limit (run_part_at limit first s.progress))) t b two) in
+    subst (λ n. t.progress.left ≤ n) (left_is limit first.firings s.progress.left low)
+    (run_within setting (state_in s.world (progress_behind limit (run_part_at limit first s.progress))) t b two) in
     ap with_firings (on_is limit first.firings s.progress.left t.progress.left low less)
   where
     with_firings : ℕ → RunPart
