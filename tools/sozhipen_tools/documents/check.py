@@ -25,9 +25,9 @@ from .tree import Tree
 
 # The greatest number of words, by page, and of all together; programs and what they print are not counted.
 LIMITS = {"README": 710, "RULES": 5300, "LIVES": 2250, "SCRIPT": 2650, "LIVE": 3800, "OPERATING": 1400,
-          "EXAMPLES": 2500, "COMING-FROM": 2840, "TOOLS": 1500, "RECIPES": 700, "PROVED": 4200, "MAP": 3475,
-          "DECISIONS": 2575, "PERFORMANCE": 1950, "CHANGING": 2490, "PROOF-NOTES": 3200}
-ALL_WORDS = 41250
+          "EXAMPLES": 2500, "COMING-FROM": 2840, "TOOLS": 1500, "RECIPES": 700, "PROVED": 4600, "MAP": 3475,
+          "DECISIONS": 2575, "PERFORMANCE": 1950, "CHANGING": 2510, "PROOF-NOTES": 3200}
+ALL_WORDS = 41750
 LONG = 40
 # Pages that speak of the code alone: a name of code that stands nowhere is a fault there.
 OF_CODE = {"PROVED", "MAP", "DECISIONS", "CHANGING", "PROOF-NOTES"}
