@@ -1,5 +1,6 @@
 -- When a source may be asked, as bytes are taken from it.
-use Rattle.fx_io.proofs.Common.{◌≡◌, ◌≤◌, ◌+◌, ◌++◌, ℕ, List, [], ◌∷◌, length, take, drop, Some, Ok, sym, ap, subst, ◌∙◌, arith, inl, append_assoc, append-nil, take-append-drop, take-append-le}
+use Rattle.fx_io.proofs.Common.{◌≡◌, ◌≤◌, ◌+◌, ◌++◌, ℕ, List, [], ◌∷◌, length, take, drop, Some, Ok, sym, ap, subst, ◌∙◌, arith, inl, append_assoc}
+use Rattle.fx_io.proofs.Common.{append-nil, take-append-drop, take-append-le}
 use Rattle.fx_io.proofs.Common.{Follows, MayAskMidLine, IsEnded, EndsOrMay, count_after, HasNoEnd, IsFirstEnd, IsAnswer, Line, Whole, Long, End}
 use Rattle.fx_io.proofs.Ends.{HasNoEnd-append}
 

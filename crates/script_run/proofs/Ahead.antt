@@ -1,5 +1,6 @@
 -- The outcome of the lines ahead, line by line, against what was written and what is gathered.
-use Rattle.script_run.proofs.Common.{◌≡◌, ◌≢◌, ◌⊎◌, inl, inr, ◌<◌, ◌≤◌, ◌+◌, ◌^◌, ◌++◌, ℕ, Bool, true, false, List, [], ◌∷◌, length, take, drop, Option, Some, None}
+use Rattle.script_run.proofs.Common.{◌≡◌, ◌≢◌, ◌⊎◌, inl, inr, ◌<◌, ◌≤◌, ◌+◌, ◌^◌, ◌++◌, ℕ, Bool, true, false, List, [], ◌∷◌, length, take, drop, Option}
+use Rattle.script_run.proofs.Common.{Some, None}
 use Rattle.script_run.proofs.Common.{Result, Ok, Err, option_map, refl, sym, ap, ap₂, subst, ◌∙◌, append_assoc, arith, IfSome, OnErr, flat_map-append}
 use Rattle.script_run.proofs.Common.{append-nil, length-append, take_at, take-append-drop, prepend, append, AppendsFront, IsExhausted, with_line, total_told}
 use Rattle.script_run.proofs.Common.{HasNoEnd, TakesLine, ReadsBytes, Line, Whole, End, World, Goes, Stops, Progress, Ended, RunSetting, RunState, Outcome}

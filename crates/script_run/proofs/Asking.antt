@@ -1,7 +1,9 @@
 -- When the source may be asked for more, as lines are taken and what they print is written.
 use Rattle.script_run.proofs.Common.{◌≡◌, inl, inr, ◌++◌, ◌==◌, ℕ, Bool, true, false, List, [], ◌∷◌, take, drop, Option, Some, Ok, refl, sym, ap, subst, ◌∙◌}
-use Rattle.script_run.proofs.Common.{if◌then◌else◌, append_assoc, take-append-drop, list_any-append, append, HasNoEnd, has_end, AppendsFront, with_line, Line, Whole, Long, End, World}
-use Rattle.script_run.proofs.Common.{Goes, Progress, RunSetting, RunState, Outcome, Answers, run, state_in, step_in, progress_after, Done, goes_on, Does, Flushes}
+use Rattle.script_run.proofs.Common.{if◌then◌else◌, append_assoc, take-append-drop, list_any-append, append, HasNoEnd, has_end, AppendsFront, with_line}
+use Rattle.script_run.proofs.Common.{Line, Whole, Long, End, World}
+use Rattle.script_run.proofs.Common.{Goes, Progress, RunSetting, RunState, Outcome, Answers, run, state_in, step_in, progress_after, Done, goes_on, Does}
+use Rattle.script_run.proofs.Common.{Flushes}
 use Rattle.std.proofs.lemmas.Bool.{or_parts}
 use Rattle.std.proofs.Math.Seq.{take-nil, drop-nil}
 use Rattle.fx_io.specs.Asking.{Follows, MayAskMidLine, EndsOrMay}

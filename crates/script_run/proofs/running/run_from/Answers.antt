@@ -3,11 +3,13 @@ use Rattle.script_run.proofs.Common.{Stops, setting_of, state_in, at_end, at_lim
 use Rattle.fx_io.specs.Reader.{Reader}
 use Rattle.script_run.specs.declared.fault.RunFault.TheVariants.{NoMemory, WriteFault}
 use Rattle.script_run.specs.Prompt.{heard}
-use Rattle.script_run.proofs.Ahead.{goes_further, ends_there, flushed, all_done, no_line, no_more, heard_run, heard_ended, stopped, stopped_in, stopped_at_read, long_run, long_heard}
+use Rattle.script_run.proofs.Ahead.{goes_further, ends_there, flushed, all_done, no_line, no_more, heard_run, heard_ended, stopped, stopped_in}
+use Rattle.script_run.proofs.Ahead.{stopped_at_read, long_run, long_heard}
 use Rattle.script_run.proofs.Asking.{asks_first, asks_flushed, asks_mid_line, asks_turned, nothing_said, said_flushed, said_hushed, said_stays}
 use Rattle.script_run.proofs.Asking.{quiet_first, quiet_so, quiet_flushed, quiet_front, quiet_all}
 use Rattle.script_run.proofs.Ahead.{told_err, if_told, at_start, moves_on, flushed_front, written_then, append_nothing}
-use Rattle.script_run.proofs.Stops.{err_of, given_since, takes_stop, long_stop, read_stop, long_taken, exhausted, none_given, stops_mid_line, no_memory_at_read}
+use Rattle.script_run.proofs.Stops.{err_of, given_since, takes_stop, long_stop, read_stop, long_taken, exhausted, none_given, stops_mid_line}
+use Rattle.script_run.proofs.Stops.{no_memory_at_read}
 use Rattle.script_run.proofs.Stops.{no_memory_at_length, none_kept, has_at_most}
 use Rattle.script_run.proofs.running.run_from.Goals as goal
 use Rattle.script_run.proofs.running.run_from.Goals.{then-not-is_ready, else-not-is_ready}
