@@ -4,6 +4,8 @@ use Rattle.drl_parse.specs.Parsed.{file_limit}
 use Rattle.replay.proofs.Calls.{by_told, told_is, refused_done, refuses_since, rose_since, checkpoint_done, nothing_done, not_refused}
 use Rattle.replay.proofs.Reports.{no_file, a_file, accepted_file, refused_file}
 use Rattle.replay.proofs.ImagesRead.{unread_at}
+use Rattle.replay.specs.Report.{IsPrompt}
+use Rattle.replay.specs.Wanted.{Wanted}
 use Rattle.replay.proofs.top.answer.Goals as goal
 
 pub returns-in-Err-Missing-clause-run : goal.returns-in-Err-Missing-clause-run
@@ -105,3 +107,16 @@ returns-in-Ok-beginning-clause-unread g c files told refused =
     c.do_mode.ensures.unread (unread_at mode limit c.in-Ok-beginning.beginning p (subst IsUnread
     (accepted_file mode limit image c.args.name.now _ files bytes p told c.in-Ok.ensures.found c.in-Ok.ensures.bytes is
     ∙ ap (λ (read : List ℕ). wanted_from mode limit image files (rules_shown read) p) (sym c.deref-2.ensures.value) ∙ c.in-Ok-beginning.ensures.found files (c.read_whole.ensures.files ∙ told) limit p) refused))
+
+pub do_mode-requires-clause-prompt : goal.do_mode-requires-clause-prompt
+unfolding file_limit
+do_mode-requires-clause-prompt g c asked now h =
+    let image = option_map (λ it. it.now) c.args.image in
+    let mode = c.args.plan.mode in
+    let limit = c.args.plan.limit in
+    let p = c.in-Ok-Accepted.program in
+    let bytes = c.in-Ok.file.items in
+    let is : reading bytes ≡ Accepted p = ap reading (sym c.deref.ensures.value) ∙ sym c.in-Ok-Accepted.ensures.reading ∙ c.in-Ok-Accepted.field-0-is in
+    c.requires.prompt asked now (λ files told. subst (λ (w : Wanted). IsPrompt g.E.Engine.gives g.E.Engine.fires g.E.Engine.counts w asked (g.K.Sink.written c.args.out.now) (g.K.Sink.written now))
+    (sym (accepted_file mode limit image c.args.name.now _ files bytes p told c.in-Ok.ensures.found c.in-Ok.ensures.bytes is
+    ∙ ap (λ (read : List ℕ). wanted_from mode limit image files (rules_shown read) p) (sym c.deref-2.ensures.value) ∙ c.in-Ok-beginning.ensures.found files (c.read_whole.ensures.files ∙ told) limit p)) h)
