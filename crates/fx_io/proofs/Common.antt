@@ -4,6 +4,7 @@ pub use Rattle.std.proofs.Common.{append-nil, inl, inr, length-append, true, ◌
 pub use Rattle.std.proofs.lemmas.Bool.{both_ways, eq-eqb, eqb-true, ne_eqb, or_from, or_parts}
 pub use Rattle.std.proofs.lemmas.List.{length-drop, take-append-drop, drop-drop, drop_more, length-take, take-append-le, take_all, take_rest}
 pub use Rattle.fx_io.specs.Answers.{ReadsBytes, TakesFromBytes, TakesLine, Answers, GivesLine, UsesBytesUp, IsAnswer, IsLastAnswer, IsLinePart}
+pub use Rattle.fx_io.specs.Asking.{Follows, MayAlways, MayAskMidLine, IsEnded, EndsOrMay}
 pub use Rattle.fx_io.specs.Lines.{has_end, HasNoEnd, IsFirstEnd, lines_ahead, to_come, with_line}
 pub use Rattle.fx_io.specs.Outside.{prepend, IsExhausted, append, count_after}
 pub use Rattle.fx_io.specs.declared.line.Line.{Line}

@@ -17,7 +17,7 @@ pub record Reading (most : ℕ) (before window : List ℕ) (front : PartLine) (t
 
 module _ (most : ℕ) (before window : List ℕ) (front : PartLine) (taken_before taken_now given_before given_now : ℕ) (left_before left_now : Option (List ℕ)) (so_far : Reading most before window front taken_before taken_now given_before given_now left_before left_now) where
   -- the window went into the part, and new bytes came from the source
-  pub read_on : (front_next : PartLine) (new : List ℕ) (n taken_next given_next : ℕ) (left_next : Option (List ℕ)) → ((text : List ℕ) → IsLinePart most text front → IsLinePart most (text ++ window) front_next) → HasNoEnd window
+  unfoldable pub read_on : (front_next : PartLine) (new : List ℕ) (n taken_next given_next : ℕ) (left_next : Option (List ℕ)) → ((text : List ℕ) → IsLinePart most text front → IsLinePart most (text ++ window) front_next) → HasNoEnd window
       → length new ≡ n → taken_next ≡ taken_now + n → given_next ≡ count_after given_now n → left_now ≡ prepend new left_next
       → Reading most before new front_next taken_before taken_next given_before given_next left_before left_next
   read_on front_next new n taken_next given_next left_next part no_end len taken given left = record {

@@ -53,15 +53,17 @@ impl MemSource {
     }
 }
 
-impl Source for MemSource {
+impl<K> Source<K> for MemSource {
     ghost left = { λ s. Some s.left };
 
     ghost given = { λ s. s.given };
 
     ghost faults = { λ s. s.faults };
 
+    ghost may_ask = { λ _ _ _. Unit {0} };
+
     #[tactic(auto, using(crate::proofs::Told::read_more, std::proofs::lemmas::List::take_rest))]
-    fn read(&mut self, buf: &mut [u8]) -> Result<usize, Failed>
+    fn read(&mut self, _out: &K, buf: &mut [u8]) -> Result<usize, Failed>
         // Exact; what every source ensures follows from these clauses.
         ensures fails { is_err result ≡ is_call_listed self.old.failing self.old.calls }
         ensures failed { OnErr result (self.new ≡ source_failed self.old) }

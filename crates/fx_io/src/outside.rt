@@ -1,4 +1,5 @@
-ghost use Rattle.std.specs.Prelude.{◌≡◌, ◌<◌, ◌≤◌, ℕ, List, length, take, drop, Option, IfOk, IfSome, OnErr, IsErrOf, Ok};
+ghost use Rattle.std.specs.Prelude.{◌≡◌, ◌<◌, ◌≤◌, ℕ, List, [], length, take, drop, Option, IfOk, IfSome, OnErr, IsErrOf, Ok};
+ghost use Rattle.fx_io.specs.Asking.{Follows, MayAlways};
 ghost use Rattle.fx_io.specs.Outside.{Rose, count_after, prepend, append, IsExhausted, file_told, IsMissing, IsOnShelf};
 
 /// The outside refused a call.
@@ -13,8 +14,8 @@ pub enum ShelfFault {
     Failed,
 }
 
-/// Bytes that come in.
-pub trait Source {
+/// Bytes that come in, of one whose answers go out by outputs of the type `K`.
+pub trait Source<K> {
     /// The bytes that are left, where it tells them.
     ghost left: { Self → Option (List ℕ) };
 
@@ -24,9 +25,19 @@ pub trait Source {
     /// How often it has failed; stands still at 2^64 - 1.
     ghost faults: { Self → ℕ };
 
+    /// Whether it may be asked for more where the output is so, once these bytes more were taken from it: what one who waits
+    /// for answers wants to have before he goes on.
+    ghost may_ask: { Self → List ℕ → K → Type 0 };
+
     /// Takes the next bytes into the front of the buffer, and says how many. 0 into a buffer that is not empty is
-    /// the end of the input. A call that fails takes nothing.
-    fn read(&mut self, buf: &mut [u8]) -> Result<usize, Failed>
+    /// the end of the input. A call that fails takes nothing. The output is only looked at: it is to be as the source
+    /// wants it.
+    fn read(&mut self, out: &K, buf: &mut [u8]) -> Result<usize, Failed>
+        requires { may_ask self.old [] out.now }
+        ensures asked { IfOk result (λ n. Follows (may_ask self.old) (take n buf.new) (may_ask self.new)) }
+        ensures err_asked { OnErr result (Follows (may_ask self.old) [] (may_ask self.new)) }
+        ensures ended { 0 < length buf.old → result ≡ Ok 0 → MayAlways (may_ask self.new) }
+
         ensures within { IfOk result (λ n. n ≤ length buf.old) }
         ensures taken { IfOk result (λ n. left self.old ≡ prepend (take n buf.new) (left self.new)) }
         ensures end { 0 < length buf.old → result ≡ Ok 0 → IsExhausted (left self.old) }

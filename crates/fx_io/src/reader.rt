@@ -1,5 +1,6 @@
 ghost use Rattle.std.specs.Prelude.{◌≡◌, ◌⊎◌, ◌<◌, ◌≤◌, ◌^◌, ◌+◌, ◌-◌, ◌++◌, ℕ, List, true, false, [], Some, None, Ok, Err, IfOk, IfErr, IfSome, IsErrOf};
 ghost use Rattle.fx_io.specs.Outside.{Rose, prepend, count_after};
+ghost use Rattle.fx_io.specs.Asking.{Follows, MayAskMidLine, EndsOrMay};
 ghost use Rattle.fx_io.specs.Lines.{lines_ahead, has_end, total_told, to_come};
 ghost use Rattle.fx_io.specs.Answers.{Answers, LeavesNoEnd, ReadsBytes, GivesLine, UsesBytesUp};
 
@@ -69,8 +70,11 @@ impl LineReader {
         self.window.has_end()
     }
 
-    /// The next line. Once it answers a fault, each later call answers the same and leaves the source alone.
-    pub fn next_line<S: Source>(&mut self, source: &mut S) -> Result<Line, LineFault>
+    /// The next line. It asks the source only where no line end is kept. Once it answers a fault, each later call answers
+    /// the same and leaves the source alone.
+    pub fn next_line<K, S: Source<K>>(&mut self, source: &mut S, out: &K) -> Result<Line, LineFault>
+        requires asks { self.old.fault ≡ None → MayAskMidLine (S.may_ask source.old) self.old.kept out.now }
+
         // Where the source tells its bytes: the first of the lines ahead is answered, and the others stay ahead.
         ensures line { IfOk result (λ line. Answers self.old.line_max line
             (lines_ahead self.old.kept (S.left source.old)) (lines_ahead self.new.kept (S.left source.new))) }
@@ -84,6 +88,11 @@ impl LineReader {
             (S.left source.old) (S.left source.new)
             × GivesLine self.old.line_max self.old.total_max result (self.old.kept ++ read)
             self.new.kept self.new.taken (S.left source.new) }
+
+        // When the source may be asked then. It was asked in the middle of a line alone.
+        ensures asks { self.old.fault ≡ None → (read : List ℕ)
+            × Follows (S.may_ask source.old) read (S.may_ask source.new)
+            × EndsOrMay self.old.line_max result (self.old.kept ++ read) self.new.kept (S.may_ask source.new) }
 
         // How many bytes were taken.
         ensures together { S.given source.new ≡ count_after (S.given source.old) (self.new.taken - self.old.taken) }
@@ -127,6 +136,7 @@ impl LineReader {
             self.line_max,
             self.total_max,
             source,
+            out,
         ) {
             Ok(line) => Ok(line),
             Err(fault) => {

@@ -1,5 +1,6 @@
 ghost use Rattle.std.specs.Prelude.{◌≡◌, ◌<◌, ◌≤◌, ◌+◌, ◌^◌, ◌++◌, List, ℕ, true, IsErrOf};
 ghost use Rattle.fx_io.specs.Outside.{Rose};
+ghost use Rattle.fx_io.specs.Asking.{Follows, MayAskMidLine, EndsOrMay};
 ghost use Rattle.fx_io.specs.Lines.{has_end};
 ghost use Rattle.fx_io.specs.Answers.{ReadsBytes, GivesLine};
 
@@ -9,20 +10,24 @@ use crate::{Failed, Line, LineFault, Source};
 use std::alloc::Global;
 
 // The next line of what the window holds and the source has left.
-pub(crate) fn line_from<S: Source>(
+pub(crate) fn line_from<K, S: Source<K>>(
     alloc: Global,
     window: &mut Window,
     taken: &mut u64,
     line_max: usize,
     total_max: u64,
     source: &mut S,
+    out: &K,
 ) -> Result<Line, LineFault>
     requires small { total_max < 2 ^ 62 }
+    requires asks { MayAskMidLine (S.may_ask source.old) window.old out.now }
     requires few { taken.old ≤ total_max + 1 }
     ensures gives { (read : List ℕ)
         × ReadsBytes read taken.old taken.new (S.given source.old) (S.given source.new)
         (S.left source.old) (S.left source.new)
         × GivesLine line_max total_max result (window.old ++ read) window.new taken.new (S.left source.new) }
+    ensures asks { (read : List ℕ) × Follows (S.may_ask source.old) read (S.may_ask source.new)
+        × EndsOrMay line_max result (window.old ++ read) window.new (S.may_ask source.new) }
     ensures few { taken.new ≤ total_max + 1 }
     ensures ready { has_end window.old ≡ true → source.new ≡ source.old }
     ensures ready_taken { has_end window.old ≡ true → taken.new ≡ taken.old }
@@ -41,7 +46,7 @@ pub(crate) fn line_from<S: Source>(
         if *taken > total_max {
             return Err(LineFault::ScriptLong);
         }
-        match window.refill(source, total_max + 1 - *taken) {
+        match window.refill(source, out, total_max + 1 - *taken) {
             Err(Failed) => return Err(LineFault::ReadFault),
             Ok(0) => return Ok(part.finish_last()),
             Ok(n) => *taken += n as u64,

@@ -1,5 +1,6 @@
 ghost use Rattle.std.specs.Prelude.{◌≡◌, ◌≢◌, ◌<◌, ◌≤◌, ◌+◌, ℕ, true, [], length, take, drop, slice_index, Option, Ok, Some, IfOk, IfSome, OnErr};
 ghost use Rattle.fx_io.specs.Outside.{Rose, prepend, count_after, IsExhausted};
+ghost use Rattle.fx_io.specs.Asking.{Follows, MayAlways};
 ghost use Rattle.fx_io.specs.Lines.{has_end, IsFirstEnd};
 
 use crate::{Failed, Source};
@@ -85,8 +86,17 @@ impl Window {
     }
 
     /// Puts in place of the bytes at most so many of the source.
-    pub(crate) fn refill<S: Source>(&mut self, source: &mut S, most: u64) -> Result<usize, Failed>
-        requires { 0 < most }
+    pub(crate) fn refill<K, S: Source<K>>(
+        &mut self,
+        source: &mut S,
+        out: &K,
+        most: u64,
+    ) -> Result<usize, Failed>
+        requires some { 0 < most }
+        requires asks { S.may_ask source.old [] out.now }
+        ensures asked { IfOk result (λ _. Follows (S.may_ask source.old) self.new (S.may_ask source.new)) }
+        ensures err_asked { OnErr result (Follows (S.may_ask source.old) [] (S.may_ask source.new)) }
+        ensures ended { result ≡ Ok 0 → MayAlways (S.may_ask source.new) }
         ensures len { IfOk result (λ n. length self.new ≡ n) }
         ensures within { IfOk result (λ n. n ≤ most) }
         ensures taken { IfOk result (λ n. S.left source.old ≡ prepend self.new (S.left source.new)) }
@@ -100,7 +110,7 @@ impl Window {
         self.from = 0;
         self.to = 0;
         self.end = None;
-        let n = read_front(source, &mut self.buffer, most)?;
+        let n = read_front(source, out, &mut self.buffer, most)?;
         self.to = n;
         self.end = find_end(&self.buffer[..n]);
         Ok(n)
@@ -118,9 +128,18 @@ fn find_end(bytes: &[u8]) -> Option<usize>
 // Takes at most so many bytes into the front of a buffer. The buffer that is lent to the source has at most so many,
 // so what lies behind them stays.
 #[tactic(auto, using(crate::proofs::Told::prepend_front))]
-fn read_front<S: Source>(source: &mut S, buffer: &mut [u8], most: u64) -> Result<usize, Failed>
+fn read_front<K, S: Source<K>>(
+    source: &mut S,
+    out: &K,
+    buffer: &mut [u8],
+    most: u64,
+) -> Result<usize, Failed>
     requires room { 0 < length buffer.old }
     requires some { 0 < most }
+    requires asks { S.may_ask source.old [] out.now }
+    ensures asked { IfOk result (λ n. Follows (S.may_ask source.old) (take n buffer.new) (S.may_ask source.new)) }
+    ensures err_asked { OnErr result (Follows (S.may_ask source.old) [] (S.may_ask source.new)) }
+    ensures ended { result ≡ Ok 0 → MayAlways (S.may_ask source.new) }
     ensures len { IfOk result (λ n. n ≤ length buffer.old) }
     ensures within { IfOk result (λ n. n ≤ most) }
     ensures lent { drop most buffer.new ≡ drop most buffer.old }
@@ -133,5 +152,5 @@ fn read_front<S: Source>(source: &mut S, buffer: &mut [u8], most: u64) -> Result
     ensures cause { OnErr result (Rose (S.faults source.old) (S.faults source.new)) }
 {
     let room = (buffer.len() as u64).min(most) as usize;
-    source.read(&mut buffer[..room])
+    source.read(out, &mut buffer[..room])
 }

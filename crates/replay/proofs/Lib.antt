@@ -10,6 +10,7 @@ pub mod Tables
 pub mod LivesText
 pub mod Calls
 pub mod Runs
+pub mod Prompting
 pub mod ImagesRead
 pub mod ImagesWritten
 pub mod Programs

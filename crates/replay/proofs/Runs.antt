@@ -350,13 +350,13 @@ module _ (gives : Gives) (fires : Fires) (counts : Counts) (name : List ℕ) (im
       })
 
   -- the run stopped before it was saved
-  pub save_failed : (f : RunFault)
+  pub save_failed : (f : RunFault) → after ≡ before
       → ((n : ℕ) × (given' ≡ count_after given n) × TakesScript (failing f) n × (n ≤ 2 ^ 30 + 1))
-      → (f ≡ ReadFault → Rose faults faults') → f ≢ WriteFault
+      → (f ≡ ReadFault → Rose faults faults') → (f ≡ WriteFault → Rose failed failed')
       → ((w : World) → BeginsIn p table b w → f ≡ ScriptLong → IfSome left (Long (run_on (setting_of gives fires counts limit p table) w (part_of b))))
       → (f ≡ ScriptLong → IfSome left (λ bytes. 2 ^ 30 < length bytes))
-      → RunOf gives fires counts (Some (RuleFile name Save limit image)) (Some (wanted_at Save limit b p)) (seen first left given faults before failed) (seen last left' given' faults' before failed) (fault_status f)
-  save_failed f taken read write long over = record {
+      → RunOf gives fires counts (Some (RuleFile name Save limit image)) (Some (wanted_at Save limit b p)) (seen first left given faults before failed) (seen last left' given' faults' after failed') (fault_status f)
+  save_failed f same taken read write long over = rw same (record {
     written = λ w script is tells. subst (λ (v : Wanted). IsWritten gives fires counts v script before before (fault_status f)) (some_is is) (record {
       exact = λ low. absurd (omega (arith, low, (high f).0));
       refused = λ nine. absurd (omega (arith, nine, (high f).1));
@@ -371,11 +371,11 @@ module _ (gives : Gives) (fires : Fires) (counts : Counts) (name : List ℕ) (im
     file = λ three. absurd (omega (arith, three, (high f).0));
     read = λ five. (RuleFile name Save limit image, refl, inr (inr (inr refl, read (is_read_fault f five))));
     checkpoint = λ nine. absurd (omega (arith, nine, (high f).1));
-    write = λ six. absurd (write (is_write_fault f six));
+    write = λ six. write (is_write_fault f six);
     over = λ eight. (inr refl, over (is_long f eight));
     taken = (taken.0, taken.1, takes_at f taken.0 taken.2 taken.3);
     nothing_left = λ low. absurd (omega (arith, low, (high f).0));
-  }
+  })
 
 -- an image does not fit
 pub unfit_run : (gives : Gives) (fires : Fires) (counts : Counts) (limit : ℕ) (p : Program) (table : LifeTable) (b : Beginning) → AreLives p table → (CanBegin p table b → ⊥)
@@ -409,7 +409,3 @@ ends_saved faulted (inr (inr nine)) = inr (inr (inr nine))
 
 pub not_nine_limited : (s : ℕ) → (s ≡ 4) ⊎ ((6 ≤ s) × (s ≤ 7)) → s ≢ 9
 not_nine_limited s answers nine = grind (arith, answers, nine)
-
--- nothing fails that tells nothing
-pub none_rises : Rose 0 0 → ⊥
-none_rises rose = grind (arith, rose)

@@ -11,6 +11,7 @@ use Rattle.script_run.specs.declared.turn.Ended.{Ended}
 use Rattle.script_run.specs.declared.turn.Ended.TheVariants.{Script, Limit}
 use Rattle.script_run.specs.Firings.{Gives, Fires, Counts}
 use Rattle.script_run.specs.Parts.{first_part, run_part_at, run_on}
+use Rattle.script_run.specs.Prompt.{whole_lines}
 use Rattle.script_run.specs.Run.{Outcome, RunState, setting_of, whole_run}
 use Rattle.script_run.specs.Texts.{limit_text}
 use Rattle.script_run.specs.Unfinished.{Long, StoppedAtRead}
@@ -200,6 +201,16 @@ IsStopped gives fires counts (resumes limit image program) script left before af
     (table : LifeTable) → AreLives program table → (w : World) → IsLawful program w → IsImageOf program table w image
     → StoppedAtRead (run_on (setting_of gives fires counts limit program table) w image.run) script left before after
 IsStopped gives fires counts _ script left before after = after ≡ before
+
+-- What is written while a run waits for more of its script, of which these bytes were taken: what the lines print that end in them, and nothing
+-- else; behind an image that holds in each of its worlds. In all else nothing is.
+abbrev pub IsPrompt : Gives → Fires → Counts → Wanted → List ℕ → Option (List ℕ) → Option (List ℕ) → Type 0
+IsPrompt gives fires counts (runs limit program) bytes before now =
+    (table : LifeTable) → AreLives program table → now ≡ append before (whole_run (setting_of gives fires counts limit program table) (whole_lines bytes)).bytes
+IsPrompt gives fires counts (resumes limit image program) bytes before now =
+    (table : LifeTable) → AreLives program table → (w : World) → IsLawful program w → IsImageOf program table w image
+    → now ≡ append before (run_on (setting_of gives fires counts limit program table) w image.run (whole_lines bytes)).bytes
+IsPrompt gives fires counts _ bytes before now = now ≡ before
 
 -- how many bytes of the script are taken for this status: never more than one beyond 1 GiB
 pub record TakesFor (status n : ℕ) : Type 0 where

@@ -9,7 +9,6 @@ mod checkpoint_file;
 pub mod laws;
 mod load;
 mod modes;
-mod nowhere;
 mod proving;
 mod refusal;
 mod refused_checkpoint;

@@ -7,6 +7,7 @@ ghost use Rattle.rule_world.specs.Programs.{IsRunnable};
 ghost use Rattle.rule_world.specs.Worlds.{World};
 ghost use Rattle.replay.specs.Beginnings.{BeginsIn, CanBegin, IsBeginningFor, part_of};
 ghost use Rattle.replay.specs.Calls.{ShelfSeen, seen, RunOf};
+ghost use Rattle.replay.specs.Report.{IsPrompt};
 ghost use Rattle.replay.specs.Wanted.{wanted_at};
 
 use crate::beginning::Beginning;
@@ -69,7 +70,7 @@ pub(crate) fn begun<E: Engine>(
 }
 
 // Runs a program with the table of its lives over a script, from the beginning.
-fn run_with_lives<E: Engine, S: Source, K: Sink>(
+fn run_with_lives<E: Engine, S: Source<K>, K: Sink>(
     alloc: Global,
     program: Program,
     lives: LifeTable,
@@ -82,6 +83,8 @@ fn run_with_lives<E: Engine, S: Source, K: Sink>(
     requires lives { AreLives program lives }
     requires table { IsSafeTable program lives }
     requires low { limit ≤ 1000000 }
+    requires prompt { (bytes : List ℕ) (now : K)
+        → IsPrompt E.gives E.fires E.counts (wanted_at Mode.Run limit beginning program) bytes (K.written out.old) (K.written now) → S.may_ask script.old bytes now }
     ensures run { (name : List ℕ) (image : Option (List ℕ)) (first last : ShelfSeen) → IsBeginningFor first.files Mode.Run image beginning
         → RunOf E.gives E.fires E.counts (Some (RuleFile name Mode.Run limit image)) (Some (wanted_at Mode.Run limit beginning program))
         (seen first (S.left script.old) (S.given script.old) (S.faults script.old) (K.written out.old) (K.faults out.old))
@@ -96,14 +99,14 @@ fn run_with_lives<E: Engine, S: Source, K: Sink>(
     };
     let (engine, part) = begun;
     let at = Progress::behind(&part, limit);
-    match run_from::<E, S, K>(alloc, engine, at, limit, script, out) {
+    match run_from::<E, S, K>(alloc, engine, at, limit, script, out, false) {
         Ok(found) => status_found(found),
         Err(fault) => status_of_fault(fault),
     }
 }
 
 /// Runs a program over a script, from the beginning, by the lives that are inferred of its types.
-pub(crate) fn run_program<E: Engine, S: Source, K: Sink>(
+pub(crate) fn run_program<E: Engine, S: Source<K>, K: Sink>(
     alloc: Global,
     program: Program,
     beginning: Beginning,
@@ -113,6 +116,8 @@ pub(crate) fn run_program<E: Engine, S: Source, K: Sink>(
 ) -> u8
     requires runnable { IsRunnable program }
     requires low { limit ≤ 1000000 }
+    requires prompt { (bytes : List ℕ) (now : K)
+        → IsPrompt E.gives E.fires E.counts (wanted_at Mode.Run limit beginning program) bytes (K.written out.old) (K.written now) → S.may_ask script.old bytes now }
     ensures run { (name : List ℕ) (image : Option (List ℕ)) (first last : ShelfSeen) → IsBeginningFor first.files Mode.Run image beginning
         → RunOf E.gives E.fires E.counts (Some (RuleFile name Mode.Run limit image)) (Some (wanted_at Mode.Run limit beginning program))
         (seen first (S.left script.old) (S.given script.old) (S.faults script.old) (K.written out.old) (K.faults out.old))

@@ -13,12 +13,11 @@ ghost use Rattle.script_run.specs.Texts.{limit_text};
 ghost use Rattle.replay.specs.Beginnings.{CanBegin, IsBeginningFor};
 ghost use Rattle.replay.specs.Calls.{ShelfSeen, seen, RunOf, Says};
 ghost use Rattle.replay.specs.Checkpoints.{can_go_on};
-ghost use Rattle.replay.specs.Report.{image_report};
+ghost use Rattle.replay.specs.Report.{image_report, IsPrompt};
 ghost use Rattle.replay.specs.Wanted.{wanted_at};
 
 use crate::beginning::Beginning;
 use crate::checkpoint_file::IMAGE_MAX;
-use crate::nowhere::Nowhere;
 use crate::refused_checkpoint::{CheckpointCode, refuse_checkpoint};
 use crate::running::begun;
 use crate::saying::say;
@@ -103,7 +102,7 @@ fn say_limit<K: Sink>(alloc: Global, limit: u64, out: &mut K) -> u8
 }
 
 // Runs a program with the table of its lives over a script, from the beginning, and writes the image of what the run comes to.
-fn save_with_lives<E: Engine, S: Source, K: Sink>(
+fn save_with_lives<E: Engine, S: Source<K>, K: Sink>(
     alloc: Global,
     program: Program,
     lives: LifeTable,
@@ -116,6 +115,8 @@ fn save_with_lives<E: Engine, S: Source, K: Sink>(
     requires lives { AreLives program lives }
     requires table { IsSafeTable program lives }
     requires low { limit ≤ 1000000 }
+    requires prompt { (bytes : List ℕ) (now : K)
+        → IsPrompt E.gives E.fires E.counts (wanted_at Mode.Save limit beginning program) bytes (K.written out.old) (K.written now) → S.may_ask script.old bytes now }
     ensures run { (name : List ℕ) (image : Option (List ℕ)) (first last : ShelfSeen) → IsBeginningFor first.files Mode.Save image beginning
         → RunOf E.gives E.fires E.counts (Some (RuleFile name Mode.Save limit image)) (Some (wanted_at Mode.Save limit beginning program))
         (seen first (S.left script.old) (S.given script.old) (S.faults script.old) (K.written out.old) (K.faults out.old))
@@ -129,7 +130,7 @@ fn save_with_lives<E: Engine, S: Source, K: Sink>(
     };
     let (engine, part) = begun;
     let at = Progress::behind(&part, limit);
-    match run_from::<E, S, Nowhere>(alloc, engine, at, limit, script, &mut Nowhere) {
+    match run_from::<E, S, K>(alloc, engine, at, limit, script, out, true) {
         Ok(Some((engine, at))) => write_image::<E, K>(alloc, engine, at.part(part, limit), out),
         Ok(None) => say_limit(alloc, limit, out),
         Err(fault) => status_of_fault(fault),
@@ -138,7 +139,7 @@ fn save_with_lives<E: Engine, S: Source, K: Sink>(
 
 /// Runs a program over a script, from the beginning, by the lives that are inferred of its types, and writes the image of what the run comes
 /// to.
-pub(crate) fn save_program<E: Engine, S: Source, K: Sink>(
+pub(crate) fn save_program<E: Engine, S: Source<K>, K: Sink>(
     alloc: Global,
     program: Program,
     beginning: Beginning,
@@ -148,6 +149,8 @@ pub(crate) fn save_program<E: Engine, S: Source, K: Sink>(
 ) -> u8
     requires runnable { IsRunnable program }
     requires low { limit ≤ 1000000 }
+    requires prompt { (bytes : List ℕ) (now : K)
+        → IsPrompt E.gives E.fires E.counts (wanted_at Mode.Save limit beginning program) bytes (K.written out.old) (K.written now) → S.may_ask script.old bytes now }
     ensures run { (name : List ℕ) (image : Option (List ℕ)) (first last : ShelfSeen) → IsBeginningFor first.files Mode.Save image beginning
         → RunOf E.gives E.fires E.counts (Some (RuleFile name Mode.Save limit image)) (Some (wanted_at Mode.Save limit beginning program))
         (seen first (S.left script.old) (S.given script.old) (S.faults script.old) (K.written out.old) (K.faults out.old))

@@ -12,7 +12,7 @@ ghost use Rattle.replay.specs.Beginnings.{CanBegin, IsBeginningFor, RunsIn};
 ghost use Rattle.replay.specs.Calls.{ShelfSeen, seen_of_shelf, seen, wanted_told, RunOf};
 ghost use Rattle.replay.specs.Notices.{usage};
 ghost use Rattle.replay.specs.Refusals.{refusal_text};
-ghost use Rattle.replay.specs.Report.{Report, IsFront, IsReport, Reports, IsWritten, IsStopped, TakesFor, IsLong};
+ghost use Rattle.replay.specs.Report.{Report, IsFront, IsReport, Reports, IsWritten, IsStopped, TakesFor, IsLong, IsPrompt};
 ghost use Rattle.replay.specs.Wanted.{Files, runs, wanted, wanted_at, wanted_by, wanted_by_name, IfRefuses, ReadsFile, RunsScript, SavesRun, HasRefused, IsUnfit, ReadFails, MayRefuse};
 
 use crate::beginning::Beginning;
@@ -48,7 +48,7 @@ struct Plan {
 }
 
 // Does with the program of an accepted file what the mode asks for, where a run has this beginning.
-fn do_mode<E: Engine, S: Source, K: Sink>(
+fn do_mode<E: Engine, S: Source<K>, K: Sink>(
     alloc: Global,
     plan: Plan,
     program: Program,
@@ -58,6 +58,8 @@ fn do_mode<E: Engine, S: Source, K: Sink>(
 ) -> u8
     requires runnable { IsRunnable program }
     requires low { plan.limit ≤ 1000000 }
+    requires prompt { (bytes : List ℕ) (now : K)
+        → IsPrompt E.gives E.fires E.counts (wanted_at plan.mode plan.limit beginning program) bytes (K.written out.old) (K.written now) → S.may_ask script.old bytes now }
     ensures run { (name : List ℕ) (image : Option (List ℕ)) (first last : ShelfSeen) → IsBeginningFor first.files plan.mode image beginning
         → RunOf E.gives E.fires E.counts (Some (RuleFile name plan.mode plan.limit image)) (Some (wanted_at plan.mode plan.limit beginning program))
         (seen first (S.left script.old) (S.given script.old) (S.faults script.old) (K.written out.old) (K.faults out.old))
@@ -76,7 +78,7 @@ fn do_mode<E: Engine, S: Source, K: Sink>(
 }
 
 // Does with the rule file of this name what the mode asks for, behind the checkpoint that is named, if one is.
-fn answer<E: Engine, F: Shelf, S: Source, K: Sink>(
+fn answer<E: Engine, F: Shelf, S: Source<K>, K: Sink>(
     alloc: Global,
     plan: Plan,
     name: &str,
@@ -85,7 +87,11 @@ fn answer<E: Engine, F: Shelf, S: Source, K: Sink>(
     script: &mut S,
     out: &mut K,
 ) -> u8
-    requires { plan.limit ≤ 1000000 }
+    requires low { plan.limit ≤ 1000000 }
+    requires prompt { let asked = Some (RuleFile name.now plan.mode plan.limit (option_map (λ it. it.now) image)) in
+        (bytes : List ℕ) (now : K)
+        → ((files : Files) → F.files shelf.old ≡ Some files → IsPrompt E.gives E.fires E.counts (wanted_by asked files) bytes (K.written out.old) (K.written now))
+        → S.may_ask script.old bytes now }
     ensures run { let asked = Some (RuleFile name.now plan.mode plan.limit (option_map (λ it. it.now) image.entry)) in
         RunOf E.gives E.fires E.counts asked (wanted_told asked (F.files shelf.old))
         (seen (seen_of_shelf (F.files shelf.old) (F.faults shelf.old) (F.misses shelf.old)) (S.left script.old) (S.given script.old) (S.faults script.old) (K.written out.old) (K.faults out.old))
@@ -129,14 +135,17 @@ fn lent(name: &Option<Text>) -> Option<&str>
 }
 
 // Does what the words ask for.
-fn do_asked<E: Engine, F: Shelf, S: Source, K: Sink>(
+fn do_asked<E: Engine, F: Shelf, S: Source<K>, K: Sink>(
     alloc: Global,
     asked: Option<Asked>,
     shelf: &mut F,
     script: &mut S,
     out: &mut K,
 ) -> u8
-    requires { IfSome asked IsWithinBounds }
+    requires within { IfSome asked IsWithinBounds }
+    requires prompt { (bytes : List ℕ) (now : K)
+        → ((files : Files) → F.files shelf.old ≡ Some files → IsPrompt E.gives E.fires E.counts (wanted_by asked files) bytes (K.written out.old) (K.written now))
+        → S.may_ask script.old bytes now }
     ensures run { RunOf E.gives E.fires E.counts asked (wanted_told asked (F.files shelf.old))
         (seen (seen_of_shelf (F.files shelf.old) (F.faults shelf.old) (F.misses shelf.old)) (S.left script.old) (S.given script.old) (S.faults script.old) (K.written out.old) (K.faults out.old))
         (seen (seen_of_shelf (F.files shelf.new) (F.faults shelf.new) (F.misses shelf.new)) (S.left script.new) (S.given script.new) (S.faults script.new) (K.written out.new) (K.faults out.new)) result }
@@ -167,7 +176,7 @@ fn do_asked<E: Engine, F: Shelf, S: Source, K: Sink>(
 /// the status: 0 where the script was read to its end, 1 where one of its lines was a fault, 3 where the rule file is
 /// missing or refused, 4 where a match was pending when no firing was left, 5 where a read failed, 6 where a write failed,
 /// 7 where memory was refused, and 8 where the script has more than 1 GiB.
-pub fn run_rules<E: Engine, F: Shelf, S: Source, K: Sink>(
+pub fn run_rules<E: Engine, F: Shelf, S: Source<K>, K: Sink>(
     alloc: Global,
     name: &str,
     limit: u64,
@@ -177,6 +186,12 @@ pub fn run_rules<E: Engine, F: Shelf, S: Source, K: Sink>(
 ) -> u8
     requires some { 1 ≤ limit }
     requires low { limit ≤ 1000000 }
+
+    // Whenever more is asked of the script, all that the lines print whose ends were taken is written, and nothing else.
+    requires prompt { (bytes : List ℕ) (now : K)
+        → ((files : Files) → F.files shelf.old ≡ Some files
+        → IsPrompt E.gives E.fires E.counts (wanted_by_name (runs limit) files name.now) bytes (K.written out.old) (K.written now))
+        → S.may_ask script.old bytes now }
 
     // Where the shelf and the script tell their bytes: with a status up to 4 exactly the report, else a front of it.
     ensures exact { (files : Files) (bytes : List ℕ) → F.files shelf.old ≡ Some files → S.left script.old ≡ Some bytes → result ≤ 4
@@ -234,13 +249,21 @@ pub fn run_rules<E: Engine, F: Shelf, S: Source, K: Sink>(
 /// checkpoint is refused: the one that is named, which is missing, too long, no image, one of other rules, or one that does not fit them, or
 /// the one to be written, which is too long, or from whose numbers no run could go on. Of these the modes that run no script have 0, 3, 5, 6
 /// and 7, and a load has those of its run, 0, 1 and 4, besides 6 and 7: its rule file is accepted.
-pub fn replay<E: Engine, F: Shelf, S: Source, K: Sink>(
+pub fn replay<E: Engine, F: Shelf, S: Source<K>, K: Sink>(
     alloc: Global,
     words: &[String],
     shelf: &mut F,
     script: &mut S,
     out: &mut K,
 ) -> u8
+    // It may be run over each source that asks for no more than this: whenever more is asked of it, all that the lines print whose ends were
+    // taken is written, and nothing else; where no lines are printed, nothing is. This is required of each single call of `read`, so it holds of
+    // a run too that never comes to its end.
+    requires prompt { (bytes : List ℕ) (now : K)
+        → ((files : Files) → F.files shelf.old ≡ Some files
+        → IsPrompt E.gives E.fires E.counts (wanted words.now files) bytes (K.written out.old) (K.written now))
+        → S.may_ask script.old bytes now }
+
     // Where the shelf and the script tell their bytes: with a status up to 4, and with 9, exactly the report, else a front of it.
     ensures exact { (files : Files) (bytes : List ℕ) → F.files shelf.old ≡ Some files → S.left script.old ≡ Some bytes → result ≤ 4
         → (r : Report) × IsReport E.gives E.fires E.counts (wanted words.now files) bytes r × Reports (K.written out.old) (K.written out.new) result r }

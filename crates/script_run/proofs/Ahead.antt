@@ -1,5 +1,6 @@
 -- The outcome of the lines ahead, line by line, against what was written and what is gathered.
-use Rattle.script_run.proofs.Common.{◌≡◌, ◌≢◌, ◌⊎◌, inl, inr, ◌<◌, ◌≤◌, ◌+◌, ◌^◌, ◌++◌, ◌||◌, ℕ, Bool, List, [], ◌∷◌, length, take, drop, Option, Some, None}
+use Rattle.script_run.proofs.Common.{◌≡◌, ◌≢◌, ◌⊎◌, inl, inr, ◌<◌, ◌≤◌, ◌+◌, ◌^◌, ◌++◌, ℕ, Bool, true, false, List, [], ◌∷◌, length, take, drop, Option}
+use Rattle.script_run.proofs.Common.{Some, None}
 use Rattle.script_run.proofs.Common.{Result, Ok, Err, option_map, refl, sym, ap, ap₂, subst, ◌∙◌, append_assoc, arith, IfSome, OnErr, flat_map-append}
 use Rattle.script_run.proofs.Common.{append-nil, length-append, take_at, take-append-drop, prepend, append, AppendsFront, IsExhausted, with_line, total_told}
 use Rattle.script_run.proofs.Common.{HasNoEnd, TakesLine, ReadsBytes, Line, Whole, End, World, Goes, Stops, Progress, Ended, RunSetting, RunState, Outcome}
@@ -12,6 +13,7 @@ use Rattle.fx_io.specs.declared.line.Line.TheVariants.{Long as LongLine}
 use Rattle.fx_io.proofs.Told.{append-append, prepend-prepend, prepend-nil}
 use Rattle.fx_io.proofs.Ahead.{answers_ahead}
 use Rattle.script_run.specs.declared.turn.Ended.TheVariants.{Script, Limit}
+use Rattle.script_run.specs.Prompt.{said, heard}
 use Rattle.script_run.specs.Run.{run}
 use Rattle.script_run.specs.Unfinished.{Long, StoppedAtRead, ended_lines}
 
@@ -38,6 +40,40 @@ pub run_stops : (setting : RunSetting) (s : RunState) (line text : List ℕ) →
     → run setting s (line ∷ more) ≡ then_run text at_limit
 unfolding run
 run_stops setting s line text e more = rw e refl
+
+-- ---- what is written of it
+
+-- the outcome of the lines from a state on, as it is written
+abbrev pub heard_run : Bool → RunSetting → RunState → Rest
+heard_run silent setting s lines = heard silent (run setting s lines)
+
+heard_end : (silent : Bool) (s : RunState) → heard silent (at_end s) ≡ at_end s
+heard_end true s = refl
+heard_end false s = refl
+
+heard_limit : (silent : Bool) → heard silent at_limit ≡ at_limit
+heard_limit true = refl
+heard_limit false = refl
+
+heard_then : (silent : Bool) (text : List ℕ) (o : Outcome) → heard silent (then_run text o) ≡ then_run (said silent text) (heard silent o)
+heard_then true text o = refl
+heard_then false text o = refl
+
+pub heard_ended : (silent : Bool) (setting : RunSetting) (s : RunState) → heard_run silent setting s [] ≡ at_end s
+heard_ended silent setting s = ap (heard silent) (run_ended setting s) ∙ heard_end silent s
+
+heard_goes : (silent : Bool) (setting : RunSetting) (s : RunState) (line : List ℕ) (done : Done) → step_in setting s line ≡ goes_on done → (more : List (List ℕ))
+    → heard_run silent setting s (line ∷ more) ≡ then_run (said silent done.text) (heard_run silent setting (state_after s done) more)
+heard_goes silent setting s line done e more = ap (heard silent) (run_goes setting s line done e more) ∙ heard_then silent done.text (run setting (state_after s done) more)
+
+heard_stops : (silent : Bool) (setting : RunSetting) (s : RunState) (line text : List ℕ) → step_in setting s line ≡ stops text → (more : List (List ℕ))
+    → heard_run silent setting s (line ∷ more) ≡ then_run (said silent text) at_limit
+heard_stops silent setting s line text e more = ap (heard silent) (run_stops setting s line text e more) ∙ heard_then silent text at_limit ∙ ap (then_run (said silent text)) (heard_limit silent)
+
+-- what a line printed was gathered, unless the run is silent
+said_more : (silent : Bool) (gathered text printed gathered' : List ℕ) → gathered ≡ said silent gathered → printed ≡ gathered ++ text → gathered' ≡ said silent printed → gathered' ≡ gathered ++ said silent text
+said_more true gathered text printed gathered' none e h = h ∙ sym none ∙ sym (append-nil gathered)
+said_more false gathered text printed gathered' none e h = h ∙ e
 
 -- what is known of the run so far: the lines that were done, the front that was written, and behind it what is gathered; of the script the
 -- bytes ahead are left, and the lines were taken with their ends, or no line is ahead
@@ -89,7 +125,7 @@ turned {all} {now} {next} {script} {before} {after} {front = front} line text ga
 }
 
 -- what a turn says: the line was done, and the engine stands for the world after it
-goes_of : (stands : World → Type 0) (step : LineEffect) (before after : List ℕ) (faulty : Bool) (left : ℕ) → Does stands step before after (Goes faulty left)
+pub goes_of : (stands : World → Type 0) (step : LineEffect) (before after : List ℕ) (faulty : Bool) (left : ℕ) → Does stands step before after (Goes faulty left)
     → (done : Done) × (step ≡ goes_on done) × (after ≡ before ++ done.text) × stands done.world × (faulty ≡ done.faulty) × (left ≡ done.left)
 goes_of stands (goes_on done) before after faulty left h = (done, refl, h.0, h.1, faulty_is faulty left done.faulty done.left h.2, left_is faulty left done.faulty done.left h.2)
   where
@@ -105,29 +141,29 @@ stops_of stands (goes_on done) before after h = absurd (let e : Stops ≡ Goes d
 stops_of stands (stops text) before after h = (text, refl, h.0)
 
 -- the run goes on behind a line
-pub goes_further : {all : Rest} {script before after : Option (List ℕ)} {first written : Option (List ℕ)} {front : List ℕ} (setting : RunSetting) (s : RunState) (bad : Bool) (left : ℕ)
-    (behind : Progress) (line gathered gathered' : List ℕ) (stands : World → Type 0)
-    → SoFar all (run setting s) script before first written front gathered
+pub goes_further : {all : Rest} {script before after : Option (List ℕ)} {first written : Option (List ℕ)} {front : List ℕ} (silent : Bool) (setting : RunSetting) (s : RunState) (bad : Bool) (left : ℕ)
+    (behind : Progress) (line gathered printed gathered' : List ℕ) (stands : World → Type 0)
+    → SoFar all (heard_run silent setting s) script before first written front gathered
     → option_map lines_of before ≡ with_line line (option_map lines_of after) → MovesOn line before after
-    → Does stands (step_in setting s line) gathered gathered' (Goes bad left) → behind ≡ progress_after s.progress bad left
-    → (v : World) × stands v × SoFar all (run setting (state_in v behind)) script after first written front gathered'
-goes_further {all} {script} {before} {after} {first} {written} {front} setting s bad left behind line gathered gathered' stands h e moved d is =
-    let g = goes_of stands (step_in setting s line) gathered gathered' bad left d in
-    let next : SoFar all (run setting (state_after s g.0)) script after first written front gathered' =
-    turned line g.0.text gathered gathered' h e moved g.2 (run_goes setting s line g.0 g.1) in
+    → Does stands (step_in setting s line) gathered printed (Goes bad left) → gathered ≡ said silent gathered → gathered' ≡ said silent printed → behind ≡ progress_after s.progress bad left
+    → (v : World) × stands v × SoFar all (heard_run silent setting (state_in v behind)) script after first written front gathered'
+goes_further {all} {script} {before} {after} {first} {written} {front} silent setting s bad left behind line gathered printed gathered' stands h e moved d none hushed is =
+    let g = goes_of stands (step_in setting s line) gathered printed bad left d in
+    let next : SoFar all (heard_run silent setting (state_after s g.0)) script after first written front gathered' =
+    turned line (said silent g.0.text) gathered gathered' h e moved (said_more silent gathered g.0.text printed gathered' none g.2 hushed) (heard_goes silent setting s line g.0 g.1) in
     let same : progress_after s.progress g.0.faulty g.0.left ≡ behind = ap₂ (progress_after s.progress) (sym g.4) (sym g.5) ∙ sym is in
-    (g.0.world, g.3, subst (λ (p : Progress). SoFar all (run setting (state_in g.0.world p)) script after first written front gathered') same next)
+    (g.0.world, g.3, subst (λ (p : Progress). SoFar all (heard_run silent setting (state_in g.0.world p)) script after first written front gathered') same next)
 
 -- the limit was met at a line: nothing more is done
-pub ends_there : {all : Rest} {script before after : Option (List ℕ)} {first written : Option (List ℕ)} {front : List ℕ} (setting : RunSetting) (s : RunState)
-    (line gathered gathered' : List ℕ) (stands : World → Type 0)
-    → SoFar all (run setting s) script before first written front gathered
+pub ends_there : {all : Rest} {script before after : Option (List ℕ)} {first written : Option (List ℕ)} {front : List ℕ} (silent : Bool) (setting : RunSetting) (s : RunState)
+    (line gathered printed gathered' : List ℕ) (stands : World → Type 0)
+    → SoFar all (heard_run silent setting s) script before first written front gathered
     → option_map lines_of before ≡ with_line line (option_map lines_of after) → MovesOn line before after
-    → Does stands (step_in setting s line) gathered gathered' Stops
+    → Does stands (step_in setting s line) gathered printed Stops → gathered ≡ said silent gathered → gathered' ≡ said silent printed
     → SoFar all (λ more. at_limit) script after first written front gathered'
-ends_there setting s line gathered gathered' stands h e moved d =
-    let g = stops_of stands (step_in setting s line) gathered gathered' d in
-    turned line g.0 gathered gathered' h e moved g.2 (run_stops setting s line g.0 g.1)
+ends_there silent setting s line gathered printed gathered' stands h e moved d none hushed =
+    let g = stops_of stands (step_in setting s line) gathered printed d in
+    turned line (said silent g.0) gathered gathered' h e moved (said_more silent gathered g.0 printed gathered' none g.2 hushed) (heard_stops silent setting s line g.0 g.1)
 
 -- a front of what is gathered was written
 pub flushed : {all now : Rest} {script ahead : Option (List ℕ)} {first written : Option (List ℕ)} {front gathered : List ℕ} (written' : Option (List ℕ)) (gathered' : List ℕ)
@@ -175,10 +211,10 @@ all_done {all} {now} {ahead} {first} {written} {front} {gathered} (Some bytes) l
     (sym bytes_are, sym (ap (λ (o : Outcome). o.ended) is), sym (ap (λ (o : Outcome). o.comes_to) is))
 
 -- there was no line more
-pub no_line : (setting : RunSetting) (s : RunState) (ahead : Option (List (List ℕ))) → IfSome ahead (λ lines. lines ≡ [])
-    → IfSome ahead (λ more. run setting s more ≡ at_end s)
-no_line setting s None h = tt
-no_line setting s (Some lines) h = ap (run setting s) h ∙ run_ended setting s
+pub no_line : (silent : Bool) (setting : RunSetting) (s : RunState) (ahead : Option (List (List ℕ))) → IfSome ahead (λ lines. lines ≡ [])
+    → IfSome ahead (λ more. heard_run silent setting s more ≡ at_end s)
+no_line silent setting s None h = tt
+no_line silent setting s (Some lines) h = ap (heard_run silent setting s) h ∙ heard_ended silent setting s
 
 pub no_more : (ahead : Option (List (List ℕ))) → IfSome ahead (λ more. at_limit ≡ at_limit)
 no_more None = tt
@@ -233,6 +269,12 @@ long_run (Some bytes) after s taken h e stop total many =
       many = t.2;
       not_met = goes_on_there (ap (λ (o : Outcome). o.ended) (done_alone s h e));
     }
+
+-- whether it is written does not count
+pub long_heard : (silent : Bool) (setting : RunSetting) (s : RunState) (script : Option (List ℕ)) → IfSome script (Long (heard_run silent setting s)) → IfSome script (Long (run setting s))
+long_heard silent setting s None h = tt
+long_heard true setting s (Some bytes) h = record { lines = h.lines; piece = h.piece; rest = h.rest; parts = h.parts; no_end = h.no_end; many = h.many; not_met = h.not_met }
+long_heard false setting s (Some bytes) h = h
 
 left_of : (front more : List ℕ) (after : Option (List ℕ)) → Some more ≡ prepend front after → (rest : List ℕ) × (after ≡ Some rest) × (more ≡ front ++ rest)
 left_of front more None e = absurd cc
@@ -298,7 +340,7 @@ at_start script first kept gathered kept-is gathered-is = rw (kept-is, gathered-
 
 -- ---- what a reader of lines takes
 
-first_is : (a b : List ℕ) (more : List (List ℕ)) → Some (a ∷ more) ≡ Some (b ∷ more) → a ≡ b
+pub first_is : (a b : List ℕ) (more : List (List ℕ)) → Some (a ∷ more) ≡ Some (b ∷ more) → a ≡ b
 first_is a b more e = cc
 
 nothing_ahead : (kept rest : List ℕ) → kept ≡ [] → rest ≡ [] → Some (lines_of (kept ++ rest)) ≡ Some []

@@ -3,7 +3,7 @@ use Rattle.std.specs.Prelude.{◌≡◌, ◌⊎◌, ◌+◌, ◌-◌, ◌++◌, 
 use Rattle.checkpoint.specs.declared.image.RunPart.{RunPart}
 use Rattle.rule_world.specs.Worlds.{World}
 use Rattle.script_run.specs.declared.turn.Progress.{Progress}
-use Rattle.script_run.specs.Run.{RunSetting, RunState, Outcome, state_in, run}
+use Rattle.script_run.specs.Run.{RunSetting, Outcome, state_in, run}
 
 -- of a run of rules with this text that has not begun
 abbrev pub first_part : List ℕ → RunPart

@@ -1,5 +1,6 @@
 ghost use Rattle.std.specs.Prelude.{◌≡◌, ◌≤◌, [], true, OnOk, OnErr};
 ghost use Rattle.fx_io.specs.Outside.{Rose, append, AppendsFront};
+ghost use Rattle.script_run.specs.Prompt.{said};
 ghost use Rattle.script_run.specs.Turns.{Flushes};
 
 use fx_io::{Failed, Sink, write_all};
@@ -18,4 +19,13 @@ pub(crate) fn flush<K: Sink>(out: &mut K, text: &mut Vec<u8>, wanted: bool) -> R
     write_all(out, text)?;
     text.clear();
     Ok(())
+}
+
+/// Forgets what a line printed, where the run is silent.
+pub(crate) fn hush(text: &mut Vec<u8>, silent: bool)
+    ensures { text.new.items ≡ said silent text.old.items }
+{
+    if silent {
+        text.clear();
+    }
 }

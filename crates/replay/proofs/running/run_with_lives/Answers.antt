@@ -1,5 +1,6 @@
 use Rattle.replay.proofs.Common.{inl, inr, refl, ap, Err, arith, Run, Unfit, wanted_at}
 use Rattle.replay.proofs.Calls.{checkpoint_done, nothing_done}
+use Rattle.replay.proofs.Prompting.{prompt_run}
 use Rattle.replay.proofs.Runs.{failing, refused_so, run_done, run_failed, unfit_run}
 use Rattle.replay.proofs.running.run_with_lives.Goals as goal
 
@@ -39,3 +40,9 @@ returns-in-Ok-run_from-clause-unread g c never = absurd (never c.in-Ok.ensures.f
 
 pub returns-clause-unread : goal.returns-clause-unread
 returns-clause-unread g c never = absurd (never c.in-Ok.ensures.fits)
+
+pub run_from-requires-clause-prompt : goal.run_from-requires-clause-prompt
+run_from-requires-clause-prompt g c bytes now h =
+    let told = rw (c.in-Ok.ensures.program, c.in-Ok.ensures.table, c.behind-at.ensures, c.in-Ok.ensures.part) at h in
+    c.requires.prompt bytes now (prompt_run g.E.Engine.gives g.E.Engine.fires g.E.Engine.counts c.args.limit c.args.program c.args.lives c.requires.lives c.args.beginning bytes _ _
+    (λ w begins. told w (c.in-Ok.ensures.stands w begins)))

@@ -1,7 +1,9 @@
-use Rattle.replay.proofs.Common.{ℕ, List, inl, inr, refl, ap, Err, arith, Save, Script, Limit, run_on, setting_of, limit_text, lines_of, part_of, Unfit}
+use Rattle.replay.proofs.Common.{ℕ, List, true, inl, inr, refl, ap, Err, arith, Save, Script, Limit, run_on, setting_of, limit_text, lines_of, part_of, Unfit}
 use Rattle.replay.proofs.Common.{image_report, wanted_at}
-use Rattle.replay.proofs.Calls.{checkpoint_done, nothing_done, says_low}
-use Rattle.replay.proofs.Runs.{ends_limited, ends_saved, failing, image_status, limited_told, may_save, none_rises, not_nine_limited, refused_so, save_done}
+use Rattle.script_run.specs.Prompt.{heard}
+use Rattle.replay.proofs.Calls.{checkpoint_done, nothing_done, rose_since, says_low}
+use Rattle.replay.proofs.Prompting.{prompt_save}
+use Rattle.replay.proofs.Runs.{ends_limited, ends_saved, failing, image_status, limited_told, may_save, not_nine_limited, refused_so, save_done}
 use Rattle.replay.proofs.Runs.{save_failed, saved_told, unfit_save}
 use Rattle.replay.proofs.saving.save_with_lives.Goals as goal
 
@@ -13,10 +15,10 @@ returns-in-Ok-None-clause-run g c name image first last h =
       record { bytes = limit_text c.args.limit; status = 4 },
       inl (inr refl),
       (λ w begins. limited_told c.args.program c.args.lives c.args.limit (part_of c.args.beginning) g.E.Engine.stands
-          (λ (bytes : List ℕ). run_on (setting_of g.E.Engine.gives g.E.Engine.fires g.E.Engine.counts c.args.limit c.args.program c.args.lives) w (part_of c.args.beginning) (lines_of bytes)) _ _ _ (done.2 w (c.in-Ok.ensures.stands w begins))),
-      says_low _ _ _ _ c.say_limit.ensures.said c.say_limit.ensures.front (not_nine_limited _ c.say_limit.ensures.answers),
+          (λ (bytes : List ℕ). heard true (run_on (setting_of g.E.Engine.gives g.E.Engine.fires g.E.Engine.counts c.args.limit c.args.program c.args.lives) w (part_of c.args.beginning) (lines_of bytes))) _ _ _ (done.2 w (c.in-Ok.ensures.stands w begins))),
+      says_low _ _ _ _ (rw (c.run_from.ensures.quiet refl) at c.say_limit.ensures.said) (rw (c.run_from.ensures.quiet refl) at c.say_limit.ensures.front) (not_nine_limited _ c.say_limit.ensures.answers),
     ))
-    (ends_limited c.say_limit.ensures.answers) c.say_limit.ensures.cause (may_save _ _ _ name c.args.limit image c.args.beginning h)
+    (ends_limited c.say_limit.ensures.answers) (λ six. rose_since c.run_from.ensures.out_counts (c.say_limit.ensures.cause six)) (may_save _ _ _ name c.args.limit image c.args.beginning h)
     (rw c.in-Ok-None.field-0-is at c.in-Ok-None.ensures.taken) (rw c.in-Ok-None.field-0-is at c.in-Ok-None.ensures.nothing_left)
 
 pub returns-in-Ok-Some-clause-run : goal.returns-in-Ok-Some-clause-run
@@ -24,7 +26,7 @@ returns-in-Ok-Some-clause-run g c name image first last h =
     let done = rw (c.in-Ok-Some.field-0-is, c.in-Ok.ensures.program, c.in-Ok.ensures.table, c.behind-at.ensures, c.in-Ok.ensures.part) at c.in-Ok-Some.ensures.done in
     let program = rw (c.in-Ok-Some.field-0-is, c.in-Ok.ensures.program) at c.in-Ok-Some.ensures.program in
     let table = rw (c.in-Ok-Some.field-0-is, c.in-Ok.ensures.table) at c.in-Ok-Some.ensures.table in
-    let said = rw (program, table, c.part.ensures, c.in-Ok.ensures.part) at c.write_image.ensures.said in
+    let said = rw (program, table, c.part.ensures, c.in-Ok.ensures.part, c.run_from.ensures.quiet refl) at c.write_image.ensures.said in
     save_done g.E.Engine.gives g.E.Engine.fires g.E.Engine.counts name image c.args.limit c.args.program c.args.lives c.args.beginning first last _ _ _ _ _ _ _ _ _ _ c.requires.lives c.in-Ok.ensures.fits
     (Script c.in-Ok-Some.at.faulted) _
     (elim said [
@@ -33,18 +35,18 @@ returns-in-Ok-Some-clause-run g c name image first last h =
         image_report it.0,
         image_status it.0,
         (λ w begins. saved_told c.args.program c.args.lives c.args.limit (part_of c.args.beginning) g.E.Engine.stands c.in-Ok-Some.engine c.in-Ok-Some.at it.0
-            (λ (bytes : List ℕ). run_on (setting_of g.E.Engine.gives g.E.Engine.fires g.E.Engine.counts c.args.limit c.args.program c.args.lives) w (part_of c.args.beginning) (lines_of bytes)) _ _ _ it.1 it.2 it.3 (done.2 w (c.in-Ok.ensures.stands w begins))),
+            (λ (bytes : List ℕ). heard true (run_on (setting_of g.E.Engine.gives g.E.Engine.fires g.E.Engine.counts c.args.limit c.args.program c.args.lives) w (part_of c.args.beginning) (lines_of bytes))) _ _ _ it.1 it.2 it.3 (done.2 w (c.in-Ok.ensures.stands w begins))),
         it.4,
       )
     ])
-    (ends_saved c.in-Ok-Some.at.faulted c.write_image.ensures.answers) c.write_image.ensures.cause (may_save _ _ _ name c.args.limit image c.args.beginning h)
+    (ends_saved c.in-Ok-Some.at.faulted c.write_image.ensures.answers) (λ six. rose_since c.run_from.ensures.out_counts (c.write_image.ensures.cause six)) (may_save _ _ _ name c.args.limit image c.args.beginning h)
     (rw c.in-Ok-Some.field-0-is at c.in-Ok-Some.ensures.taken) (rw c.in-Ok-Some.field-0-is at c.in-Ok-Some.ensures.nothing_left)
 
 pub returns-in-Err-clause-run : goal.returns-in-Err-clause-run
 returns-in-Err-clause-run g c name image first last h =
     let long = rw (c.in-Ok.ensures.program, c.in-Ok.ensures.table, c.behind-at.ensures, c.in-Ok.ensures.part) at c.in-Err.ensures.long in
-    rw c.status_of_fault.ensures (save_failed g.E.Engine.gives g.E.Engine.fires g.E.Engine.counts name image c.args.limit c.args.program c.args.lives c.args.beginning first last _ _ _ _ _ _ _ (g.K.Sink.written c.args.out.now) _ (g.K.Sink.faults c.args.out.now) c.requires.lives c.in-Ok.ensures.fits c.in-Err.fault
-    c.in-Err.ensures.taken (λ is. c.in-Err.ensures.read (ap failing is)) (λ is. none_rises (c.in-Err.ensures.write (ap failing is)))
+    rw c.status_of_fault.ensures (save_failed g.E.Engine.gives g.E.Engine.fires g.E.Engine.counts name image c.args.limit c.args.program c.args.lives c.args.beginning first last _ _ _ _ _ _ _ _ _ _ c.requires.lives c.in-Ok.ensures.fits c.in-Err.fault
+    (c.run_from.ensures.quiet refl) c.in-Err.ensures.taken (λ is. c.in-Err.ensures.read (ap failing is)) (λ is. c.in-Err.ensures.write (ap failing is))
     (λ w begins is. long w (c.in-Ok.ensures.stands w begins) (ap failing is)) (λ is. c.in-Err.ensures.over (ap failing is)))
 
 pub returns-in-Err-Unfit-clause-run : goal.returns-in-Err-Unfit-clause-run
@@ -67,3 +69,7 @@ returns-in-Ok-Some-clause-unread g c never = absurd (never c.in-Ok.ensures.fits)
 
 pub returns-in-Err-clause-unread : goal.returns-in-Err-clause-unread
 returns-in-Err-clause-unread g c never = absurd (never c.in-Ok.ensures.fits)
+
+pub run_from-requires-clause-prompt : goal.run_from-requires-clause-prompt
+run_from-requires-clause-prompt g c bytes now h =
+    c.requires.prompt bytes now (prompt_save g.E.Engine.gives g.E.Engine.fires g.E.Engine.counts c.args.limit c.args.program c.args.beginning bytes _ _ h)

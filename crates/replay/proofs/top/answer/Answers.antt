@@ -4,6 +4,8 @@ use Rattle.drl_parse.specs.Parsed.{file_limit}
 use Rattle.replay.proofs.Calls.{by_told, told_is, refused_done, refuses_since, rose_since, checkpoint_done, nothing_done, not_refused}
 use Rattle.replay.proofs.Reports.{no_file, a_file, accepted_file, refused_file, shown_enough}
 use Rattle.replay.proofs.ImagesRead.{unread_at}
+use Rattle.replay.specs.Report.{IsPrompt}
+use Rattle.replay.specs.Wanted.{Wanted}
 use Rattle.replay.proofs.top.answer.Goals as goal
 
 pub returns-in-Err-Missing-clause-run : goal.returns-in-Err-Missing-clause-run
@@ -108,3 +110,17 @@ returns-in-Ok-beginning-clause-unread g c files told refused =
     (accepted_file mode limit image c.args.name.now _ files bytes p told c.in-Ok.ensures.found c.in-Ok.ensures.bytes is
     ∙ shown_enough mode limit image files bytes _ c.in-Ok-read_rules.read.1.items c.in-Ok-read_rules.read.0 p _ c.shows_rules-shows.ensures c.in-Accepted.is
     c.in-Ok-read_rules.ensures.text c.deref.ensures.value ∙ c.in-Ok-beginning.ensures.found files (c.read_whole.ensures.files ∙ told) limit p) refused))
+
+pub do_mode-requires-clause-prompt : goal.do_mode-requires-clause-prompt
+unfolding file_limit
+do_mode-requires-clause-prompt g c asked now h =
+    let image = option_map (λ it. it.now) c.args.image in
+    let mode = c.args.plan.mode in
+    let limit = c.args.plan.limit in
+    let p = c.in-Accepted.program in
+    let bytes = c.in-Ok.file.items in
+    let is : reading bytes ≡ Accepted p = ap reading (sym c.deref.ensures.value) ∙ sym c.in-Ok-read_rules.ensures.reading ∙ c.in-Accepted.is in
+    c.requires.prompt asked now (λ files told. subst (λ (w : Wanted). IsPrompt g.E.Engine.gives g.E.Engine.fires g.E.Engine.counts w asked (g.K.Sink.written c.args.out.now) (g.K.Sink.written now))
+    (sym (accepted_file mode limit image c.args.name.now _ files bytes p told c.in-Ok.ensures.found c.in-Ok.ensures.bytes is
+    ∙ shown_enough mode limit image files bytes _ c.in-Ok-read_rules.read.1.items c.in-Ok-read_rules.read.0 p _ c.shows_rules-shows.ensures c.in-Accepted.is
+    c.in-Ok-read_rules.ensures.text c.deref.ensures.value ∙ c.in-Ok-beginning.ensures.found files (c.read_whole.ensures.files ∙ told) limit p)) h)

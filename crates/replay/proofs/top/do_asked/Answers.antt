@@ -14,3 +14,7 @@ pub returns-in-Some-RuleFile-clause-unread : goal.returns-in-Some-RuleFile-claus
 returns-in-Some-RuleFile-clause-unread g c files told refused =
     let read = rw (c.as_str.ensures, c.lent.ensures) at c.answer.ensures.unread in
     read files told (rw (c.in-Some-RuleFile.is, c.in-Some-RuleFile.field-0-is) at refused)
+
+pub answer-requires-clause-prompt : goal.answer-requires-clause-prompt
+answer-requires-clause-prompt g c bytes now h =
+    c.requires.prompt bytes now (λ files told. rw (c.in-Some-RuleFile.is, c.in-Some-RuleFile.field-0-is) (rw (c.as_str.ensures, c.lent.ensures) at (h files told)))

@@ -61,3 +61,9 @@ returns-in-Proof-clause-run g c name image first last h =
       front = λ high. proof_front g.E.Engine.gives g.E.Engine.fires g.E.Engine.counts c.args.program script _ _ (c.tell_proof.ensures.front high);
     })
     c.tell_proof.ensures.answers c.tell_proof.ensures.cause)
+
+pub run_program-requires-clause-prompt : goal.run_program-requires-clause-prompt
+run_program-requires-clause-prompt g c bytes now h = c.requires.prompt bytes now (rw c.in-Run.is h)
+
+pub save_program-requires-clause-prompt : goal.save_program-requires-clause-prompt
+save_program-requires-clause-prompt g c bytes now h = c.requires.prompt bytes now (rw c.in-Save.is h)

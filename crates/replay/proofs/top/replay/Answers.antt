@@ -5,6 +5,8 @@ use Rattle.replay.proofs.Programs.{wants_runnable}
 use Rattle.replay.proofs.Taken.{taken_again}
 use Rattle.replay.proofs.Calls.{wanted_is, written_told, long_told, stopped_told, refusal_told, written_no_script, written_no_file, completes, completes_unread}
 use Rattle.replay.proofs.Calls.{completes_load}
+use Rattle.replay.specs.Report.{IsPrompt}
+use Rattle.replay.specs.Wanted.{Wanted}
 use Rattle.replay.proofs.top.replay.Goals as goal
 
 pub returns-in-Ok-clause-exact : goal.returns-in-Ok-clause-exact
@@ -122,3 +124,8 @@ pub returns-in-Ok-clause-unread : goal.returns-in-Ok-clause-unread
 returns-in-Ok-clause-unread g c files told refused =
     c.do_asked.ensures.unread files told
     (subst (λ (asked : Option Asked). IsUnread (wanted_by asked files)) (sym c.in-Ok.ensures.asks) (subst IsUnread (wanted_is c.args.words.now files) refused))
+
+pub do_asked-requires-clause-prompt : goal.do_asked-requires-clause-prompt
+do_asked-requires-clause-prompt g c bytes now h =
+    let told_then = λ (w : Wanted). IsPrompt g.E.Engine.gives g.E.Engine.fires g.E.Engine.counts w bytes (g.K.Sink.written c.args.out.now) (g.K.Sink.written now) in
+    c.requires.prompt bytes now (λ files told. subst told_then (sym (wanted_is c.args.words.now files)) (subst (λ (asked : Option Asked). told_then (wanted_by asked files)) c.in-Ok.ensures.asks (h files told)))
