@@ -12,28 +12,30 @@ says how the client is used. The status is the program's, and 2 where there is n
 does.
 """
 
+from __future__ import annotations
+
 import argparse
 import csv
 import sys
 
 from convert import WAIT, BadRow, withdrawal  # beside this file
 
-from sozhipen import ClientError, Ordered, Session
+from sozhipen import Answer, ClientError, Fact, Ordered, Session
 
 
-def not_taken(what):
+def not_taken(what: object) -> None:
     """Somebody has to see what was not taken."""
     print(f"not taken: {what}", file=sys.stderr, flush=True)
 
 
-def said(fact):
+def said(fact: Fact) -> str:
     """A withdrawal as a person reads it."""
-    second = fact["at"] // 1000 % 86400
+    second, cents = int(fact["at"]) // 1000 % 86400, int(fact["cents"])
     clock = f"{second // 3600:02}:{second // 60 % 60:02}:{second % 60:02}"
-    return f"card {fact['card']}, {fact['cents'] // 100}.{fact['cents'] % 100:02} at {fact['place']} {clock}"
+    return f"card {fact['card']}, {cents // 100}.{cents % 100:02} at {fact['place']} {clock}"
 
 
-def tell(answer):
+def tell(answer: Answer) -> None:
     """Tells each firing, by the facts that it names, and each fact that a rule made."""
     if answer.fault:
         not_taken(f"{answer.fault} {answer.text}")
@@ -48,15 +50,15 @@ def tell(answer):
 class Desk:
     """Drives the clock by the arrival of rows."""
 
-    def __init__(self, session):
+    def __init__(self, session: Session):
         self.ordered = Ordered(session)
 
-    def until(self, moment):
+    def until(self, moment: int) -> None:
         """Sends what is due, moves the clock to this moment, and tells what fires."""
         for answer in self.ordered.until(moment):
             tell(answer)
 
-    def take(self, row, number):
+    def take(self, row: dict[str, str], number: int) -> None:
         """A row has arrived."""
         try:
             arrived, fields = withdrawal(row, number)
@@ -66,14 +68,14 @@ class Desk:
         self.until(arrived)
         self.ordered.insert("Withdrawal", fields, "ATM")
 
-    def rest(self):
+    def rest(self) -> None:
         """The table has ended: what is held back goes in, and every `not` ends its waiting."""
         for answer in self.ordered.rest():
             tell(answer)
         self.until(self.ordered.clock + WAIT)
 
 
-def main():
+def main() -> int:
     about = "caller.py PROGRAM RULES < ROWS: watches withdrawals, and prints alerts."
     parser = argparse.ArgumentParser(usage=argparse.SUPPRESS, description=about)
     parser.add_argument("program", metavar="PROGRAM", help="the built program")

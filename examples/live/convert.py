@@ -10,10 +10,13 @@ the clock is moved to its start, and behind it all that is pending is fired. The
 waiting.
 """
 
+from __future__ import annotations
+
 import argparse
 import csv
 import decimal
 import sys
+from typing import Any
 
 from sozhipen import Script, milliseconds
 
@@ -25,7 +28,7 @@ class BadRow(Exception):
     """A row of the table is none of a withdrawal."""
 
 
-def cents(text):
+def cents(text: str) -> int:
     """An amount as a whole number, since numbers of a script are whole."""
     try:
         found = decimal.Decimal(text) * 100
@@ -36,7 +39,7 @@ def cents(text):
     raise ValueError(f"no amount in cents: {text}")
 
 
-def withdrawal(row, number):
+def withdrawal(row: dict[str, str], number: int) -> tuple[int, dict[str, Any]]:
     """The moment of arrival and the fields of the event, or BadRow."""
     missing = [name for name in COLUMNS if row.get(name) is None]
     if missing:
@@ -49,7 +52,7 @@ def withdrawal(row, number):
         raise BadRow(f"line {number} of the table: {error}") from None
 
 
-def main():
+def main() -> None:
     about = "convert.py < ROWS > SCRIPT: makes a script of a table of withdrawals."
     argparse.ArgumentParser(usage=argparse.SUPPRESS, description=about).parse_args()
     table = csv.DictReader(sys.stdin)

@@ -15,6 +15,7 @@ What is held back is in memory alone: a crash loses the rows of the last two sec
 
 from __future__ import annotations
 
+import argparse
 import heapq
 import os
 import select
@@ -87,6 +88,8 @@ def rows_of(handle: int, rest: bytes) -> tuple[list[str], bytes, bool]:
 
 
 def main() -> int:
+    about = "feed.py <> PIPE: makes a script of rows of withdrawals while they come."
+    argparse.ArgumentParser(usage=argparse.SUPPRESS, description=about).parse_args()
     feed, handle, rest, goes_on = Feed(Script(sys.stdout)), sys.stdin.fileno(), b"", True
     next_tick = now() // TICK * TICK + TICK
     try:

@@ -31,7 +31,7 @@ import sys
 import threading
 import time
 from pathlib import Path
-from typing import BinaryIO, Callable, Iterator, Optional
+from typing import BinaryIO, Callable, Iterator, cast
 
 MARK = b"end of a segment\n"
 READ_MAX = 1 << 16
@@ -208,12 +208,14 @@ class Keeper:
         self.behind = folder.last_image()
         self.process = subprocess.Popen(self.words(self.behind), stdin=subprocess.PIPE, stdout=subprocess.PIPE,
                                         bufsize=0)
-        self.answers = Answers(folder, io.BufferedReader(self.process.stdout), self.behind)
+        # Without buffers pipes are raw files.
+        self.input, output = cast(io.FileIO, self.process.stdin), cast(io.FileIO, self.process.stdout)
+        self.answers = Answers(folder, io.BufferedReader(output), self.behind)
         self.full: list[tuple[int, int]] = []
         self.some = threading.Condition()
         in_background(self.make_images)
         self.segment = self.count = self.behind
-        self.file: Optional[io.RawIOBase] = None
+        self.file: io.FileIO
 
     def words(self, image: int) -> list[str]:
         resumed = ["--resume", str(self.folder.image / self.folder.name(image))] if image else []
@@ -241,7 +243,7 @@ class Keeper:
         if is_full:
             self.answers.await_mark(self.count)
         try:
-            write_whole(self.process.stdin, b"".join(lines))
+            write_whole(self.input, b"".join(lines))
         except BrokenPipeError:
             raise Gone from None
         if is_full:
@@ -297,7 +299,7 @@ class Keeper:
         if self.count > self.segment:
             self.log([MARK])
         self.answers.are_behind(self.count)
-        self.process.stdin.close()
+        self.input.close()
 
     def ended(self) -> int:
         """The status, when the program has ended."""
@@ -348,12 +350,13 @@ def kept(asked: argparse.Namespace) -> int:
 
 
 def main() -> int:
-    parser = argparse.ArgumentParser(description=__doc__.split("\n")[0])
-    parser.add_argument("program")
-    parser.add_argument("rules")
-    parser.add_argument("folder", type=Path)
-    parser.add_argument("--lines", type=int, default=10_000)
-    parser.add_argument("--limit", type=int)
+    about = "keeper.py PROGRAM RULES FOLDER [--lines N] [--limit N] < SCRIPT: keeps a desk that loses nothing."
+    parser = argparse.ArgumentParser(usage=argparse.SUPPRESS, description=about)
+    parser.add_argument("program", metavar="PROGRAM", help="the built program")
+    parser.add_argument("rules", metavar="RULES", help="the rule file")
+    parser.add_argument("folder", metavar="FOLDER", type=Path, help="where the log, the images and the answers are")
+    parser.add_argument("--lines", metavar="N", type=int, default=10_000, help="the lines of a segment; 10000")
+    parser.add_argument("--limit", metavar="N", type=int, help="at most so many firings of the run")
     asked = parser.parse_args()
     try:
         return kept(asked)

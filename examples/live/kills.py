@@ -27,6 +27,7 @@ from collections import Counter
 from pathlib import Path
 from random import Random
 
+from sozhipen_tools.pipes import pipe
 from sozhipen_tools.reference.generators.generate import case_of, lives_case_of, write_case
 from sozhipen_tools.words import Parser
 
@@ -61,7 +62,7 @@ def kill_one(random: Random, keeper: subprocess.Popen) -> str:
 def closed(keeper: subprocess.Popen) -> int:
     """The script ends; the status."""
     try:
-        keeper.stdin.close()
+        pipe(keeper.stdin).close()
     except BrokenPipeError:
         pass
     return keeper.wait()
@@ -80,7 +81,7 @@ class Run:
                                    "--lines", "4"], cwd=self.folder,
                                   stdin=subprocess.PIPE, stdout=subprocess.PIPE, stderr=subprocess.DEVNULL,
                                   start_new_session=True)
-        told = keeper.stdout.readline().split()
+        told = pipe(keeper.stdout).readline().split()
         return keeper, int(told[1]) if told else len(self.script)
 
     def send(self, keeper: subprocess.Popen, first: int, until: float | None) -> bool:
@@ -89,8 +90,8 @@ class Run:
             if until is not None and time.monotonic() >= until:
                 return False
             try:
-                keeper.stdin.write(line)
-                keeper.stdin.flush()
+                pipe(keeper.stdin).write(line)
+                pipe(keeper.stdin).flush()
             except BrokenPipeError:
                 return False
             time.sleep(self.random.random() * 0.004)

@@ -11,6 +11,7 @@ from __future__ import annotations
 
 import sys
 import unittest
+from collections import Counter
 from pathlib import Path
 
 from .places import clone
@@ -38,7 +39,10 @@ def passes(folder: Path, name: str) -> bool:
     """Runs the tests of a module."""
     print(f"{name}:", file=sys.stderr, flush=True)
     suite = unittest.TestLoader().discover(str(folder), f"{name}.py")
-    return unittest.TextTestRunner().run(suite).wasSuccessful()
+    result = unittest.TextTestRunner().run(suite)
+    for reason, many in Counter(reason for _, reason in result.skipped).items():
+        print(f"{name}: {many} skipped: {reason}", file=sys.stderr, flush=True)
+    return result.wasSuccessful()
 
 
 def main() -> int:

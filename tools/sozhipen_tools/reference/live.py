@@ -64,6 +64,9 @@ def live(words: list[str]) -> int:
 
 
 def main() -> int:
+    if sys.argv[1:] == ["--help"]:
+        print((__doc__ or "").strip())
+        return 0
     try:
         return live(sys.argv[1:])
     except WriteFailed:

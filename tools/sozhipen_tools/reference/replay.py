@@ -2,8 +2,8 @@
 
     tools/run reference.replay WORDS < SCRIPT
 
-The words are the program's, and so are the answers to wrong ones. Everything that was taken into memory is assumed to
-fit.
+The words are the program's (docs/SCRIPT.md, *The command line*), and so are the answers to wrong ones; `--help` alone
+tells this. Everything that was taken into memory is assumed to fit.
 """
 
 from __future__ import annotations
@@ -202,6 +202,9 @@ def replay(words: list[str]) -> int:
 
 
 def main() -> int:
+    if sys.argv[1:] == ["--help"]:
+        print((__doc__ or "").strip())
+        return 0
     try:
         return replay(sys.argv[1:])
     except WriteFailed:

@@ -288,9 +288,7 @@ def main() -> int:
             return generated(words)
         return run_rules(words)
     except Ended as ended:
-        tell(str(ended))
-        if ended.status == 2:
-            sys.stderr.write(USAGE)
+        tell(f"{ended} (--help tells the words)" if ended.status == 2 else str(ended))
         return ended.status
     except WriteFailed:
         return 6
