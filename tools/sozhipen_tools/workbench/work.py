@@ -171,8 +171,9 @@ def run(asked: dict, rules: bytes, script: bytes, program: Program) -> None:
 
 
 def program_said(named: Optional[str]) -> str:
-    built_one = f"the program {named}" if named else name_of_built()
-    return built_one if has_built_program() else "the second evaluator, sozhipen_tools.reference"
+    if not has_built_program():
+        return "the second evaluator, sozhipen_tools.reference"
+    return f"the program {named}" if named else name_of_built()
 
 
 def why(asked: dict, rules: bytes, script: bytes, program: Program) -> None:
