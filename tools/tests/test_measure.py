@@ -13,13 +13,17 @@ from unittest import mock
 from support import evaluator
 
 from sozhipen_tools.bench import measure
-from sozhipen_tools.bench.loads import FIRE, LOADS
+from sozhipen_tools.bench.desks import LOADS
+from sozhipen_tools.bench.loads import FIRE
 
 # Loads that are to fire nothing, such as do not in 200 lines, and in how many lines some of these do.
 NEVER = {"bare", "blank", "clocks", "skewed", "pile", "retracted", "cascade", "expiring", "burst", "burst_life",
-         "strangers", "strangers_one", "many_nots", "many_nots_one"}
-SELDOM = {"churn", "wide", "wide_one", "texts", "fields", "sums", "lengths", "forgetful", "forgetful_one"}
-LONGER = {"churn": 800, "wide": 400, "forgetful": 600}
+         "strangers", "strangers_one", "many_nots", "many_nots_one", "kept_two", "kept_six", "kept_join_two",
+         "kept_join_six", "kept_not_two", "kept_not_six", "kept_event_two", "kept_event_six", "kept_event_join_six",
+         "kept_event_sum_six", "joined_stream"}
+SELDOM = {"churn", "wide", "wide_one", "texts", "fields", "sums", "lengths", "forgetful", "forgetful_one", "rules_1",
+          "rules_10", "rules_50", "rules_250", "beats"}
+LONGER = {"churn": 800, "wide": 400, "forgetful": 600, "beats": 900}
 
 CLIPS = """grep -c . < "$(sed -n 's/^(load-facts "\\(.*\\)")$/\\1/p' "$2")" > counted
 while read -r facts; do for fact in $(seq "$facts"); do echo "fire $fact"; done; done < counted
@@ -118,7 +122,8 @@ class Measuring(Case):
                                 "inserts:100,200", "pairs:100")
         self.assertEqual(status, 0)
         rows = out.splitlines()
-        self.assertRegex(rows[0], r"^inserts +100 lines  \d+\.\d{3} s  [\d.]+ µs/line  [\d.]+ MiB  fired \d+$")
+        self.assertRegex(rows[0], r"^inserts +100 lines  \d+\.\d{3} s  [\d.]+ µs/line  [\d.]+ MiB  [\d,]+ B/line  "
+                                  r"fired \d+$")
         self.assertRegex(rows[1], r"^inserts +200 lines .* fired 15  growth \d\.\d\d$")
         self.assertRegex(rows[2], r"^pairs +\d+ lines .* fired \d+$")
         self.assertTrue({"inserts.drl", "inserts.100.jsonl", "inserts.200.jsonl",

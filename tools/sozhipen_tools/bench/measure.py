@@ -5,19 +5,21 @@
         [--folder FOLDER] NAME:LINES[,LINES..] ..
 
 A row has the seconds of processor time, user and system, the least of N runs (3), the time of a line with its part of
-the start, the peak of memory, and the firings. `inserts:20000,40000` measures both, and says how the seconds grew: 2.00
-is linear. The further words:
+the start, the peak of memory with its bytes a line, and the firings. `inserts:20000,40000` measures both, and says how
+the seconds grew: 2.00 is linear. The further words:
 
---clips      beside CLIPS (Debian's package `clips`), whose runs come between, where the load has a twin: the same
-facts, which CLIPS reads in
-             its own form, and the same rules. The ratio is the program's time by that of CLIPS
---callgrind  instructions a line by valgrind: those of the script of 2n lines less those of n, so that the start falls
-out --latency    on a pipe, by the clock: how long a line and a mark behind it take to be answered, where the program
-waits for each --lines      from a file, by the clock: how long each line takes, where line_clock.c hands out one at a
-time; it wants a C compiler, `cc` --images     how much longer the run takes that saves an image in place of its lines,
-the image, and a run that goes on from it over no
-             lines; the peaks of memory are told by that of the run
---folder     keeps the files of the loads there
+    --clips      beside CLIPS (Debian's package `clips`), whose runs come between, where the load has a twin: the same
+                 facts, which CLIPS reads in its own form, and the same rules. The ratio is the program's time by that
+                 of CLIPS
+    --callgrind  instructions a line by valgrind: those of the script of 2n lines less those of n, so that the start
+                 falls out
+    --latency    on a pipe, by the clock: how long a line and a mark after it take to be answered, where the program
+                 waits for each
+    --lines      from a file, by the clock: how long each line takes, where line_clock.c hands out one at a time; it
+                 wants a C compiler, `cc`
+    --images     how much longer the run takes that saves an image in place of its lines, the image, and a run that
+                 goes on from it over no lines; the peaks of memory are told by that of the run
+    --folder     keeps the files of the loads there
 
 The status is 1 where a run ended by another status than 0, or CLIPS fired another number of times. It wants Linux, for
 the peaks.
@@ -42,7 +44,7 @@ from typing import NamedTuple, Optional
 
 from ..pipes import pipe
 from ..words import Parser
-from .loads import LOADS
+from .desks import LOADS  # those of loads too
 
 SEED = 7
 FIRINGS = "1000000"
@@ -271,7 +273,8 @@ def measured(asked: argparse.Namespace, folder: Path, load: Wanted) -> bool:
         files = written(folder, load.name, n)
         ours, theirs = least(asked.replay, files, asked.runs, asked.clips)
         row = (f"{load.name:20} {files.lines:8} lines  {ours.seconds:.3f} s  {ours.seconds / files.lines * 1e6:.2f} "
-               f"µs/line  {ours.mebibytes:.1f} MiB  fired {ours.fired}")
+               f"µs/line  {ours.mebibytes:.1f} MiB  {ours.mebibytes * 2**20 / files.lines:,.0f} B/line  "
+               f"fired {ours.fired}")
         row += f"  status {ours.status}" if ours.status else ""
         row += growth(before, ours) if before else ""
         row += by_callgrind(asked.replay, folder, load.name, n, files) if asked.callgrind and not ours.status else ""

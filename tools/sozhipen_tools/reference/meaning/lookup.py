@@ -90,24 +90,29 @@ class Groups:
         self.key_of = key_of
         self.facts: Sequence = []
         self.groups: dict[Any, Group] = {}
-        # Another object whenever all groups are new ones.
+        # Another object whenever all groups are new ones; since then the groups to which facts came, or from which they
+        # went, in that order.
         self.ordered = object()
+        self.changed: list[Group] = []
 
     def hold(self, facts: Sequence) -> None:
         held = len(self.facts)
         if facts[:held] != self.facts:
             held = self.slide(facts)
         for fact in facts[held:]:
-            self.group(self.key_of(fact)).add(fact)
+            group = self.group(self.key_of(fact))
+            group.add(fact)
+            self.changed.append(group)
         self.facts = facts
 
     def slide(self, facts: Sequence) -> int:
         """Takes out the first facts, which are gone; how many facts are left."""
         gone = next((k for k, fact in enumerate(self.facts) if facts and fact is facts[0]), 0)
         if gone == 0 or facts[:len(self.facts) - gone] != self.facts[gone:]:
-            self.groups, self.ordered = {}, object()
+            self.groups, self.ordered, self.changed = {}, object(), []
             return 0
         for key, many in Counter(map(self.key_of, self.facts[:gone])).items():
+            self.changed.append(self.groups[key])
             self.groups[key] = self.groups[key].without_first(many)
         return len(self.facts) - gone
 
@@ -124,6 +129,61 @@ def by_equalities(source: Source) -> Groups:
     return Groups(lambda fact: tuple([fact.values[name] for name in fields]))
 
 
+def alike_in_front(some: list, others: list) -> int:
+    """With how many of the same objects both lists begin."""
+    low, high = 0, min(len(some), len(others))
+    while low < high:
+        middle = (low + high + 1) // 2
+        if some[low:middle] == others[low:middle]:
+            low = middle
+        else:
+            high = middle - 1
+    return low
+
+
+class LastTaken:
+    """The rows that came to a condition last, with what each of them was for it, in the same order and by the group in
+    which it looked; those of which rows came; and which groups had changed by then."""
+
+    def __init__(self) -> None:
+        self.fruitful: list = []
+        self.begin(None)
+
+    def begin(self, ordered: object) -> None:
+        """No row has come, of groups in this order."""
+        self.rows: list = []
+        self.taken: list = []
+        self.by_group: dict[Group, list] = {}
+        self.ordered, self.changes = ordered, 0
+
+    def is_of(self, rows: list, among: Groups) -> bool:
+        return self.ordered is among.ordered and self.changes == len(among.changed) and self.rows == rows
+
+    def renew(self, rows: list, among: Groups, look: Callable[[Any], Any]) -> None:
+        """Looks with the rows that are new, and again with those whose group has changed."""
+        if self.ordered is not among.ordered:
+            self.begin(among.ordered)
+        self.replace(rows, look)
+        for group in among.changed[self.changes:]:
+            for taken in self.by_group.pop(group, []):
+                self.keep(look(taken.row))
+        self.rows, self.changes = rows, len(among.changed)
+        self.fruitful = [taken for taken in self.taken if taken.longer]
+
+    def replace(self, rows: list, look: Callable[[Any], Any]) -> None:
+        """Puts other rows in the place of those that came last; what stands before and behind them stays."""
+        first = alike_in_front(self.rows, rows)
+        behind = alike_in_front(self.rows[first:][::-1], rows[first:][::-1])
+        gone, come = slice(first, len(self.rows) - behind), slice(first, len(rows) - behind)
+        for taken in self.taken[gone]:
+            self.by_group[taken.group].remove(taken)
+        self.taken[gone] = [self.keep(look(row)) for row in rows[come]]
+
+    def keep(self, taken: Any) -> Any:
+        self.by_group.setdefault(taken.group, []).append(taken)
+        return taken
+
+
 @dataclass(eq=False)
 class LastRows:
     """The empty row of a rule; and the rows and the matches that were taken last, with all that they depend on."""
@@ -132,6 +192,10 @@ class LastRows:
     looked_at: list = field(default_factory=list)
     rows: list = field(default_factory=list)
     matches: dict = field(default_factory=dict)
+    taken: list[LastTaken] = field(default_factory=list)
+
+    def __post_init__(self) -> None:
+        self.taken = [LastTaken() for _ in self.rule.conditions]
 
 
 class Memory:

@@ -15,7 +15,7 @@ from functools import cached_property
 from typing import Any, Callable, Optional, Union
 
 from . import temporal
-from .lookup import NO_FACTS, Group, Groups, Memory, Wanted, equalities
+from .lookup import NO_FACTS, Group, Groups, LastTaken, Memory, Wanted, equalities
 from .program import DEFAULT, Program, salience_of
 from .temporal import INFINITE, NEVER
 from .trees import (Action, AnyOf, Binary, Compare, Comparison, Condition, Existing, Expr, FieldOf, Folded, Insert,
@@ -110,12 +110,12 @@ def present(w: World) -> list[Fact]:
 @dataclass(eq=False)
 class Taken:
     """What a row was for a condition: what it asks of facts, in which group and of how many it looked, which facts were
-    tested, which of them passed, and the rows that came of it. With the same facts the same comes of it. `ordered` is
-    the order of groups in which it looked; `last` the greatest start that a `not` waits for, once that was asked."""
+    tested, which of them passed, and the rows that came of it. With the same facts the same comes of it. `last` is the
+    greatest start that a `not` waits for, once that was asked."""
+    row: "Row"
     wanted: Wanted
     group: Group = NO_FACTS
     count: int = -2
-    ordered: object = None
     last: Any = None
     near: list[Fact] = field(default_factory=list)
     passing: list[Fact] = field(default_factory=list)
@@ -312,24 +312,22 @@ def take_again(condition: Condition, row: Row, near: list[Fact], taken: Taken) -
     taken.near, taken.passing, taken.longer = near, passing, longer
 
 
-def extended(condition: Condition, found: list[Row], among: Groups, w: World) -> list[Row]:
+def extended(condition: Condition, found: list[Row], among: Groups, last: LastTaken, w: World) -> list[Row]:
     """What a condition makes of the rows before it, of the candidates. Most rows look at what they looked at before:
     then nothing is looked up."""
-    place, source, longer = id(condition), condition.source, []
-    waits = isinstance(condition, Negated) and w.program.types[source.type].event
+    source, longer = condition.source, []
+    if not last.is_of(found, among):
+        last.renew(found, among, lambda row: taken_for(condition, row, among, w))
+    if not (isinstance(condition, Negated) and w.program.types[source.type].event):
+        for taken in last.fruitful:
+            longer += taken.longer
+        return longer
     floor = floor_of(w, source.entry or DEFAULT)
-    for row in found:
-        taken = row.taken.get(place)
-        if taken is None or taken.ordered is not among.ordered or taken.group.count != taken.count:
-            taken = taken_for(condition, row, among, w)
-        if not taken.longer:
-            continue
-        if waits:
-            if taken.last is None:
-                taken.last = last_awaited(source, row, w)
-            if not is_over(taken.last, floor):
-                continue
-        longer += taken.longer
+    for taken in last.fruitful:
+        if taken.last is None:
+            taken.last = last_awaited(source, taken.row, w)
+        if is_over(taken.last, floor):
+            longer += taken.longer
     return longer
 
 
@@ -337,12 +335,11 @@ def taken_for(condition: Condition, row: Row, among: Groups, w: World) -> Taken:
     """What a row is for a condition, of the candidates in their groups."""
     taken = row.taken.get(id(condition))
     if taken is None:
-        taken = row.taken[id(condition)] = Taken(wanted(condition.source, row, w))
+        taken = row.taken[id(condition)] = Taken(row, wanted(condition.source, row, w))
     group = among.group(taken.wanted.values)
     if group is not taken.group or group.count != taken.count:
         take_again(condition, row, group.near(taken.wanted), taken)
         taken.group, taken.count = group, group.count
-    taken.ordered = among.ordered
     return taken
 
 
@@ -360,9 +357,9 @@ def rows(rule: Rule, w: World) -> list[Row]:
     last, looked = w.memory.last_rows(rule, Row((), {})), looked_at(rule, w)
     if last.looked_at != looked:
         found = [last.root]
-        for condition, facts in zip(rule.conditions, looked):
+        for condition, facts, taken in zip(rule.conditions, looked, last.taken):
             among = w.memory.index(condition.source, facts)
-            found = extended(condition, found, among, w)
+            found = extended(condition, found, among, taken, w)
         last.looked_at, last.rows = looked, found
     return last.rows
 
