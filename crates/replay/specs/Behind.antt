@@ -43,7 +43,7 @@ pub record KeepWorlds (gives : Gives) (fires : Fires) : Type 0 where
 -- ---- images of runs
 
 -- The image is that of what the run of a script comes to, with this limit: the script is empty or ends with a line end, and its run does not
--- meet the limit.
+-- meet the limit. The limit is that of the run which goes on; what the run that was saved had for one does not matter.
 pub record IsImageOfRun (gives : Gives) (fires : Fires) (counts : Counts) (limit : ℕ) (p : Program) (table : LifeTable) (script : List ℕ) (image : Image) : Type 0 where
   pub ends : EndsLine script
   pub state : RunState
