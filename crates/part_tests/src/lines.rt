@@ -25,7 +25,7 @@ fn answers(alloc: Global, script: &[u8], failing: &[u64]) -> Result<Vec<u8>, Fai
     let mut reader = LineReader::new(alloc, 4, 10)?;
     let mut answers = Vec::new(alloc);
     for _ in 0..4 {
-        answers.extend_from_slice(letters(&reader.next_line(&mut source)))?;
+        answers.extend_from_slice(letters(&reader.next_line(&mut source, &())))?;
     }
     Ok(answers)
 }
@@ -62,7 +62,7 @@ fn files_of_the_machine(rt: HostRuntime) {
 #[test]
 fn streams_of_the_machine(rt: HostRuntime) {
     let mut buf = [1u8; 7];
-    assert_eq!(rt; StdSource::new(&rt).read(&mut buf), Ok(0));
+    assert_eq!(rt; StdSource::new(&rt).read(&(), &mut buf), Ok(0));
     assert_eq!(rt; StdSink::new(&rt).write(b"a line\n"), Ok(7));
 }
 
@@ -83,7 +83,7 @@ fn pieces(alloc: Global, bytes: &[u8], most: usize) -> Result<Vec<u8>, Fail>
     let mut buf = [0u8; 3];
     let mut pieces = Vec::new(alloc);
     for _ in 0..4 {
-        if let Ok(n) = source.read(&mut buf) {
+        if let Ok(n) = source.read(&(), &mut buf) {
             pieces.extend_from_slice(&buf[..n])?;
             pieces.push(b'.')?;
         }
