@@ -2,6 +2,7 @@ use crate::case::Case;
 use crate::running::{Ran, run_with};
 use crate::settings::Failures;
 use crate::stopped::Stopped;
+use crate::waiting::{Answer, try_waiting};
 use fx_io::{Sink, write_all};
 use std::alloc::Global;
 
@@ -36,28 +37,48 @@ fn run_part(
     )
 }
 
-// Whether the parts print what the whole does: the first one its front, and the second one, from the image behind the first, the rest, with
-// the status of the whole.
+// What the first part comes to, if the parts print what the whole does: the first one, of which this came, its front, and the second one,
+// from the image behind the first, the rest, with the status of the whole.
 fn goes_on(
     alloc: Global,
     case: &Case,
     whole: &Ran,
+    front: &Ran,
     first: &[u8],
     rest: &[u8],
-) -> Result<bool, Stopped> {
-    let front = run_part(alloc, case, &[], &[], first)?;
+) -> Result<Option<Ran>, Stopped> {
     let saved = run_part(alloc, case, &["--mode", "save"], &[], first)?;
     let back = run_part(alloc, case, &["--resume", "IMAGE"], &saved.printed, rest)?;
-    Ok(
-        saved.status == front.status
-            && back.status == whole.status
-            && whole.printed.starts_with(&front.printed)
-            && whole.printed[front.printed.len().min(whole.printed.len())..] == back.printed[..],
-    )
+    let same = saved.status == front.status
+        && back.status == whole.status
+        && whole.printed.starts_with(&front.printed)
+        && whole.printed[front.printed.len().min(whole.printed.len())..] == back.printed[..];
+    Ok(if same { Some(saved) } else { None })
+}
+
+// Whether a run over what stands between two cuts, from the image of all before it, is saved as the run over both as one is.
+fn saves_on(
+    alloc: Global,
+    case: &Case,
+    image: &[u8],
+    between: &[u8],
+    saved: &Ran,
+) -> Result<bool, Stopped> {
+    let words = ["--mode", "save", "--resume", "IMAGE"];
+    let on = run_part(alloc, case, &words, image, between)?;
+    Ok(on.status == saved.status && on.printed[..] == saved.printed[..])
+}
+
+// Writes that a cut behind this line differs.
+fn tell_other<K: Sink>(alloc: Global, line: u64, out: &mut K) -> Result<(), Stopped> {
+    let text = format!(in alloc; "=== cuts: other behind line {line}\n")?;
+    write_all(out, text.as_bytes())?;
+    Ok(())
 }
 
 /// Runs a case in two parts, cut behind each third line of its script from the second one on, and writes a line: that the parts printed
-/// what the whole does, or the first cut where they did not.
+/// what the whole does, or the first cut where they did not. From cut to cut it is also saved on: each image, made from the one before, is that
+/// of all lines before it. The whole is run once more for one who waits, and knows what first parts print.
 pub(crate) fn try_cuts<K: Sink>(
     alloc: Global,
     case: &Case,
@@ -66,22 +87,33 @@ pub(crate) fn try_cuts<K: Sink>(
 ) -> Result<(), Stopped> {
     let script = case.script.as_slice();
     let mut lines: u64 = 0;
-    let mut cuts: u64 = 0;
+    let mut answers = Vec::new(alloc);
+    let mut image = Vec::new(alloc);
+    let mut begin = 0;
     for place in 0..script.len() {
         if script[place] == b'\n' {
             lines = lines.saturating_add(1);
             if lines % 3 == 2 {
-                cuts = cuts.saturating_add(1);
                 let (first, rest) = script.split_at(place + 1);
-                if !goes_on(alloc, case, whole, first, rest)? {
-                    let line = format!(in alloc; "=== cuts: other behind line {lines}\n")?;
-                    write_all(out, line.as_bytes())?;
-                    return Ok(());
+                let front = run_part(alloc, case, &[], &[], first)?;
+                let Some(saved) = goes_on(alloc, case, whole, &front, first, rest)? else {
+                    return tell_other(alloc, lines, out);
+                };
+                let between = &first[begin.min(first.len())..];
+                if begin > 0 && !saves_on(alloc, case, &image, between, &saved)? {
+                    return tell_other(alloc, lines, out);
                 }
+                image = saved.printed;
+                begin = place + 1;
+                answers.push(Answer {
+                    len: begin,
+                    printed: front.printed,
+                })?;
             }
         }
     }
+    let cuts = answers.len();
     let line = format!(in alloc; "=== cuts: {cuts}, the same\n")?;
     write_all(out, line.as_bytes())?;
-    Ok(())
+    try_waiting(alloc, case, whole, answers, out)
 }
