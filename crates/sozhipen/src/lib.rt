@@ -7,7 +7,7 @@ ghost use Rattle.command_words.specs.declared.asking.Asked.{Asked};
 ghost use Rattle.command_words.specs.Asked.{asked_by};
 ghost use Rattle.replay.specs.Behind.{GoesOn, IsUnread};
 ghost use Rattle.replay.specs.Refusals.{refusal_text};
-ghost use Rattle.replay.specs.Report.{Report, IsFront, IsReport, Reports, IsWritten, IsStopped, TakesFor, IsLong};
+ghost use Rattle.replay.specs.Report.{Report, IsFront, IsReport, Reports, IsWritten, IsStopped, TakesFor, IsLong, IsPrompt};
 ghost use Rattle.replay.specs.Notices.{usage};
 ghost use Rattle.replay.specs.Wanted.{Files, wanted, IfRefuses, ReadsFile, RunsScript, SavesRun, IsUnfit, ReadFails, MayRefuse};
 ghost use Rattle.session_laws.specs.Counts.{held_counts};
@@ -37,13 +37,21 @@ use std::alloc::Global;
 /// checkpoint is refused: the one that is named, which is missing, too long, no image, one of other rules, or one that does not fit them, or
 /// the one to be written, which is too long, or from whose numbers no run could go on. Of these the modes that run no script have 0, 3, 5, 6
 /// and 7, and a load has those of its run, 0, 1 and 4, besides 6 and 7: its rule file is accepted.
-pub fn run<F: Shelf, S: Source, K: Sink>(
+pub fn run<F: Shelf, S: Source<K>, K: Sink>(
     alloc: Global,
     words: &[String],
     shelf: &mut F,
     script: &mut S,
     out: &mut K,
 ) -> u8
+    // It may be run over each source that asks for no more than this: whenever more is asked of it, all that the lines print whose ends were
+    // taken is written, and nothing else; where no lines are printed, nothing is. This is required of each single call of `read`, so it holds of
+    // a run too that never comes to its end.
+    requires prompt { (bytes : List ℕ) (now : K)
+        → ((files : Files) → F.files shelf.old ≡ Some files
+        → IsPrompt gives fires held_counts (wanted words.now files) bytes (K.written out.old) (K.written now))
+        → S.may_ask script.old bytes now }
+
     // Where the shelf and the script tell their bytes: with a status up to 4, and with 9, exactly the report, else a front of it.
     ensures exact { (files : Files) (bytes : List ℕ) → F.files shelf.old ≡ Some files → S.left script.old ≡ Some bytes → result ≤ 4
         → (r : Report) × IsReport gives fires held_counts (wanted words.now files) bytes r × Reports (K.written out.old) (K.written out.new) result r }
