@@ -132,8 +132,7 @@ class Session(Lines[Answer]):
             return subprocess.Popen(words, stdin=subprocess.PIPE, stdout=subprocess.PIPE)
         except OSError as error:
             raise NoProgram(f"there is no program {error.filename or words[0]} to run ({error.strerror}): build it "
-                            "(README.md, "
-                            "Commands), or leave the second evaluator to answer, and name none") from None
+                            "(README.md, Commands), or leave the second evaluator to answer, and name none") from None
 
     @property
     def facts(self) -> list[Fact]:

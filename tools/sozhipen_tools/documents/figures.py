@@ -10,8 +10,7 @@ from .tree import Tree
 
 Faults = Iterator[tuple[int, str]]
 WORDS = ("zero one two three four five six seven eight nine ten eleven twelve thirteen fourteen fifteen sixteen "
-         "seventeen eighteen nineteen "
-         "twenty").split()
+         "seventeen eighteen nineteen twenty").split()
 NUMBER = r"\b(\d[\d,]*|" + "|".join(WORDS) + r")"
 EDIT_ROW = re.compile(r"^\|[^|]+\|\s*`(\w+)`: ((?:`\w+`(?:, )?)+)\s*\|\s*$", re.M)
 # Rule files beside a script whose output is not recorded: it is too long.

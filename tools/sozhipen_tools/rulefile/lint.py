@@ -199,8 +199,7 @@ def too_late(desk: Desk) -> Iterator[Complaint]:
             elif expires is not None and expires <= lateness:
                 yield warning("too-late", item.tokens_of(source)[0],
                               f"`{entry_of(source)}` is up to {kept.span(lateness)} late: {with_article(source.type)} "
-                              "that is "
-                              f"{kept.span(expires)} late has expired when it comes", "a longer @expires")
+                              f"that is {kept.span(expires)} late has expired when it comes", "a longer @expires")
 
 
 def impossible_tests(desk: Desk) -> Iterator[Complaint]:

@@ -26,8 +26,7 @@ KEPT = 4
 TYPES = {"": ("page.html", "text/html; charset=utf-8"), "page.css": ("page.css", "text/css; charset=utf-8"),
          "page.js": ("page.js", "text/javascript; charset=utf-8")}
 PAGE_POLICY = ("default-src 'none'; script-src 'self'; style-src 'self'; connect-src 'self'; frame-src 'self'; "
-               "base-uri 'none'; "
-               "form-action 'none'; frame-ancestors 'none'; img-src data:")
+               "base-uri 'none'; form-action 'none'; frame-ancestors 'none'; img-src data:")
 TIMELINE_POLICY = ("default-src 'none'; style-src 'unsafe-inline'; script-src 'unsafe-inline'; sandbox allow-scripts; "
                    "frame-ancestors 'self'")
 

@@ -167,12 +167,10 @@ def main() -> int:
                 wrong += 1
                 print(f"seed {seed}, cut behind line {cut}: {said}", flush=True)
     print(f"{counts['images'] - wrong} of {counts['images']} runs went on as without a break; in their images: fired "
-          "matches "
-          f"{counts['fired']}, rows with forgotten events of a not {counts['negated']}, an exists "
-          f"{counts['existing']}, an accumulate "
-          f"{counts['folded']}; without these {counts['telling']} runs print or end otherwise; spoilt bytes: BadImage "
-          f"{counts['BadImage']}, "
-          f"read {counts['read']}; changed images: Unfit {counts['Unfit']}, fit {counts['fit']}")
+          f"matches {counts['fired']}, rows with forgotten events of a not {counts['negated']}, an exists "
+          f"{counts['existing']}, an accumulate {counts['folded']}; without these {counts['telling']} runs print or "
+          f"end otherwise; spoilt bytes: BadImage {counts['BadImage']}, read {counts['read']}; "
+          f"changed images: Unfit {counts['Unfit']}, fit {counts['fit']}")
     return 0 if not wrong else 1
 
 

@@ -23,8 +23,7 @@ PARENTHESES = 32
 NESTED_ALTERNATIVES = 16
 
 RESERVED = set("package import dialect declare rule when then end salience not exists accumulate from over in this "
-               "new insert "
-               "modify retract true false Number or extends".split())
+               "new insert modify retract true false Number or extends".split())
 FIRST_WORDS = {"package", "import", "dialect", "declare", "rule"}
 RELATIONS = {"==", "!=", "<", "<=", ">", ">="}
 FUNCTIONS = {"count", "sum", "min", "max", "average"}
