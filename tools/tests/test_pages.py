@@ -208,6 +208,15 @@ class Commands(Pages):
     def test_lookback(self) -> None:
         self.commands("LIVE", CLONE + "convert.py < examples/live/withdrawals.csv > all", program=True)
 
+    def test_large_rule_files(self) -> None:
+        self.commands("PERFORMANCE", 'python3 -c "print(', program=True)
+
+    def test_how_slow_the_second_evaluator_is(self) -> None:
+        if not IS_BUILT:
+            self.skipTest(f"there is no program {PROGRAM}")
+        done = self.tree.run(self.block("TOOLS", "program=").text)
+        self.assertRegex(done.stdout, r"(?s)\Abeats +\d+ lines .*\nline 6000: ", done.stderr)
+
     def test_coprocess(self) -> None:
         if not IS_BUILT:
             self.skipTest(f"there is no program {PROGRAM}")
@@ -371,7 +380,7 @@ class All(unittest.TestCase):
             return True
         if block.page == "TOOLS" and block.begins("declare Scan", '{"do":"at","ms":5000}'):
             return True  # test_docs
-        commands = ("./try ", "sed ", "python3 ", "PYTHONPATH=tools ", "tools/run ", "coproc ", "java ")
+        commands = ("./try ", "sed ", "python3 ", "PYTHONPATH=tools ", "tools/run ", "coproc ", "java ", "program=")
         is_output = (previous := before(block)) is not None and (bool(previous.language) or previous.begins(*commands))
         return block.begins(*commands) or is_output
 
