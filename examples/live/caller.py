@@ -3,7 +3,7 @@
 
     PYTHONPATH=tools python3 examples/live/caller.py PROGRAM RULES < withdrawals.csv
 
-PYTHONPATH is for a clone; where the package `sozhipen` is installed it is not wanted.
+PYTHONPATH is for a clone; with the package `sozhipen` installed it is not needed.
 
 Rows come in the order of their arrival. Each is held back for two seconds, the lateness of its entry point, so that
 what starts first goes in first, and the clock is moved to the moments of arrival. In a real stream these are the

@@ -3,14 +3,14 @@
 
     PYTHONPATH=tools python3 examples/live/feed.py <> PIPE | python3 examples/live/keeper.py PROGRAM RULES FOLDER
 
-PYTHONPATH is for a clone; where the package `sozhipen` is installed it is not wanted.
+PYTHONPATH is for a clone; with the package `sozhipen` installed it is not needed.
 
-PIPE is a named pipe, opened for reading and writing, so that its end never comes and writers may come and go. A row is
-`card,place,amount`, or `at,card,place,amount` if the withdrawal is not of the present moment. Rows are held back for
-the lateness of the entry point, so that what starts first goes in first. Each second the clock is moved to that of the
-machine and what is pending fires: so alerts of what did not happen come without a row.
+PIPE is a named pipe, opened for reading and writing, so that it never ends and writers may come and go. A row is
+`card,place,amount`, or `at,card,place,amount` if the withdrawal did not happen just now. Rows are held back for the
+lateness of the entry point, so that they go in by their starts. Each second the clock is moved to that of the machine,
+and what is pending fires: so alerts about what did not happen come without a row.
 
-What is held back is in memory alone: a crash loses the rows of the last two seconds.
+Rows that are held back are only in memory: a crash loses those of the last two seconds.
 """
 
 from __future__ import annotations
@@ -38,7 +38,7 @@ def now() -> int:
 
 
 def fields_of(row: str, arrived: int) -> dict[str, Any]:
-    """The fields of the withdrawal that a row tells; ValueError if it tells none."""
+    """The fields of the withdrawal in a row; ValueError if it is none."""
     cells = [cell.strip() for cell in row.split(",")]
     if len(cells) not in (3, 4):
         raise ValueError(f"{len(cells)} cells")
@@ -55,7 +55,7 @@ class Feed:
         self.order = count()
 
     def take(self, row: str, arrived: int) -> None:
-        """A row has arrived; one that is no withdrawal is told on standard error."""
+        """A row has arrived; one that is no withdrawal is reported on standard error."""
         try:
             fields = fields_of(row, arrived)
         except ValueError as error:

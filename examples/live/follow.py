@@ -1,13 +1,13 @@
 #!/usr/bin/env python3
-"""Prints what a desk of keeper.py answers, as it comes, and goes on where it was when it is begun again:
+"""Prints the answers of a desk of keeper.py as they come; started again, it continues where it was:
 
     python3 examples/live/follow.py FOLDER [--words fire,fault] [--once]
 
 FOLDER is the keeper's. The answers are read while they are written; after a crash the keeper writes the same bytes
 again, so a place in them stays valid. A line with which the program ends, `limit 100000`, is not counted: the next
-program has other bytes there. The place is kept in FOLDER/followed, each time lines were printed: a crash between the
-two prints these lines once more. Only lines that begin with one of the words are printed, all lines without
-`--words`. With `--once` it ends at the last whole line.
+program has other bytes there. The place is saved in FOLDER/followed each time after lines were printed: a crash between
+the two prints these lines once more. Only lines that begin with one of the words are printed; without `--words`, all
+lines. With `--once` it ends at the last complete line.
 """
 
 from __future__ import annotations

@@ -1,23 +1,21 @@
 #!/usr/bin/env python3
-"""Keeps a desk that loses nothing: logs each line of a script before the program reads it, and goes on after a crash at
-any moment.
+"""Keeps a desk that loses nothing: logs each line of a script before the program reads it, and continues after a crash
+at any moment.
 
     python3 keeper.py PROGRAM RULES FOLDER [--lines N] [--limit N] < SCRIPT
 
-The folder has the log in segments of N lines (log/), the images of the program after them (image/), and what it
-answered to each segment (answers/); each file is named by the number of the lines before it. Lines are written to the
-log and to the disk before the program gets them, those together that have come together. The last line of a segment is
-a mark, a line that is not JSON, whose fault ends the answers of the segment; where the script ends, so does the
-segment.
+The folder has the log in segments of N lines (log/), the images of the program after them (image/), and the answers to
+each segment (answers/); each file is named by the number of the lines before it. Lines are appended to the log and
+flushed to the disk before the program gets them, together if they have arrived together. The last line of a segment is
+a mark, a line that is not JSON, whose fault ends the answers of the segment. When the script ends, so does the segment.
 
-Beside the running program another one makes the image after a full segment, from the image before it and the segment
-alone. An image and complete answers get their names when they are on the disk. Whoever begins again with the folder
-goes on from the last image: the program gets the lines of the log after it once more, and answers the same.
-`taken N` on standard output says how many lines of the script are in the log then; whoever sends the script goes on
-after these.
+Beside the running program another one makes the image after each full segment, from the previous image and that
+segment. An image and complete answers get their names when they are on the disk. After a crash the same command
+resumes from the last image: the program gets the lines of the log after it once more, and gives the same answers.
+`taken N` on standard output says how many lines of the script are in the log then; the sender continues after these.
 
-The status is the program's: 0 or 1 where the script ended. It is 2 where the program was killed or is not there, where
-the disk refuses a write, and where another keeper has the folder. What went wrong stands on standard error.
+The status is the program's: 0 or 1 if the script ended. It is 2 if the program was killed or does not exist, if the
+disk refuses a write, or if another keeper has the folder. Standard error says what went wrong.
 """
 
 from __future__ import annotations
@@ -35,20 +33,20 @@ from typing import BinaryIO, Callable, Iterator, cast
 
 MARK = b"end of a segment\n"
 READ_MAX = 1 << 16
-# Statuses of a program that was refused a read, a write or memory: another time it may go on.
+# Statuses of a program that was refused a read, a write or memory: another attempt may succeed.
 MAY_PASS = (5, 6, 7)
 FAILED = 2
 INTERRUPTED = 130
 
 WORDS = {
-    2: "it takes no such words",
-    3: "the rule file is refused; `./try --where RULES` tells where",
-    4: "the limit of firings is reached; with a greater --limit, up to 1000000, the same command goes on",
+    2: "it does not accept these options",
+    3: "the rule file is refused; `./try --where RULES` says where",
+    4: "the limit of firings is reached; with a higher --limit, up to 1000000, the same command goes on",
     5: "a read of the rule file, the image or the script failed; the same command goes on",
     6: "it could not write its answers; the same command goes on",
-    7: "it was refused memory; with more of it the same command goes on",
+    7: "it was refused memory; with more memory the same command goes on",
     8: "one process reads at most 1 GiB of script; the same command goes on from the last image",
-    9: "the last image is refused; with the rule file that it was made with the same command goes on, else see "
+    9: "the last image is refused; with the rule file that it was made with, the same command goes on; otherwise see "
        "docs/OPERATING.md, When something breaks",
 }
 
@@ -60,13 +58,13 @@ def tell(text: str) -> None:
 def told(status: int, said: str) -> str:
     """How the program ended, with the line that it ended with."""
     how = f"was killed by signal {-status}; the same command goes on" if status < 0 else \
-        f"ended with status {status}: {WORDS.get(status, 'that is none of its statuses')}"
+        f"ended with status {status}: {WORDS.get(status, 'which is none of its statuses')}"
     return f"the program {how}" + (f" ({said})" if said else "")
 
 
 def refused(error: OSError) -> str:
     """What the machine refused the keeper."""
-    return f"{error}; with that mended the same command goes on"
+    return f"{error}; once that is fixed, the same command goes on"
 
 
 class Failure(Exception):
@@ -280,7 +278,7 @@ class Keeper:
                 time.sleep(1)
                 status = self.make_image(first, name)
             if status > 1:
-                tell(f"there is no image after line {last}, nor will there be later ones: status {status}")
+                tell(f"no image could be made after line {last}, and none will be made later: status {status}")
                 return
 
     def make_image(self, first: int, name: Path) -> int:

@@ -1,5 +1,5 @@
 #!/usr/bin/env python3
-"""Kills the keeper, or a program of it, at random moments, begins it again, and looks that nothing is lost.
+"""Kills the keeper, or a program of it, at random moments, starts it again, and checks that nothing is lost.
 
     PYTHONPATH=tools python3 examples/live/kills.py PROGRAM [--kills N] [--from SEED]
 

@@ -92,7 +92,7 @@ class Words(Case):
         return str(path)
 
     def test_statuses(self) -> None:
-        words = {4: "greater --limit", 5: "a read", 6: "could not write", 7: "memory", 8: "1 GiB", 9: "image"}
+        words = {4: "higher --limit", 5: "a read", 6: "could not write", 7: "memory", 8: "1 GiB", 9: "image"}
         for status, word in words.items():
             found, _, said = self.keep(b"", program=self.program(f"exit {status}"))
             self.assertEqual(found, status)
@@ -171,7 +171,7 @@ class Kept(Case):
                 self.desk = self.path / str(most)
                 found, _, said = self.keep(script, preexec_fn=full)
                 self.assertEqual(found, 2)
-                self.assertRegex(said, r"\Akeeper: .*File too large; with that mended the same command goes on\n\Z")
+                self.assertRegex(said, r"\Akeeper: .*File too large; once that is fixed, the same command goes on\n\Z")
                 found, out, said = self.keep(b"")
                 taken = int(out.split()[1])
                 self.assertLess(taken, len(self.lines))

@@ -1,4 +1,4 @@
-"""What stands in fences on the pages for users is run, and prints what the page says.
+"""What is in fences on README, the pages in docs and tools/README.md is run, and prints what the page says.
 
 Rule files with their scripts are run by the second evaluator, and by the built program where it is there
 (REPLAY_PROGRAM names another one); commands run in a tree of links, so that what they write stays out of the clone.
@@ -25,7 +25,8 @@ from sozhipen_tools.reference.meaning.lives import life_lines
 from sozhipen_tools.reference.meaning.run import program_or_refusal, report
 
 IS_BUILT = os.access(PROGRAM, os.X_OK)
-PAGES = ("README", "RULES", "LIVES", "RECIPES", "SCRIPT", "LIVE", "OPERATING", "EXAMPLES")
+PATHS = [TOP / "README.md", *sorted((TOP / "docs").glob("*.md")), TOP / "tools" / "README.md"]
+PAGES = {path.stem if path.parent != TOP / "tools" else "tools/README": path for path in PATHS}
 FENCE = re.compile(r"^( *)```(\w*)\n(.*?)^ *```$", re.M | re.S)
 LIMIT = 100_000
 
@@ -36,10 +37,16 @@ NOT_RUN = {
     "$sum : Number(": "two conditions without a rule",
     "clock  ": "a picture",
     "    Smoke  ": "a picture",
+    "ground     fx_base": "a picture; tools/run documents.check compares it with crates.txt",
     "rt ci": "the gate",
     "replay [--mode": "the usage line",
     "crates/replay_main/out/replay_main RULES": "forms of a command",
-    "python3 examples/live/keeper.py": "forms of a command; docs/OPERATING.md runs it",
+    "python3 examples/live/keeper.py": "forms of a command; Operating runs it",
+    "tools/run workbench": "the form of a command; test_workbench runs it",
+    "tools/run  ": "forms of commands",
+    "python3 -m pip install": "it changes the machine",
+    "=== 1 what": "the form of a case; the gate runs all cases",
+    "tools/run bench.measure": "it takes minutes; test_measure runs each load",
 }
 
 
@@ -55,8 +62,7 @@ class Block:
 
 
 def blocks_of(page: str) -> list[Block]:
-    path = TOP / ("README.md" if page == "README" else f"docs/{page}.md")
-    found = enumerate(FENCE.finditer(path.read_text(encoding="utf-8")))
+    found = enumerate(FENCE.finditer(PAGES[page].read_text(encoding="utf-8")))
     return [Block(page, k, match[2], re.sub(rf"^{match[1]}", "", match[3], flags=re.M)) for k, match in found]
 
 
@@ -81,7 +87,7 @@ def triples() -> list[tuple[Block, Block, Block]]:
     found = []
     for blocks in BLOCKS.values():
         for rules, script, output in zip(blocks, blocks[1:], blocks[2:]):
-            if rules.begins(*RULES) and script.begins(SCRIPT):
+            if rules.begins(*RULES) and script.begins(SCRIPT) and not output.begins("./try "):
                 found.append((rules, script, output))
     return found
 
@@ -189,6 +195,11 @@ class Commands(Pages):
     def test_client(self) -> None:
         self.commands("LIVE", "tools/run sozhipen ")
 
+    def test_time_line(self) -> None:
+        self.assertEqual(self.tree.run(self.block("TOOLS", "tools/run timeline").text).stderr, "")
+        drawn = (self.tree.path / "page.html").read_bytes()
+        self.assertEqual(drawn, (TOP / "docs" / "pictures" / "fraud.html").read_bytes())
+
     def test_convert(self) -> None:
         block = self.block("LIVE", CLONE + "convert.py < examples/live/withdrawals.csv > with")
         done = self.tree.run(block.text)
@@ -196,6 +207,15 @@ class Commands(Pages):
 
     def test_lookback(self) -> None:
         self.commands("LIVE", CLONE + "convert.py < examples/live/withdrawals.csv > all", program=True)
+
+    def test_large_rule_files(self) -> None:
+        self.commands("PERFORMANCE", 'python3 -c "print(', program=True)
+
+    def test_how_slow_the_second_evaluator_is(self) -> None:
+        if not IS_BUILT:
+            self.skipTest(f"there is no program {PROGRAM}")
+        done = self.tree.run(self.block("TOOLS", "program=").text)
+        self.assertRegex(done.stdout, r"(?s)\Abeats +\d+ lines .*\nline 6000: ", done.stderr)
 
     def test_coprocess(self) -> None:
         if not IS_BUILT:
@@ -276,7 +296,7 @@ class Operating(Pages):
         for name, text in (("new.drl", rules.replace("100000", "120000")), ("lookback.jsonl", "".join(lines[:120])),
                            ("rest.jsonl", "".join(lines[120:]))):
             (self.tree.path / name).write_text(text, encoding="utf-8")
-        commands = [block.text for block in BLOCKS["OPERATING"] if not block.language]
+        commands = [block.text for block in BLOCKS["OPERATING"] if not block.language and not block.begins(*NOT_RUN)]
         pruning = next(k for k, text in enumerate(commands) if "rm " in text)
         done = self.tree.run("".join(commands[:pruning] + commands[pruning + 1:] + [commands[pruning]]))
         self.assertEqual(done.stderr, "")
@@ -358,7 +378,9 @@ class All(unittest.TestCase):
     def is_run(block: Block) -> bool:
         if block.language or block.page == "OPERATING" or block.begins("proof ", "$ "):
             return True
-        commands = ("./try ", "sed ", "python3 ", "PYTHONPATH=tools ", "tools/run ", "coproc ", "java ")
+        if block.page == "TOOLS" and block.begins("declare Scan", '{"do":"at","ms":5000}'):
+            return True  # test_docs
+        commands = ("./try ", "sed ", "python3 ", "PYTHONPATH=tools ", "tools/run ", "coproc ", "java ", "program=")
         is_output = (previous := before(block)) is not None and (bool(previous.language) or previous.begins(*commands))
         return block.begins(*commands) or is_output
 

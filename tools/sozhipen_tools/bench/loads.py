@@ -60,7 +60,7 @@ def fired_at_end(lines: Iterable[str]) -> Iterator[str]:
 
 
 def fired_at_ends(lines: Iterable[str]) -> Iterator[str]:
-    """The lines without their fires, with one behind 50 lines and one at the end."""
+    """The lines without their fires, with one after 50 lines and one at the end."""
     for place, text in enumerate(text for text in lines if text != FIRE):
         if place == 50:
             yield FIRE
@@ -69,7 +69,7 @@ def fired_at_ends(lines: Iterable[str]) -> Iterator[str]:
 
 
 def stream(n: int, turn: Callable[[], Iterable[str]], each: int, last: int = 0) -> Iterator[str]:
-    """Turns of lines up to about n, with a fire behind so many turns, and at the end, before which the clock moves so
+    """Turns of lines up to about n, with a fire after so many turns, and at the end, before which the clock moves so
     far."""
     lines = turns = 0
     while lines < n - 3:
@@ -431,7 +431,7 @@ def shared(n: int, rng: Random) -> Load:
 
 @load
 def alternatives(n: int, rng: Random) -> Load:
-    """A rule with 16 alternatives behind two patterns, joined."""
+    """A rule with 16 alternatives after two patterns, joined."""
     rules = rule("any",
                  f"A( $k : k ) B( k == $k, $v : v ) ( {' or '.join(f'C( v == $v, w == {i} )' for i in range(16))} )")
     clips = twin("any", f"(A (k ?k)) (B (k ?k) (v ?v)) (or {many(16, lambda i: f' (C (v ?v) (w {i}))')})")
@@ -448,7 +448,7 @@ def alternatives_by_hand(n: int, rng: Random) -> Load:
 
 
 def account_pairs(n: int, rng: Random, key: bool, move: int) -> Load:
-    """Events of two entry points, one within 10 s behind the other."""
+    """Events of two entry points, one within 10 s after the other."""
     named, same = ("( $n : acct )", "acct == $n, ") if key else ("()", "")
     conditions = f'$a : W{named} from entry-point "ATM" W( {same}this after[0s,10s] $a ) from entry-point "Web"'
     script = stream(n, lambda: (insert("W", rng.choice(["ATM", "Web"]), acct=rng.randrange(200)),
@@ -458,7 +458,7 @@ def account_pairs(n: int, rng: Random, key: bool, move: int) -> Load:
 
 @load
 def pairs(n: int, rng: Random) -> Load:
-    """Events of two entry points within 10 s by a key, the clock moves by 50 ms, a fire behind each 50 of them."""
+    """Events of two entry points within 10 s by a key, the clock moves by 50 ms, a fire after each 50 of them."""
     return account_pairs(n, rng, True, 100)
 
 
@@ -471,7 +471,7 @@ def pairs_pending(n: int, rng: Random) -> Load:
 
 @load
 def nokey(n: int, rng: Random) -> Load:
-    """Events of two entry points within 10 s without a key, the clock moves by 1 s, a fire behind each 50 of them."""
+    """Events of two entry points within 10 s without a key, the clock moves by 1 s, a fire after each 50 of them."""
     return account_pairs(n, rng, False, 2000)
 
 
@@ -513,7 +513,7 @@ def sums(n: int, rng: Random) -> Load:
 
 @load
 def lengths(n: int, rng: Random) -> Load:
-    """The average of the last 100 readings, a fire behind each 10."""
+    """The average of the last 100 readings, a fire after each 10."""
     rules = ("declare Reading @role( event ) value : long end\n"
              + rule("hot",
                     "$t : Number( longValue > 520 ) from accumulate( Reading( $x : value ) over window:length( 100 ), "
@@ -546,7 +546,7 @@ def endless_script(n: int, rng: Random) -> Iterator[str]:
 
 @load
 def endless(n: int, rng: Random) -> Load:
-    """Events of three types within 5 s by a key of 50 values, the clock moves by 0.1 s, a fire behind each 25 of
+    """Events of three types within 5 s by a key of 50 values, the clock moves by 0.1 s, a fire after each 25 of
     them."""
     return Load(endless_types() + rule("abc", ENDLESS), endless_script(n, rng))
 
@@ -569,7 +569,7 @@ def endless_behind_table(annotation: str, n: int, rng: Random) -> Load:
 
 @load
 def endless_table(n: int, rng: Random) -> Load:
-    """`endless` behind a table of 50 keys that the events are joined with: events are kept for ever."""
+    """`endless` after a table of 50 keys that the events are joined with: events are kept for ever."""
     return endless_behind_table("", n, rng)
 
 
@@ -589,7 +589,7 @@ def expiring(n: int, rng: Random) -> Load:
 @load
 def expiring_pairs(n: int, rng: Random) -> Load:
     """Events of two types that expire after 1 s, within 1 s by a key of 50 values, the clock moves by 10 ms, a fire
-    behind each 50 of them."""
+    after each 50 of them."""
     rules = "".join(f"declare {kind} @role( event ) @expires( 1s ) k : long end\n" for kind in "AB")
     rules += rule("ab", "$a : A( $k : k ) B( k == $k, this after[0s,1s] $a )")
     return Load(rules, stream(n, lambda: (insert(rng.choice("AB"), k=rng.randrange(50)), advance(10)), 50))
@@ -737,5 +737,5 @@ def fraud_script(n: int, rng: Random) -> Iterator[str]:
 
 @load
 def fraud(n: int, rng: Random) -> Load:
-    """50 rules over 2,000 cards, 200 merchants and three types of events, 50 ms apart, a fire behind each 20."""
+    """50 rules over 2,000 cards, 200 merchants and three types of events, 50 ms apart, a fire after each 20."""
     return Load(FRAUD_TYPES + fraud_rules(), fraud_script(n, rng))

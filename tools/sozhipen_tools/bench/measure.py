@@ -135,7 +135,7 @@ def program_words(program: str, files: Files) -> list[str]:
 
 
 def least(program: str, files: Files, runs: int, clips: bool) -> tuple[Spent, Optional[Spent]]:
-    """The least runs of the program and of CLIPS, one behind the other."""
+    """The least runs of the program and of CLIPS, one after the other."""
     ours, theirs = [], []
     for _ in range(runs):
         ours.append(ran(program_words(program, files), files.script, files.rules.parent))
@@ -166,7 +166,7 @@ class Pipe:
         self.lines = 0
 
     def answered(self, text: bytes) -> int:
-        """Nanoseconds from the writing of a line, and a mark behind it, to the answer of the mark."""
+        """Nanoseconds from the writing of a line, and a mark after it, to the answer of the mark."""
         self.lines += 2
         answer = b"fault %d " % self.lines
         begun = perf_counter_ns()

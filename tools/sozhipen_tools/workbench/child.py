@@ -68,4 +68,4 @@ def unfinished(late: bool, long: bool, errors: list[bytes], seconds: int) -> str
     if long:
         return "the answer is too long to be shown"
     last = b"".join(errors).decode("utf-8", "replace").strip().splitlines()
-    return f"the run broke off: {last[-1] if last else 'no word'}"
+    return f"the run failed: {last[-1] if last else 'without a word'}"

@@ -312,7 +312,7 @@ function show(said) {
 function showCut(lines) {
   count("output", lines.length);
   $("output").replaceChildren(element("pre", {}, lines.join("\n")));
-  $("firings").replaceChildren(element("p", { class: "quiet" }, "The run came to no end: what it printed stands under Output."));
+  $("firings").replaceChildren(element("p", { class: "quiet" }, "The run did not finish: what it printed is under Output."));
 }
 
 // ---- running
