@@ -9,7 +9,7 @@ use Rattle.rule_world.specs.Programs.{IsRunnable}
 use Rattle.rule_world.proofs.Lawfuls.{empty_lawful}
 use Rattle.script_run.proofs.Joined.{part_joined}
 use Rattle.script_run.proofs.Kept.{run_keeps}
-use Rattle.replay.specs.Behind.{IsSoundWorld, KeepWorlds, IsSavedRest, IsRefusedOn}
+use Rattle.replay.specs.Behind.{IsSoundWorld, KeepWorlds, IsRefusedOn}
 use Rattle.replay.proofs.Programs.{WantsRunnable}
 use Rattle.replay.proofs.Tables.{by_table}
 

@@ -1,7 +1,7 @@
 -- A run whose limit of firings is not met does not depend on it.
 use Rattle.script_run.proofs.Common.{◌≡◌, ◌≤◌, ◌+◌, ◌-◌, ◌++◌, ◌||◌, ℕ, zero, suc, Bool, true, false, List, [], ◌∷◌, length, nat_lt, Option, Some, None, refl, sym, ap, ap₂, subst, ◌∙◌}
 use Rattle.script_run.proofs.Common.{arith, if◌then◌else◌, World, OutLine, Program, Fires, Firings, all_fired, limit_met, none_left, onto_lines, then_fires}
-use Rattle.script_run.proofs.Common.{wants_one, one_less, RunSetting, RunState, Outcome, LineEffect, Done, goes_on, stops, state_after, step_in, fire_step}
+use Rattle.script_run.proofs.Common.{wants_one, one_less, RunSetting, RunState, Outcome, LineEffect, goes_on, stops, state_after, step_in, fire_step}
 use Rattle.script_run.proofs.Common.{command_step, asked_step, first_state, whole_run, at_end, then_run, lines_text, has_fault, empty_world}
 use Rattle.std.proofs.lemmas.Option.{same_Some}
 use Rattle.script_read.specs.Asked.{Asked, asks, bad_json, bad_command, asked}

@@ -1,5 +1,5 @@
 -- Changes and firings lead from worlds that runs come to to such worlds.
-use Rattle.std.proofs.Common.{◌≡◌, ◌≤◌, ℕ, List, [], ◌∷◌, Option, Some, None, Result, Ok, Err, arith, refl, sym, ap, subst}
+use Rattle.std.proofs.Common.{◌≡◌, ◌≤◌, List, [], ◌∷◌, Option, Some, None, Result, Ok, Err, arith, subst}
 use Rattle.rule_model.specs.declared.matched.Match.{Match}
 use Rattle.rule_model.specs.declared.program.Program.{Program}
 use Rattle.rule_model.specs.declared.step.Step.{Step}
@@ -10,7 +10,7 @@ use Rattle.rule_world.specs.Worlds.{World, moved, stepped, step_fault, first_pen
 use Rattle.script_read.specs.declared.asked.Change.{Change}
 use Rattle.change_read.specs.Changes.{change_step}
 use Rattle.engine.specs.declared.lines.OutLine.{OutLine}
-use Rattle.session_laws.specs.Gives.{gives, fires, does, does_all, tries_with, fires_match, fires_with, fire_line, wanted, actions_of}
+use Rattle.session_laws.specs.Gives.{gives, fires, does, does_all, tries_with, fires_match, fires_with, wanted, actions_of}
 use Rattle.session_laws.proofs.Acting.{fires_lawful}
 use Rattle.session_laws.proofs.Asking.{gives_lawful}
 use Rattle.replay.specs.Behind.{IsSoundWorld, KeepWorlds}

@@ -1,4 +1,4 @@
-use Rattle.std.proofs.Common.{refl, sym}
+use Rattle.std.proofs.Common.{refl}
 use Rattle.cases.proofs.waiting.serve.Goals as goal
 
 pub run-requires-clause-prompt : goal.run-requires-clause-prompt

@@ -1,4 +1,4 @@
-use Rattle.replay.proofs.Common.{◌≡◌, ℕ, List, Some, Err, sym, subst, ap, ◌∙◌, inl, inr, refl, option_map, arith, RuleFile, Accepted, Refused, seen_of_shelf}
+use Rattle.replay.proofs.Common.{◌≡◌, Some, Err, sym, subst, ap, ◌∙◌, inl, inr, refl, option_map, arith, RuleFile, Accepted, Refused, seen_of_shelf}
 use Rattle.replay.proofs.Common.{wanted_told, reading, refuses, refuses_checkpoint, wanted_rules, wanted_at, wanted_from, wanted_by_name, IsUnread}
 use Rattle.drl_parse.specs.Parsed.{file_limit}
 use Rattle.replay.proofs.Calls.{by_told, told_is, refused_done, refuses_since, rose_since, checkpoint_done, nothing_done, not_refused}
