@@ -2,6 +2,7 @@ use crate::case::Case;
 use crate::running::{Ran, run_with};
 use crate::settings::Failures;
 use crate::stopped::Stopped;
+use crate::waiting::{Answer, try_waiting};
 use fx_io::{Sink, write_all};
 use std::alloc::Global;
 
@@ -36,16 +37,16 @@ fn run_part(
     )
 }
 
-// Whether the parts print what the whole does: the first one its front, and the second one, from the image behind the first, the rest, with
-// the status of the whole.
+// Whether the parts print what the whole does: the first one, of which this came, its front, and the second one, from the image behind the
+// first, the rest, with the status of the whole.
 fn goes_on(
     alloc: Global,
     case: &Case,
     whole: &Ran,
+    front: &Ran,
     first: &[u8],
     rest: &[u8],
 ) -> Result<bool, Stopped> {
-    let front = run_part(alloc, case, &[], &[], first)?;
     let saved = run_part(alloc, case, &["--mode", "save"], &[], first)?;
     let back = run_part(alloc, case, &["--resume", "IMAGE"], &saved.printed, rest)?;
     Ok(
@@ -57,7 +58,7 @@ fn goes_on(
 }
 
 /// Runs a case in two parts, cut behind each third line of its script from the second one on, and writes a line: that the parts printed
-/// what the whole does, or the first cut where they did not.
+/// what the whole does, or the first cut where they did not. The whole is run once more for one who waits, and knows what first parts print.
 pub(crate) fn try_cuts<K: Sink>(
     alloc: Global,
     case: &Case,
@@ -67,21 +68,27 @@ pub(crate) fn try_cuts<K: Sink>(
     let script = case.script.as_slice();
     let mut lines: u64 = 0;
     let mut cuts: u64 = 0;
+    let mut answers = Vec::new(alloc);
     for place in 0..script.len() {
         if script[place] == b'\n' {
             lines = lines.saturating_add(1);
             if lines % 3 == 2 {
                 cuts = cuts.saturating_add(1);
                 let (first, rest) = script.split_at(place + 1);
-                if !goes_on(alloc, case, whole, first, rest)? {
+                let front = run_part(alloc, case, &[], &[], first)?;
+                if !goes_on(alloc, case, whole, &front, first, rest)? {
                     let line = format!(in alloc; "=== cuts: other behind line {lines}\n")?;
                     write_all(out, line.as_bytes())?;
                     return Ok(());
                 }
+                answers.push(Answer {
+                    len: place + 1,
+                    printed: front.printed,
+                })?;
             }
         }
     }
     let line = format!(in alloc; "=== cuts: {cuts}, the same\n")?;
     write_all(out, line.as_bytes())?;
-    Ok(())
+    try_waiting(alloc, case, whole, answers, out)
 }

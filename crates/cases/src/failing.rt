@@ -24,17 +24,19 @@ impl<T> Failing<T> {
     }
 }
 
-impl<S: Source> Source for Failing<S> {
+impl<K, S: Source<K>> Source<K> for Failing<S> {
     ghost left = { λ s. S.left s.inside };
 
     ghost given = { λ s. S.given s.inside };
 
     ghost faults = { λ s. s.faults };
 
-    fn read(&mut self, buf: &mut [u8]) -> Result<usize, Failed> {
+    ghost may_ask = { λ s. S.may_ask s.inside };
+
+    fn read(&mut self, out: &K, buf: &mut [u8]) -> Result<usize, Failed> {
         self.calls = self.calls.saturating_add(1);
         if !self.failing.contains(&self.calls) {
-            if let Ok(n) = self.inside.read(buf) {
+            if let Ok(n) = self.inside.read(out, buf) {
                 self.bytes = self.bytes.saturating_add(n as u64);
                 return Ok(n);
             }

@@ -10,20 +10,25 @@ mod failing;
 mod running;
 mod settings;
 mod stopped;
+mod waiting;
 
 use case::Case;
 use fx_base::limits::LINE_MAX;
-use fx_io::{Line, LineReader, Sink, Source, StdSink, StdSource};
+use fx_io::{Line, LineReader, Sink, StdSink, StdSource};
 use settings::MOST;
 use std::alloc::Global;
 use std::process::ExitCode;
 use stopped::Stopped;
 
-fn run_all<S: Source, K: Sink>(alloc: Global, source: &mut S, out: &mut K) -> Result<(), Stopped> {
+fn run_all<R: Input, K: Sink>(
+    alloc: Global,
+    source: &mut StdSource<R>,
+    out: &mut K,
+) -> Result<(), Stopped> {
     let mut reader = LineReader::new(alloc, LINE_MAX, MOST as u64)?;
     let mut case = Case::new(alloc)?;
     for _ in 0..u64::MAX {
-        match reader.next_line(source) {
+        match reader.next_line(source, &()) {
             Ok(Line::Whole(line)) => case = case.with_line(alloc, line.as_slice(), out)?,
             Ok(Line::End) => return Ok(()),
             _ => return Err(Stopped),

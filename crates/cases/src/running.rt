@@ -1,3 +1,5 @@
+ghost use Rattle.std.specs.Prelude.{◌≡◌, [], ◌∷◌, codes, IfOk};
+
 use crate::case::Case;
 use crate::failing::Failing;
 use crate::settings::{Failures, MOST, Object};
@@ -48,6 +50,25 @@ pub(crate) fn run_once(
     run_with(alloc, case, words, &[], failures, script)
 }
 
+/// The files on the shelf of a case: its rule file, and an image.
+pub(crate) fn files_of(
+    alloc: Global,
+    rules: &[u8],
+    image: &[u8],
+) -> Result<Vec<(Text, Seq<u8>)>, Stopped>
+    ensures { IfOk result (λ files. files.items ≡ (codes "RULES", rules.now) ∷ (codes "IMAGE", image.now) ∷ []) }
+{
+    let rules = (
+        Text::new(alloc, "RULES")?,
+        Seq::from_vec(rules.to_vec(alloc)?),
+    );
+    let image = (
+        Text::new(alloc, "IMAGE")?,
+        Seq::from_vec(image.to_vec(alloc)?),
+    );
+    Ok(vec![in alloc; rules, image]?)
+}
+
 /// The same with these words, and an image on the shelf.
 pub(crate) fn run_with(
     alloc: Global,
@@ -59,15 +80,8 @@ pub(crate) fn run_with(
 ) -> Result<Ran, Stopped> {
     let settings = &case.settings;
     let most = settings.most.max(1);
-    let rules = (
-        Text::new(alloc, "RULES")?,
-        Seq::from_vec(case.rules.to_vec(alloc)?),
-    );
-    let image = (
-        Text::new(alloc, "IMAGE")?,
-        Seq::from_vec(image.to_vec(alloc)?),
-    );
-    let mut shelf = MemShelf::new(vec![in alloc; rules, image]?, failures.shelf.to_vec(alloc)?);
+    let files = files_of(alloc, &case.rules, image)?;
+    let mut shelf = MemShelf::new(files, failures.shelf.to_vec(alloc)?);
     let source = ChunkSource::new(script.to_vec(alloc)?, most);
     let mut source = Failing::new(source, failures.script.to_vec(alloc)?);
     let sink = ChunkSink::new(alloc, settings.room.min(MOST), most)?;
