@@ -3,7 +3,7 @@ use Rattle.std.proofs.lemmas.List.{take_rest}
 use Rattle.fx_io.proofs.Told.{read_more}
 use Rattle.cases.specs.Answered.{IsAnswered}
 use Rattle.cases.proofs.Given.{given_on}
-use Rattle.cases.proofs.waiting.WaitingSource.read.Goals as goal
+use Rattle.cases.proofs.waiting.WaitingSourceChunkSink.read.Goals as goal
 
 pub returns-clause-taken : goal.returns-clause-taken
 returns-clause-taken g c =
