@@ -15,6 +15,7 @@ from importlib.machinery import SourceFileLoader
 from importlib.util import module_from_spec, spec_from_loader
 from pathlib import Path
 from types import ModuleType
+from typing import Any
 
 from .words import Parser
 
@@ -44,6 +45,20 @@ def command() -> ModuleType:
     return module_of("rt_command", Path(path).resolve())
 
 
+def library_of(crate: Any) -> Path:
+    """The folder of a crate's library."""
+    return Path(crate.folder, "out", "rlib")
+
+
+def has_library(kept: Any, crate: Any) -> bool:
+    """Whether the crate has the library that was kept, which is put in the place of another one, or else one that was built there."""
+    key = kept.key(crate)
+    if Path(kept.place(crate, False, key)).is_dir():
+        shutil.rmtree(library_of(crate), ignore_errors=True)
+        return bool(kept.give(crate, False, key))
+    return bool(crate.is_built())
+
+
 def give(rt: ModuleType, clone: Path) -> tuple[list[str], list[str]]:
     """Gives the crates of the clone what was kept of them; their names, and those for which there was nothing."""
     os.chdir(clone)
@@ -52,11 +67,9 @@ def give(rt: ModuleType, clone: Path) -> tuple[list[str], list[str]]:
     given: list[str] = []
     left: list[str] = []
     for crate in crates:
-        stamp = Path(crate.folder, "out", "rlib", "stamp")
-        if not crate.is_program and all(it.name in given for it in crate.deps) and (
-                crate.is_built() or kept.give(crate, False, kept.key(crate))):
+        if not crate.is_program and all(it.name in given for it in crate.deps) and has_library(kept, crate):
             kept.is_built(crate)
-            stamp.write_text(crate.stamp(), encoding="utf-8")
+            library_of(crate).joinpath("stamp").write_text(crate.stamp(), encoding="utf-8")
             given.append(crate.name)
         else:
             left.append(crate.name)
