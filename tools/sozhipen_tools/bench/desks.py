@@ -40,8 +40,8 @@ ONE = "A( v < 0 )"
 JOIN = "$a : A( $k : k, $v : v ) A( k == $k, v > $v )"
 NOT = "$a : A( $k : k ) not( A( k == $k ) )"
 JOIN_BY_TIME = "$a : A( $k : k ) A( k == $k, this after[1ms,1h] $a )"
-SUM = ("$a : A( $k : k, v > 9 ) over window:time( 10m ) "
-       "accumulate( A( k == $k, $x : v ) over window:time( 1h ); $s : sum( $x ); $s > 9 )")
+SUM = ("$a : A( $k : k, v > 5 ) over window:time( 10m ) "
+       "accumulate( A( k == $k, $x : v ) over window:time( 1h ); $s : sum( $x ); $s > 99 )")
 
 
 @load
