@@ -13,16 +13,19 @@ from unittest import mock
 from support import evaluator
 
 from sozhipen_tools.bench import measure
-from sozhipen_tools.bench.desks import LOADS
+from sozhipen_tools.bench.features import LOADS
 from sozhipen_tools.bench.loads import FIRE
 
 # Loads that are to fire nothing, such as do not in 200 lines, and in how many lines some of these do.
 NEVER = {"bare", "blank", "clocks", "skewed", "pile", "retracted", "cascade", "expiring", "burst", "burst_life",
          "strangers", "strangers_one", "many_nots", "many_nots_one", "kept_two", "kept_six", "kept_join_two",
          "kept_join_six", "kept_not_two", "kept_not_six", "kept_event_two", "kept_event_six", "kept_event_join_six",
-         "kept_event_sum_six", "joined_stream"}
+         "kept_event_sum_six", "joined_stream", "long_texts", "not_of_one_key", "hour_count", "hour_sum", "hour_min",
+         "hour_max", "hour_average", "length_10", "length_10000"}
 SELDOM = {"churn", "wide", "wide_one", "texts", "fields", "sums", "lengths", "forgetful", "forgetful_one", "rules_1",
-          "rules_10", "rules_50", "rules_250", "beats"}
+          "rules_10", "rules_50", "rules_250", "beats", "fields2", "fields8", "fields16", "fields32", "joins_64",
+          "joins_256", "coincides_by_key", "finishes_by_key", "finishedby_by_key", "metby_by_key", "starts_by_key",
+          "startedby_by_key", "startedby_alone"}
 LONGER = {"churn": 800, "wide": 400, "forgetful": 600, "beats": 900}
 
 CLIPS = """grep -c . < "$(sed -n 's/^(load-facts "\\(.*\\)")$/\\1/p' "$2")" > counted

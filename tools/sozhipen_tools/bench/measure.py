@@ -44,7 +44,7 @@ from typing import NamedTuple, Optional
 
 from ..pipes import pipe
 from ..words import Parser
-from .desks import LOADS  # those of loads too
+from .features import LOADS  # those of loads and of desks too
 
 SEED = 7
 FIRINGS = "1000000"
