@@ -8,11 +8,12 @@ import tempfile
 import unittest
 from pathlib import Path
 from random import Random
+from typing import Callable
 from unittest import mock
 
 from support import evaluator
 
-from sozhipen_tools.bench import measure
+from sozhipen_tools.bench import costs, measure, rule_files
 from sozhipen_tools.bench.features import LOADS
 from sozhipen_tools.bench.loads import FIRE
 
@@ -154,6 +155,11 @@ class Measuring(Case):
         status, out = self.told("--runs", 1, "--callgrind", "--replay", self.program("none", "exit 0"), "join:100")
         self.assertEqual((status, re.findall(r"[\d,]+ instructions/line", out)), (0, ["5 instructions/line"]))
 
+    def test_beside_json(self) -> None:
+        status, out = self.told("--runs", 1, "--json", "--replay", self.program("none", "exit 0"), "join:100")
+        self.assertEqual(status, 0)
+        self.assertRegex(out, r"fired 0  json\.loads \d+\.\d{3} s\n$")
+
     def test_latency(self) -> None:
         live = str(evaluator(self.folder, "reference.live"))
         status, out = self.told("--runs", 1, "--latency", "--replay", live, "pairs:60")
@@ -188,6 +194,47 @@ class Measuring(Case):
         self.assertIn("no such program: gone", self.refused("--replay", "gone", "inserts:100"))
         self.assertIn("--list, or --replay PROGRAM", self.refused(*there))
         self.assertIn("--list, or --replay PROGRAM", self.refused(*there, "--runs", "0", "inserts:100"))
+
+
+class Costs(Case):
+    def told_by(self, main: Callable[[list[str]], int], *words: str) -> list[str]:
+        with contextlib.redirect_stdout(io.StringIO()) as out:
+            self.assertEqual(main([*words]), 0)
+        return out.getvalue().splitlines()
+
+    def test_rows(self) -> None:
+        self.program("valgrind", VALGRIND)
+        program = self.program("none", "exit 0")
+        rows = self.told_by(costs.main, "--replay", program, "--runs", "1", "--callgrind", "--scale", "0.001")
+        self.assertEqual(len(rows), len(costs.COSTS) + len(costs.KEPT) + 1)
+        self.assertRegex(rows[2], r"^a line that matches nothing +\d+\.\d{3} µs  json\.loads [\d.]+ µs  "
+                                  r"5 instructions  \(bare, 300 lines\)$")
+        self.assertRegex(rows[8], r"^a rule more on one stream, an event +-?\d+\.\d{3} µs  0 instructions  "
+                                  r"\(rules_50 less rules_1, 30 lines\)$")
+        self.assertRegex(rows[-2], r"^a kept fact of six fields, three of them texts +-?[\d,]+ B  "
+                                   r"\(kept_six, 200 facts\)$")
+        self.assertRegex(rows[-1], r"^an image of 1,000 facts, a fact: saved -?[\d.]+ µs, resumed [\d.]+ µs, 0 B$")
+
+    def test_each_load_of_a_cost_is_there(self) -> None:
+        named = {name for cost in costs.COSTS for name in (cost.load, cost.beside) if name} | set(costs.KEPT.values())
+        self.assertLessEqual(named, set(LOADS))
+
+    def test_rule_files(self) -> None:
+        names = [f"{name}:{8}" for name in rule_files.FILES]
+        rows = self.told_by(rule_files.main, "--replay", self.evaluator(), "--runs", "1", *names)
+        self.assertEqual([row.split()[:2] for row in rows],
+                         [[name, number] for name in rule_files.FILES for number in ("4", "8")])
+        self.assertEqual([row.split()[7] for row in rows[1::2]],
+                         ["accepted"] * 2 + ["refused"] * 2 + ["accepted"] * 5 + ["accepted", "refused"])
+
+    def test_whole_rule_files_have_at_most_a_mebibyte(self) -> None:
+        for name, (number, text) in rule_files.FILES.items():
+            self.assertLessEqual(len(text(number).encode()), rule_files.MOST_BYTES, name)
+
+    def test_a_check_that_takes_too_long_is_ended(self) -> None:
+        endless = self.program("endless", "while :; do :; done")
+        rows = self.told_by(rule_files.main, "--replay", endless, "--runs", "1", "--seconds", "1", "imports:2")
+        self.assertTrue(all(row.endswith("  ended after 1 s") for row in rows), rows)
 
 
 if __name__ == "__main__":
