@@ -202,18 +202,23 @@ class Costs(Case):
             self.assertEqual(main([*words]), 0)
         return out.getvalue().splitlines()
 
-    def test_rows(self) -> None:
-        self.program("valgrind", VALGRIND)
-        program = self.program("none", "exit 0")
-        rows = self.told_by(costs.main, "--replay", program, "--runs", "1", "--callgrind", "--scale", "0.001")
+    def test_microseconds(self) -> None:
+        rows = self.told_by(costs.main, "--replay", self.program("none", "exit 0"), "--runs", "1", "--scale", "0.001")
         self.assertEqual(len(rows), len(costs.COSTS) + len(costs.KEPT) + 1)
         self.assertRegex(rows[2], r"^a line that matches nothing +\d+\.\d{3} µs  json\.loads [\d.]+ µs  "
-                                  r"5 instructions  \(bare, 300 lines\)$")
-        self.assertRegex(rows[8], r"^a rule more on one stream, an event +-?\d+\.\d{3} µs  0 instructions  "
+                                  r"\(bare, 300 lines\)$")
+        self.assertRegex(rows[8], r"^a rule more on one stream, an event +-?\d+\.\d{3} µs  "
                                   r"\(rules_50 less rules_1, 30 lines\)$")
         self.assertRegex(rows[-2], r"^a kept fact of six fields, three of them texts +-?[\d,]+ B  "
                                    r"\(kept_six, 200 facts\)$")
         self.assertRegex(rows[-1], r"^an image of 1,000 facts, a fact: saved -?[\d.]+ µs, resumed [\d.]+ µs, 0 B$")
+
+    def test_instructions(self) -> None:
+        self.program("valgrind", VALGRIND)
+        rows = self.told_by(costs.main, "--replay", self.program("none", "exit 0"), "--callgrind", "--scale", "0.05")
+        self.assertEqual(len(rows), len(costs.COSTS))
+        self.assertRegex(rows[2], r"^a line that matches nothing +5 instructions  \(bare, 100 lines\)$")
+        self.assertRegex(rows[8], r" 0 instructions  \(rules_50 less rules_1, 100 lines\)$")
 
     def test_each_load_of_a_cost_is_there(self) -> None:
         named = {name for cost in costs.COSTS for name in (cost.load, cost.beside) if name} | set(costs.KEPT.values())

@@ -3,8 +3,9 @@
     tools/run bench.costs --replay PROGRAM [--runs N] [--callgrind] [--scale S]
 
 Each row is of a load of bench.measure, or of two of them, of which the one is taken off the other: microseconds of
-processor time, user and system, the least of N runs (3); the same of Python's `json.loads` of the same lines; and with
---callgrind instructions, which do not depend on what else the machine does. --scale 0.01 takes a hundredth of lines.
+processor time, user and system, the least of N runs (3), and the same of Python's `json.loads` of the same lines; or,
+with --callgrind, instructions at 2,000 lines, which do not depend on what else the machine does. --scale 0.01 takes a
+hundredth of the lines.
 """
 
 from __future__ import annotations
@@ -18,7 +19,7 @@ from pathlib import Path
 from typing import NamedTuple, Optional
 
 from ..words import Parser
-from .measure import Files, adopt_orphans, by_json, instructions_a_line, least, saved_and_resumed, written
+from .measure import adopt_orphans, by_json, instructions_a_line, least, saved_and_resumed, written
 
 COUNTED_LINES = 2000
 
@@ -49,21 +50,21 @@ IMAGE_LINES = 1_000_000
 
 
 def told(cost: Cost, asked: argparse.Namespace, folder: Path) -> str:
-    def microseconds(name: str) -> tuple[Files, float]:
-        files = written(folder, name, max(10, int(cost.lines * asked.scale)))
-        return files, least(asked.replay, files, asked.runs, False)[0].seconds / files.lines * 1e6
+    n = max(10, int((COUNTED_LINES if asked.callgrind else cost.lines) * asked.scale))
 
-    def counted(name: str) -> float:
-        return instructions_a_line(asked.replay, folder, name, max(10, int(COUNTED_LINES * min(1, asked.scale))))
-    files, spent = microseconds(cost.load)
-    spent = (spent - (microseconds(cost.beside)[1] if cost.beside else 0)) / cost.in_line
-    row = f"{cost.what:36} {spent:9.3f} µs"
-    if cost.is_json:
+    def instructions(name: str) -> float:
+        return instructions_a_line(asked.replay, folder, name, n)
+
+    def microseconds(name: str) -> float:
+        files = written(folder, name, n)
+        return least(asked.replay, files, asked.runs, False)[0].seconds / files.lines * 1e6
+    spent = instructions if asked.callgrind else microseconds
+    each = (spent(cost.load) - (spent(cost.beside) if cost.beside else 0)) / cost.in_line
+    row = f"{cost.what:36} " + (f"{each:9,.0f} instructions" if asked.callgrind else f"{each:9.3f} µs")
+    if cost.is_json and not asked.callgrind:
+        files = written(folder, cost.load, n)
         row += f"  json.loads {by_json(files, asked.runs).seconds / files.lines * 1e6:.2f} µs"
-    if asked.callgrind:
-        instructions = (counted(cost.load) - (counted(cost.beside) if cost.beside else 0)) / cost.in_line
-        row += f"  {instructions:,.0f} instructions"
-    return row + f"  ({cost.load}{' less ' + cost.beside if cost.beside else ''}, {files.lines:,} lines)"
+    return row + f"  ({cost.load}{' less ' + cost.beside if cost.beside else ''}, {n:,} lines)"
 
 
 def kept(asked: argparse.Namespace, folder: Path) -> str:
@@ -88,7 +89,7 @@ def asked_for(given: list[str]) -> argparse.Namespace:
     parser = Parser(description="Tells what a line, a field, a rule, a firing, a kept fact and an image cost.")
     parser.add_argument("--replay", metavar="PROGRAM", required=True, help="the program")
     parser.add_argument("--runs", type=int, default=3, metavar="N", help="take the least of so many runs (3)")
-    parser.add_argument("--callgrind", action="store_true", help="instructions too, by valgrind")
+    parser.add_argument("--callgrind", action="store_true", help="instructions in the place of time, by valgrind")
     parser.add_argument("--scale", type=float, default=1, metavar="S", help="so many times the lines (1)")
     asked = parser.parse_args(given)
     missing = [name for name in [asked.replay, *(["valgrind"] if asked.callgrind else [])] if not shutil.which(name)]
@@ -105,8 +106,9 @@ def main(given: list[str]) -> int:
         folder = Path(temporary)
         for cost in COSTS:
             print(told(cost, asked, folder), flush=True)
-        print(kept(asked, folder), flush=True)
-        print(image(asked, folder), flush=True)
+        if not asked.callgrind:
+            print(kept(asked, folder), flush=True)
+            print(image(asked, folder), flush=True)
     return 0
 
 

@@ -176,8 +176,8 @@ def alternatives_of(number: int, n: int, rng: Random) -> Load:
     def script() -> Iterator[str]:
         keys = max(1, n // 2)
         for _ in range(n - 1):
-            yield insert("A", k=rng.randrange(keys)) if rng.randrange(2) else insert("B", k=rng.randrange(keys),
-                                                                                  w=rng.randrange(number))
+            key = rng.randrange(keys)
+            yield insert("A", k=key) if rng.randrange(2) else insert("B", k=key, w=rng.randrange(number))
         yield FIRE
     return Load(types(A="k", B="k w") + rule("x", f"A( $k : k ) ( {ways} )"), script())
 
