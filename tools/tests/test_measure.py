@@ -229,7 +229,7 @@ class Costs(Case):
         rows = self.told_by(rule_files.main, "--replay", self.evaluator(), "--runs", "1", *names)
         self.assertEqual([row.split()[:2] for row in rows],
                          [[name, number] for name in rule_files.FILES for number in ("4", "8")])
-        self.assertEqual([row.split()[7] for row in rows[1::2]],
+        self.assertEqual([row.split()[8] for row in rows[1::2]],
                          ["accepted"] * 2 + ["refused"] * 2 + ["accepted"] * 5 + ["accepted", "refused"])
 
     def test_whole_rule_files_have_at_most_a_mebibyte(self) -> None:
