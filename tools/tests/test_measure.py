@@ -13,7 +13,7 @@ from unittest import mock
 
 from support import evaluator
 
-from sozhipen_tools.bench import costs, measure, rule_files
+from sozhipen_tools.bench import costs, measure, parts, rule_files
 from sozhipen_tools.bench.features import LOADS
 from sozhipen_tools.bench.loads import FIRE
 
@@ -231,6 +231,13 @@ class Costs(Case):
                          [[name, number] for name in rule_files.FILES for number in ("4", "8")])
         self.assertEqual([row.split()[8] for row in rows[1::2]],
                          ["accepted"] * 2 + ["refused"] * 2 + ["accepted"] * 5 + ["accepted", "refused"])
+
+    def test_libraries_are_counted_to_the_crates_that_call_them(self) -> None:
+        text = """fn=(1) session::step|3 10|cfn=(2) std::list::push'2|calls=1 0|4 30|fn=(2)|1 20|cfn=(3) malloc
+                  calls=2 0|1 12|fn=(3)|1 12|fn=(4) agenda::take|1 5|cfn=(2)|calls=1 0|4 10|fn=(5) main|1 7"""
+        profile = parts.profile_of(line.strip() for part in text.splitlines() for line in part.split("|"))
+        self.assertEqual(parts.by_crate(profile, {"session", "agenda"}),
+                         {"session": 10 + 15 + 9, "agenda": 5 + 5 + 3, "": 7})
 
     def test_whole_rule_files_have_at_most_a_mebibyte(self) -> None:
         for name, (number, text) in rule_files.FILES.items():
