@@ -206,12 +206,12 @@ class Costs(Case):
         rows = self.told_by(costs.main, "--replay", self.program("none", "exit 0"), "--runs", "1", "--scale", "0.001")
         self.assertEqual(len(rows), len(costs.COSTS) + len(costs.KEPT) + 1)
         self.assertRegex(rows[2], r"^a line that matches nothing +\d+\.\d{3} µs  json\.loads [\d.]+ µs  "
-                                  r"\(bare, 300 lines\)$")
+                                  r"\(bare, 150 lines\)$")
         self.assertRegex(rows[8], r"^a rule more on one stream, an event +-?\d+\.\d{3} µs  "
-                                  r"\(rules_50 less rules_1, 30 lines\)$")
+                                  r"\(rules_50 less rules_1, 15 lines\)$")
         self.assertRegex(rows[-2], r"^a kept fact of six fields, three of them texts +-?[\d,]+ B  "
-                                   r"\(kept_six, 200 facts\)$")
-        self.assertRegex(rows[-1], r"^an image of 1,000 facts, a fact: saved -?[\d.]+ µs, resumed [\d.]+ µs, 0 B$")
+                                   r"\(kept_six, 100 facts\)$")
+        self.assertRegex(rows[-1], r"^an image of 500 facts, a fact: saved -?[\d.]+ µs, resumed [\d.]+ µs, 0 B$")
 
     def test_instructions(self) -> None:
         self.program("valgrind", VALGRIND)

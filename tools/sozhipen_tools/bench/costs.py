@@ -35,18 +35,18 @@ class Cost(NamedTuple):
 
 
 COSTS = [
-    Cost("a line of 60 spaces", "blank", 1_000_000),
-    Cost("a move of the clock", "clocks", 300_000),
-    Cost("a line that matches nothing", "bare", 300_000, is_json=True),
-    *(Cost(f"an insert of {number} fields", f"fields{number}", 100_000, is_json=True) for number in (2, 8, 16, 32)),
-    Cost("a declared type more, of 128", "types128", 100_000, "inserts", 127),
-    Cost("a rule more on one stream, an event", "rules_50", 30_000, "rules_1", 49 / 3),
-    Cost("a firing", "fires_10", 20_000, "fires_1", 9 / 2),
-    Cost("a firing that modifies its fact", "counters", 20_000, "fires_1", 9 / 2),
+    Cost("a line of 60 spaces", "blank", 500_000),
+    Cost("a move of the clock", "clocks", 150_000),
+    Cost("a line that matches nothing", "bare", 150_000, is_json=True),
+    *(Cost(f"an insert of {number} fields", f"fields{number}", 50_000, is_json=True) for number in (2, 8, 16, 32)),
+    Cost("a declared type more, of 128", "types128", 50_000, "inserts", 127),
+    Cost("a rule more on one stream, an event", "rules_50", 15_000, "rules_1", 49 / 3),
+    Cost("a firing", "fires_10", 10_000, "fires_1", 9 / 2),
+    Cost("a firing that modifies its fact", "counters", 10_000, "fires_1", 9 / 2),
 ]
 KEPT = {"two numbers": "kept_two", "six fields, three of them texts": "kept_six"}
-KEPT_LINES = 200_000
-IMAGE_LINES = 1_000_000
+KEPT_LINES = 100_000
+IMAGE_LINES = 500_000
 
 
 def told(cost: Cost, asked: argparse.Namespace, folder: Path) -> str:
