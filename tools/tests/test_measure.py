@@ -8,21 +8,25 @@ import tempfile
 import unittest
 from pathlib import Path
 from random import Random
+from typing import Callable
 from unittest import mock
 
 from support import evaluator
 
-from sozhipen_tools.bench import measure
-from sozhipen_tools.bench.desks import LOADS
+from sozhipen_tools.bench import costs, measure, parts, rule_files
+from sozhipen_tools.bench.features import LOADS
 from sozhipen_tools.bench.loads import FIRE
 
 # Loads that are to fire nothing, such as do not in 200 lines, and in how many lines some of these do.
 NEVER = {"bare", "blank", "clocks", "skewed", "pile", "retracted", "cascade", "expiring", "burst", "burst_life",
          "strangers", "strangers_one", "many_nots", "many_nots_one", "kept_two", "kept_six", "kept_join_two",
          "kept_join_six", "kept_not_two", "kept_not_six", "kept_event_two", "kept_event_six", "kept_event_join_six",
-         "kept_event_sum_six", "joined_stream"}
+         "kept_event_sum_six", "joined_stream", "long_texts", "not_of_one_key", "hour_count", "hour_sum", "hour_min",
+         "hour_max", "hour_average", "length_10", "length_10000"}
 SELDOM = {"churn", "wide", "wide_one", "texts", "fields", "sums", "lengths", "forgetful", "forgetful_one", "rules_1",
-          "rules_10", "rules_50", "rules_250", "beats"}
+          "rules_10", "rules_50", "rules_250", "beats", "fields2", "fields8", "fields16", "fields32", "joins_64",
+          "joins_256", "coincides_by_key", "finishes_by_key", "finishedby_by_key", "metby_by_key", "starts_by_key",
+          "startedby_by_key", "startedby_alone"}
 LONGER = {"churn": 800, "wide": 400, "forgetful": 600, "beats": 900}
 
 CLIPS = """grep -c . < "$(sed -n 's/^(load-facts "\\(.*\\)")$/\\1/p' "$2")" > counted
@@ -151,6 +155,11 @@ class Measuring(Case):
         status, out = self.told("--runs", 1, "--callgrind", "--replay", self.program("none", "exit 0"), "join:100")
         self.assertEqual((status, re.findall(r"[\d,]+ instructions/line", out)), (0, ["5 instructions/line"]))
 
+    def test_beside_json(self) -> None:
+        status, out = self.told("--runs", 1, "--json", "--replay", self.program("none", "exit 0"), "join:100")
+        self.assertEqual(status, 0)
+        self.assertRegex(out, r"fired 0  json\.loads \d+\.\d{3} s\n$")
+
     def test_latency(self) -> None:
         live = str(evaluator(self.folder, "reference.live"))
         status, out = self.told("--runs", 1, "--latency", "--replay", live, "pairs:60")
@@ -185,6 +194,59 @@ class Measuring(Case):
         self.assertIn("no such program: gone", self.refused("--replay", "gone", "inserts:100"))
         self.assertIn("--list, or --replay PROGRAM", self.refused(*there))
         self.assertIn("--list, or --replay PROGRAM", self.refused(*there, "--runs", "0", "inserts:100"))
+
+
+class Costs(Case):
+    def told_by(self, main: Callable[[list[str]], int], *words: str) -> list[str]:
+        with contextlib.redirect_stdout(io.StringIO()) as out:
+            self.assertEqual(main([*words]), 0)
+        return out.getvalue().splitlines()
+
+    def test_microseconds(self) -> None:
+        rows = self.told_by(costs.main, "--replay", self.program("none", "exit 0"), "--runs", "1", "--scale", "0.001")
+        self.assertEqual(len(rows), len(costs.COSTS) + len(costs.KEPT) + 1)
+        self.assertRegex(rows[2], r"^a line that matches nothing +\d+\.\d{3} µs  json\.loads [\d.]+ µs  "
+                                  r"\(bare, 150 lines\)$")
+        self.assertRegex(rows[8], r"^a rule more on one stream, an event +-?\d+\.\d{3} µs  "
+                                  r"\(rules_50 less rules_1, 15 lines\)$")
+        self.assertRegex(rows[-2], r"^a kept fact of six fields, three of them texts +-?[\d,]+ B  "
+                                   r"\(kept_six, 100 facts\)$")
+        self.assertRegex(rows[-1], r"^an image of 500 facts, a fact: saved -?[\d.]+ µs, resumed [\d.]+ µs, 0 B$")
+
+    def test_instructions(self) -> None:
+        self.program("valgrind", VALGRIND)
+        rows = self.told_by(costs.main, "--replay", self.program("none", "exit 0"), "--callgrind", "--scale", "0.05")
+        self.assertEqual(len(rows), len(costs.COSTS))
+        self.assertRegex(rows[2], r"^a line that matches nothing +5 instructions  \(bare, 100 lines\)$")
+        self.assertRegex(rows[8], r" 0 instructions  \(rules_50 less rules_1, 100 lines\)$")
+
+    def test_each_load_of_a_cost_is_there(self) -> None:
+        named = {name for cost in costs.COSTS for name in (cost.load, cost.beside) if name} | set(costs.KEPT.values())
+        self.assertLessEqual(named, set(LOADS))
+
+    def test_rule_files(self) -> None:
+        names = [f"{name}:{8}" for name in rule_files.FILES]
+        rows = self.told_by(rule_files.main, "--replay", self.evaluator(), "--runs", "1", *names)
+        self.assertEqual([row.split()[:2] for row in rows],
+                         [[name, number] for name in rule_files.FILES for number in ("4", "8")])
+        self.assertEqual([row.split()[8] for row in rows[1::2]],
+                         ["accepted"] * 2 + ["refused"] * 2 + ["accepted"] * 5 + ["accepted", "refused"])
+
+    def test_libraries_are_counted_to_the_crates_that_call_them(self) -> None:
+        text = """fn=(1) session::step|3 10|cfn=(2) std::list::push'2|calls=1 0|4 30|fn=(2)|1 20|cfn=(3) malloc
+                  calls=2 0|1 12|fn=(3)|1 12|fn=(4) agenda::take|1 5|cfn=(2)|calls=1 0|4 10|fn=(5) main|1 7"""
+        profile = parts.profile_of(line.strip() for part in text.splitlines() for line in part.split("|"))
+        self.assertEqual(parts.by_crate(profile, {"session", "agenda"}),
+                         {"session": 10 + 15 + 9, "agenda": 5 + 5 + 3, "": 7})
+
+    def test_whole_rule_files_have_at_most_a_mebibyte(self) -> None:
+        for name, (number, text) in rule_files.FILES.items():
+            self.assertLessEqual(len(text(number).encode()), rule_files.MOST_BYTES, name)
+
+    def test_a_check_that_takes_too_long_is_ended(self) -> None:
+        endless = self.program("endless", "while :; do :; done")
+        rows = self.told_by(rule_files.main, "--replay", endless, "--runs", "1", "--seconds", "1", "imports:2")
+        self.assertTrue(all(row.endswith("  ended after 1 s") for row in rows), rows)
 
 
 if __name__ == "__main__":

@@ -46,7 +46,7 @@ NOT_RUN = {
     "tools/run  ": "forms of commands",
     "python3 -m pip install": "it changes the machine",
     "=== 1 what": "the form of a case; the gate runs all cases",
-    "tools/run bench.measure": "it takes minutes; test_measure runs each load",
+    "tools/run bench.": "they take minutes; test_measure runs each tool and each load",
 }
 
 

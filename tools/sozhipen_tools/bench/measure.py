@@ -1,8 +1,8 @@
-"""Measures a program that is called as `replay` is, over the loads of bench.loads.
+"""Measures a program that is called as `replay` is, over the loads of bench.loads, bench.desks and bench.features.
 
     tools/run bench.measure --list
-    tools/run bench.measure --replay PROGRAM [--runs N] [--clips] [--callgrind] [--latency] [--lines] [--images]
-        [--folder FOLDER] NAME:LINES[,LINES..] ..
+    tools/run bench.measure --replay PROGRAM [--runs N] [--clips] [--json] [--callgrind] [--latency] [--lines]
+        [--images] [--folder FOLDER] NAME:LINES[,LINES..] ..
 
 A row has the seconds of processor time, user and system, the least of N runs (3), the time of a line with its part of
 the start, the peak of memory with its bytes a line, and the firings. `inserts:20000,40000` measures both, and says how
@@ -11,6 +11,7 @@ the seconds grew: 2.00 is linear. The further words:
     --clips      beside CLIPS (Debian's package `clips`), whose runs come between, where the load has a twin: the same
                  facts, which CLIPS reads in its own form, and the same rules. The ratio is the program's time by that
                  of CLIPS
+    --json       beside Python's `json.loads` of each line, with the start of Python, some hundredths of a second
     --callgrind  instructions a line by valgrind: those of the script of 2n lines less those of n, so that the start
                  falls out
     --latency    on a pipe, by the clock: how long a line and a mark after it take to be answered, where the program
@@ -44,7 +45,7 @@ from typing import NamedTuple, Optional
 
 from ..pipes import pipe
 from ..words import Parser
-from .desks import LOADS  # those of loads too
+from .features import LOADS  # those of loads and of desks too
 
 SEED = 7
 FIRINGS = "1000000"
@@ -55,6 +56,7 @@ FROM_SHELL = ('exec 3<&0; from=$1; to=$2; shift 2; { read -r _ <&3; exec "$@" < 
 # A line that is no JSON: it changes nothing, and is answered by the number of the line.
 MARK = b"x\n"
 MARKS = 1000
+LOADS_EACH_LINE = "import json, sys\nfor line in sys.stdin.buffer: json.loads(line)"
 
 
 class Files(NamedTuple):
@@ -144,6 +146,12 @@ def least(program: str, files: Files, runs: int, clips: bool) -> tuple[Spent, Op
     return min(ours), min(theirs, default=None)
 
 
+def by_json(files: Files, runs: int) -> Spent:
+    """The least run of Python that loads each line."""
+    command = [sys.executable, "-c", LOADS_EACH_LINE]
+    return min(ran(command, files.script, files.rules.parent) for _ in range(runs))
+
+
 def instructions(program: str, files: Files) -> int:
     with open(files.script, "rb") as script:
         told = subprocess.run(["valgrind", "--tool=callgrind", "--callgrind-out-file=/dev/null",
@@ -219,15 +227,21 @@ def by_lines(program: str, files: Files) -> str:
 # ---- images
 
 
-def images(program: str, files: Files, runs: int, ours: Spent) -> str:
+def saved_and_resumed(program: str, files: Files, runs: int) -> tuple[Spent, int, Spent]:
+    """The least run that saves, the bytes of the image, and the least that goes on from it over no lines."""
     folder = files.rules.parent
     command = [program, "--limit", FIRINGS]
     saved = min(ran([*command, "--mode", "save", str(files.rules)], files.script, folder) for _ in range(runs))
     image = (folder / "printed").rename(folder / "image")
     resumed = min(ran([*command, "--resume", str(image), str(files.rules)], Path(os.devnull), folder)
                   for _ in range(runs))
+    return saved, image.stat().st_size, resumed
+
+
+def images(program: str, files: Files, runs: int, ours: Spent) -> str:
+    saved, size, resumed = saved_and_resumed(program, files, runs)
     told = (f"  saved in {saved.seconds - ours.seconds:.3f} s, peak {saved.mebibytes / ours.mebibytes:.2f}  image "
-            f"{image.stat().st_size / 2**20:.1f} MiB")
+            f"{size / 2**20:.1f} MiB")
     told += f"  resumed in {resumed.seconds:.3f} s, peak {resumed.mebibytes / ours.mebibytes:.2f}"
     return told + (f"  status {saved.status}, {resumed.status}" if saved.status or resumed.status else "")
 
@@ -259,10 +273,13 @@ def beside(ours: Spent, theirs: Spent) -> str:
     return f"  | CLIPS {theirs.seconds:.3f} s  {theirs.mebibytes:.1f} MiB  fired {theirs.fired}{often}{ratio}"
 
 
-def by_callgrind(program: str, folder: Path, name: str, n: int, files: Files) -> str:
-    twice = written(folder, name, 2 * n)
-    per_line = (instructions(program, twice) - instructions(program, files)) / (twice.lines - files.lines)
-    return f"  {per_line:,.0f} instructions/line"
+def instructions_a_line(program: str, folder: Path, name: str, n: int) -> float:
+    once, twice = written(folder, name, n), written(folder, name, 2 * n)
+    return (instructions(program, twice) - instructions(program, once)) / (twice.lines - once.lines)
+
+
+def by_callgrind(program: str, folder: Path, name: str, n: int) -> str:
+    return f"  {instructions_a_line(program, folder, name, n):,.0f} instructions/line"
 
 
 def measured(asked: argparse.Namespace, folder: Path, load: Wanted) -> bool:
@@ -277,7 +294,8 @@ def measured(asked: argparse.Namespace, folder: Path, load: Wanted) -> bool:
                f"fired {ours.fired}")
         row += f"  status {ours.status}" if ours.status else ""
         row += growth(before, ours) if before else ""
-        row += by_callgrind(asked.replay, folder, load.name, n, files) if asked.callgrind and not ours.status else ""
+        row += f"  json.loads {by_json(files, asked.runs).seconds:.3f} s" if asked.json else ""
+        row += by_callgrind(asked.replay, folder, load.name, n) if asked.callgrind and not ours.status else ""
         row += latency(asked.replay, files) if asked.latency and not ours.status else ""
         row += by_lines(asked.replay, files) if asked.lines and not ours.status else ""
         row += images(asked.replay, files, asked.runs, ours) if asked.images and not ours.status else ""
@@ -294,6 +312,7 @@ def asked_for(given: list[str]) -> argparse.Namespace:
     parser.add_argument("--replay", metavar="PROGRAM", help="the program")
     parser.add_argument("--runs", type=int, default=3, metavar="N", help="take the least of so many runs (3)")
     parser.add_argument("--clips", action="store_true", help="beside CLIPS, where the load has a twin")
+    parser.add_argument("--json", action="store_true", help="beside Python's json.loads of each line")
     parser.add_argument("--callgrind", action="store_true", help="instructions a line, by valgrind")
     parser.add_argument("--latency", action="store_true", help="how long a line takes on a pipe")
     parser.add_argument("--lines", action="store_true", help="how long a line of a file takes")
