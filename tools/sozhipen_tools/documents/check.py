@@ -26,7 +26,7 @@ from .tree import Tree
 # The greatest number of words, by page, and of all together; programs and what they print are not counted.
 LIMITS = {"README": 725, "RULES": 5300, "LIVES": 2250, "SCRIPT": 2690, "LIVE": 3800, "OPERATING": 1400,
           "EXAMPLES": 2500, "COMING-FROM": 2840, "TOOLS": 1500, "RECIPES": 700, "PROVED": 4600, "MAP": 3475,
-          "DECISIONS": 2640, "PERFORMANCE": 2200, "CHANGING": 2510, "PROOF-NOTES": 3200}
+          "DECISIONS": 2640, "PERFORMANCE": 2210, "CHANGING": 2510, "PROOF-NOTES": 3200}
 ALL_WORDS = 42000
 LONG = 40
 # Pages that speak of the code alone: a name of code that stands nowhere is a fault there.
