@@ -76,25 +76,13 @@ impl Agenda {
         self.fired.remove(&ranked.matched);
     }
 
-    fn put_row(self, rule: RuleId, row: Row) -> Result<Agenda, NoMemory>
-        ensures saliences { IfOk result (λ a. a.saliences ≡ self.saliences) }
-        ensures pending { IfOk result (λ a. (m : Match) → has_match a.pending m ≡ (has_match self.pending m || (rule.0 == m.rule.0 && eq_by_cmp row_cmp row m.row))) }
-        ensures fired { IfOk result (λ a. a.fired ≡ self.fired) }
+    fn put_row(&mut self, rule: RuleId, row: Row) -> Result<(), NoMemory>
+        ensures saliences { OnOk result (self.new.saliences ≡ self.old.saliences) }
+        ensures pending { OnOk result ((m : Match) → has_match self.new.pending m ≡ (has_match self.old.pending m || (rule.0 == m.rule.0 && eq_by_cmp row_cmp row m.row))) }
+        ensures fired { OnOk result (self.new.fired ≡ self.old.fired) }
     {
-        let Agenda {
-            saliences,
-            mut pending,
-            fired,
-            mut named,
-        } = self;
-        let ranked = Ranked::of(saliences.as_slice(), rule, row);
-        put_ranked(&mut pending, &mut named, ranked)?;
-        Ok(Agenda {
-            saliences,
-            pending,
-            fired,
-            named,
-        })
+        let ranked = Ranked::of(self.saliences.as_slice(), rule, row);
+        put_ranked(&mut self.pending, &mut self.named, ranked)
     }
 
     fn take_rows(&mut self, rule: RuleId, rows: Seq<Row>)
@@ -107,65 +95,50 @@ impl Agenda {
         }
     }
 
-    fn put_rows(self, rule: RuleId, rows: Seq<Row>) -> Result<Agenda, NoMemory>
-        ensures saliences { IfOk result (λ a. a.saliences ≡ self.saliences) }
-        ensures pending { IfOk result (λ a. (m : Match) → has_match a.pending m ≡ (has_match self.pending m || (rule.0 == m.rule.0 && has rows m.row))) }
-        ensures fired { IfOk result (λ a. a.fired ≡ self.fired) }
+    fn put_rows(&mut self, rule: RuleId, rows: Seq<Row>) -> Result<(), NoMemory>
+        ensures saliences { OnOk result (self.new.saliences ≡ self.old.saliences) }
+        ensures pending { OnOk result ((m : Match) → has_match self.new.pending m ≡ (has_match self.old.pending m || (rule.0 == m.rule.0 && has rows m.row))) }
+        ensures fired { OnOk result (self.new.fired ≡ self.old.fired) }
     {
-        let mut agenda = self;
         for row in rows.into_vec() {
-            agenda = agenda.put_row(rule, row)?;
+            self.put_row(rule, row)?;
         }
-        Ok(agenda)
+        Ok(())
     }
 
     /// Takes the rows that went out of both, and adds those that came to the pending ones. It costs the logarithm of the matches for
-    /// each row, and a hash for each fact of a pending one. `NoMemory` is also told where a tag's count is full.
-    pub fn change(self, rule: RuleId, delta: Delta) -> Result<Agenda, NoMemory>
-        ensures { IfOk result (IsChanged rule.0 delta self) }
+    /// each row, and a hash for each fact of a pending one. `NoMemory` is also told where a tag's count is full; nothing is promised of
+    /// the matches then.
+    pub fn change(&mut self, rule: RuleId, delta: Delta) -> Result<(), NoMemory>
+        ensures { OnOk result (IsChanged rule.0 delta self.old self.new) }
     {
-        let mut agenda = self;
         let Delta { gone, come } = delta;
-        agenda.take_rows(rule, gone);
-        agenda.put_rows(rule, come)
+        self.take_rows(rule, gone);
+        self.put_rows(rule, come)
     }
 
-    /// Marks the match that fires first as fired, and answers it.
-    pub fn fire_top(self, alloc: Global) -> Result<(Agenda, Match), NoMemory>
-        requires { 0 < length self.pending }
-        ensures saliences { IfOk result (λ r. r.0.saliences ≡ self.saliences) }
-        ensures count { IfOk result (λ r. length r.0.pending + 1 ≡ length self.pending) }
-        ensures top { IfOk result (λ r. Some r.1 ≡ first (fire_cmp self.saliences) self.pending) }
-        ensures pending { IfOk result (λ r. (m : Match) → has_match r.0.pending m ≡ (has_match self.pending m && not (eq_by_cmp match_cmp r.1 m))) }
-        ensures fired { IfOk result (λ r. (m : Match) → has_match r.0.fired m ≡ (has_match self.fired m || eq_by_cmp match_cmp r.1 m)) }
+    /// Marks the match that fires first as fired, and answers it. Where memory is refused, nothing is promised of the matches.
+    pub fn fire_top(&mut self, alloc: Global) -> Result<Match, NoMemory>
+        requires { 0 < length self.old.pending }
+        ensures saliences { OnOk result (self.new.saliences ≡ self.old.saliences) }
+        ensures count { OnOk result (length self.new.pending + 1 ≡ length self.old.pending) }
+        ensures top { IfOk result (λ fired. Some fired ≡ first (fire_cmp self.old.saliences) self.old.pending) }
+        ensures pending { IfOk result (λ fired. (m : Match) → has_match self.new.pending m ≡ (has_match self.old.pending m && not (eq_by_cmp match_cmp fired m))) }
+        ensures fired { IfOk result (λ fired. (m : Match) → has_match self.new.fired m ≡ (has_match self.old.fired m || eq_by_cmp match_cmp fired m)) }
     {
-        let Agenda {
-            saliences,
-            mut pending,
-            mut fired,
-            mut named,
-        } = self;
         // (the order of its members is known from this call)
-        let _n = pending.len();
-        match pending.pop_first() {
+        let _n = self.pending.len();
+        match self.pending.pop_first() {
             Some(ranked) => {
                 let Ranked { matched, .. } = ranked;
+                lower_all(&mut self.named, matched.row.facts.as_slice());
                 let row = matched.row.copy(alloc)?;
                 let kept = Match {
                     rule: matched.rule,
                     row,
                 };
-                fired.insert(kept)?;
-                lower_all(&mut named, matched.row.facts.as_slice());
-                Ok((
-                    Agenda {
-                        saliences,
-                        pending,
-                        fired,
-                        named,
-                    },
-                    matched,
-                ))
+                self.fired.insert(kept)?;
+                Ok(matched)
             }
             None => Err(NoMemory),
         }
@@ -186,40 +159,28 @@ impl Agenda {
         Ok(matches)
     }
 
-    /// Marks the match of a rule with this row as fired, whether it was pending or not. It costs the logarithm of the matches.
-    pub fn mark(self, rule: RuleId, row: Row) -> Result<Agenda, NoMemory>
-        ensures saliences { IfOk result (λ a. a.saliences ≡ self.saliences) }
-        ensures pending { IfOk result (λ a. (m : Match) → has_match a.pending m ≡ (has_match self.pending m && not (rule.0 == m.rule.0 && eq_by_cmp row_cmp row m.row))) }
-        ensures fired { IfOk result (λ a. (m : Match) → has_match a.fired m ≡ (has_match self.fired m || (rule.0 == m.rule.0 && eq_by_cmp row_cmp row m.row))) }
+    /// Marks the match of a rule with this row as fired, whether it was pending or not. It costs the logarithm of the matches. Where
+    /// memory is refused, nothing is promised of the matches.
+    pub fn mark(&mut self, rule: RuleId, row: Row) -> Result<(), NoMemory>
+        ensures saliences { OnOk result (self.new.saliences ≡ self.old.saliences) }
+        ensures pending { OnOk result ((m : Match) → has_match self.new.pending m ≡ (has_match self.old.pending m && not (rule.0 == m.rule.0 && eq_by_cmp row_cmp row m.row))) }
+        ensures fired { OnOk result ((m : Match) → has_match self.new.fired m ≡ (has_match self.old.fired m || (rule.0 == m.rule.0 && eq_by_cmp row_cmp row m.row))) }
     {
-        let Agenda {
-            saliences,
-            mut pending,
-            mut fired,
-            mut named,
-        } = self;
-        let ranked = Ranked::of(saliences.as_slice(), rule, row);
-        take_ranked(&mut pending, &mut named, &ranked);
+        let ranked = Ranked::of(self.saliences.as_slice(), rule, row);
+        take_ranked(&mut self.pending, &mut self.named, &ranked);
         let Ranked { matched, .. } = ranked;
-        fired.insert(matched)?;
-        Ok(Agenda {
-            saliences,
-            pending,
-            fired,
-            named,
-        })
+        self.fired.insert(matched)?;
+        Ok(())
     }
 
     /// Drops the fired matches of a rule with these rows; pending ones stay. It costs the logarithm of the fired matches for each
     /// row. Takes no memory.
-    pub fn drop_fired(self, rule: RuleId, rows: Vec<Row>) -> Agenda
-        ensures saliences { result.saliences ≡ self.saliences }
-        ensures pending { result.pending ≡ self.pending }
-        ensures fired { (m : Match) → has_match result.fired m ≡ (has_match self.fired m && not (rule.0 == m.rule.0 && has rows.items m.row)) }
+    pub fn drop_fired(&mut self, rule: RuleId, rows: Vec<Row>)
+        ensures saliences { self.new.saliences ≡ self.old.saliences }
+        ensures pending { self.new.pending ≡ self.old.pending }
+        ensures fired { (m : Match) → has_match self.new.fired m ≡ (has_match self.old.fired m && not (rule.0 == m.rule.0 && has rows.items m.row)) }
     {
-        let mut agenda = self;
-        drop_rows(&mut agenda.fired, rule, rows);
-        agenda
+        drop_rows(&mut self.fired, rule, rows);
     }
 
     /// Whether a pending match names this version of a fact. It costs a hash. Takes no memory.

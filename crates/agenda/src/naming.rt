@@ -59,8 +59,8 @@ pub(crate) fn lower_all(named: &mut HashMap<u64, u64>, facts: &[Named])
     }
 }
 
-/// Puts in a match with what it names; where it is there, nothing changes.
-pub(crate) fn put_ranked(
+// Puts in a match with what it names; where it is there, nothing changes.
+fn try_put_ranked(
     pending: &mut BTreeSet<Ranked, Global>,
     named: &mut HashMap<u64, u64>,
     ranked: Ranked,
@@ -75,6 +75,26 @@ pub(crate) fn put_ranked(
     raise_all(named, ranked.matched.row.facts.as_slice())?;
     pending.insert(ranked)?;
     Ok(())
+}
+
+/// Puts in a match with what it names; where it is there, nothing changes. Where memory is refused, no match is left.
+pub(crate) fn put_ranked(
+    pending: &mut BTreeSet<Ranked, Global>,
+    named: &mut HashMap<u64, u64>,
+    ranked: Ranked,
+) -> Result<(), NoMemory>
+    ensures well { (saliences : List ℤ) → AllWell saliences pending.old.keys → Well saliences ranked → AllWell saliences pending.new.keys }
+    ensures updates { OnOk result ((q : Ranked) → list_any (eq_by_cmp rank_cmp q) pending.new.keys ≡ cond (eq_by_cmp rank_cmp ranked q) true (list_any (eq_by_cmp rank_cmp q) pending.old.keys)) }
+    ensures named { CountsNamings named.old.entries pending.old.keys → CountsNamings named.new.entries pending.new.keys }
+{
+    match try_put_ranked(pending, named, ranked) {
+        Ok(()) => Ok(()),
+        Err(refused) => {
+            pending.clear();
+            named.clear();
+            Err(refused)
+        }
+    }
 }
 
 /// Takes out a match with what it names, if it is there.

@@ -77,6 +77,10 @@ pub trait Engine: Sized + Drop {
     fn due(&self) -> bool
         ensures { (w : World) → stands self.now w → result ≡ is_some (fires (made_with self.now) w) };
 
+    /// How many tags the engine has given at most. Takes no memory.
+    fn tags_given(&self) -> u64
+        ensures { result ≡ tags self.now };
+
     /// How many events of each event type are kept: a number for each, in the order of the program's types. The engine stays as it is.
     /// It goes at most once over what is kept and once over the types, and takes memory for numbers of the event types alone.
     fn held(&self, alloc: Global) -> Result<Vec<u64>, NoMemory>
@@ -94,6 +98,12 @@ pub trait Engine: Sized + Drop {
         ensures run { IfOk result (λ image. image.run ≡ run) }
         ensures lawful { (w : World) → stands self w → IsLawful (made_with self) w }
         ensures image { IfOk result (λ image. (w : World) → stands self w → IsImageOf (made_with self) (table self) w image) };
+
+    /// The same image of the engine, which stays as it is: it copies what the engine keeps. Time and memory grow with that.
+    fn image(&self, alloc: Global, run: RunPart) -> Result<Image, NoMemory>
+        ensures run { IfOk result (λ image. image.run ≡ run) }
+        ensures lawful { (w : World) → stands self.now w → IsLawful (made_with self.now) w }
+        ensures image { IfOk result (λ image. (w : World) → stands self.now w → IsImageOf (made_with self.now) (table self.now) w image) };
 
     /// An engine of a program, with a safe table of lives, in each lawful world of which the image is that; it has given the tags below the
     /// image's next one. `Unfit`: exactly where the image does not fit. Program, table and image are given up then.

@@ -1,4 +1,4 @@
-use crate::pending::{after_one, comes};
+use crate::pending::{comes, fire_one};
 use agenda::Agenda;
 use fx_base::{NoMemory, RuleId, Tag};
 use retention::Retention;
@@ -16,15 +16,15 @@ fn hold_all(retention: &mut Retention, tags: &[u64], past_from: i64) -> Result<(
 #[test]
 fn an_event_past_its_life_lingers_while_it_is_named(rt: HostRuntime) -> Result<(), Fail> {
     let alloc = rt.alloc();
-    let agenda = Agenda::new(alloc, &[0])?;
-    let agenda = agenda.change(RuleId(0), comes(alloc, 2)?)?;
+    let mut agenda = Agenda::new(alloc, &[0])?;
+    agenda.change(RuleId(0), comes(alloc, 2)?)?;
     let mut retention = Retention::new(alloc);
     hold_all(&mut retention, &[1, 2], 5)?;
-    let (retention, old) = retention.past(alloc, 5, &[], &agenda)?;
+    let old = retention.past(alloc, 5, &[], &agenda)?;
     assert!(rt; old.contains(&1));
     assert!(rt; !old.contains(&2));
-    let agenda = after_one(alloc, agenda)?;
-    let (_, old) = retention.past(alloc, 5, &[Tag(2)], &agenda)?;
+    fire_one(alloc, &mut agenda)?;
+    let old = retention.past(alloc, 5, &[Tag(2)], &agenda)?;
     assert!(rt; old.contains(&2));
     Ok(())
 }

@@ -33,25 +33,26 @@ fn is_first(agenda: &Agenda, rule: u16) -> bool {
     }
 }
 
-/// The agenda behind the first firing.
-pub(crate) fn after_one(alloc: Global, agenda: Agenda) -> Result<Agenda, NoMemory> {
+/// Fires the match that fires first, if one is pending.
+pub(crate) fn fire_one(alloc: Global, agenda: &mut Agenda) -> Result<(), NoMemory> {
     if agenda.top().is_none() {
-        return Ok(agenda);
+        return Ok(());
     }
-    Ok(agenda.fire_top(alloc)?.0)
+    agenda.fire_top(alloc)?;
+    Ok(())
 }
 
 #[test]
 fn the_greatest_salience_fires_first(rt: HostRuntime) -> Result<(), Fail> {
     let alloc = rt.alloc();
-    let agenda = Agenda::new(alloc, &[0, 5])?;
-    let agenda = agenda.change(RuleId(0), comes(alloc, 2)?)?;
-    let agenda = agenda.change(RuleId(1), comes(alloc, 1)?)?;
+    let mut agenda = Agenda::new(alloc, &[0, 5])?;
+    agenda.change(RuleId(0), comes(alloc, 2)?)?;
+    agenda.change(RuleId(1), comes(alloc, 1)?)?;
     assert!(rt; is_first(&agenda, 1));
-    let agenda = after_one(alloc, agenda)?;
+    fire_one(alloc, &mut agenda)?;
     assert!(rt; was_fired(alloc, &agenda, 1)?);
     assert!(rt; is_first(&agenda, 0));
-    let agenda = after_one(alloc, agenda)?;
+    fire_one(alloc, &mut agenda)?;
     assert!(rt; agenda.top().is_none());
     Ok(())
 }
@@ -59,14 +60,15 @@ fn the_greatest_salience_fires_first(rt: HostRuntime) -> Result<(), Fail> {
 #[test]
 fn a_tag_is_named_while_its_match_is_pending(rt: HostRuntime) -> Result<(), Fail> {
     let alloc = rt.alloc();
-    let agenda = Agenda::new(alloc, &[0])?;
-    let agenda = agenda.change(RuleId(0), comes(alloc, 2)?)?;
+    let mut agenda = Agenda::new(alloc, &[0])?;
+    agenda.change(RuleId(0), comes(alloc, 2)?)?;
     assert!(rt; agenda.names_tag(Tag(2)));
     assert!(rt; !agenda.names_tag(Tag(1)));
-    let agenda = after_one(alloc, agenda)?;
+    fire_one(alloc, &mut agenda)?;
     assert!(rt; !agenda.names_tag(Tag(2)));
     let fired = vec![in alloc; row_of(alloc, 2)?]?;
-    assert!(rt; agenda.drop_fired(RuleId(0), fired).top().is_none());
+    agenda.drop_fired(RuleId(0), fired);
+    assert!(rt; agenda.top().is_none());
     Ok(())
 }
 
@@ -81,10 +83,10 @@ fn was_fired(alloc: Global, agenda: &Agenda, rule: u16) -> Result<bool, NoMemory
 #[test]
 fn a_pending_match_is_marked_as_fired(rt: HostRuntime) -> Result<(), Fail> {
     let alloc = rt.alloc();
-    let agenda = Agenda::new(alloc, &[0])?;
-    let agenda = agenda.change(RuleId(0), comes(alloc, 2)?)?;
+    let mut agenda = Agenda::new(alloc, &[0])?;
+    agenda.change(RuleId(0), comes(alloc, 2)?)?;
     assert!(rt; !was_fired(alloc, &agenda, 0)?);
-    let agenda = agenda.mark(RuleId(0), row_of(alloc, 2)?)?;
+    agenda.mark(RuleId(0), row_of(alloc, 2)?)?;
     assert!(rt; agenda.top().is_none());
     assert!(rt; was_fired(alloc, &agenda, 0)?);
     Ok(())

@@ -55,28 +55,24 @@ impl Retention {
     /// Takes out the events that are past their lives at `now` and that no pending match names, and answers their tags. `left` are
     /// the tags of the matches that have stopped pending since the call before, in any order, also twice. It costs the logarithm of
     /// what is held for each event that is due and each tag of `left`; with neither it looks at the front of the queue, and takes
-    /// no memory.
+    /// no memory. Where memory is refused, nothing is promised of what is held.
     pub fn past(
-        self,
+        &mut self,
         alloc: Global,
         now: Millis,
         left: &[Tag],
         agenda: &Agenda,
-    ) -> Result<(Retention, BTreeSet<u64, Global>), NoMemory>
-        ensures passes { IfOk result (λ r. PassesLives now (is_tag_among left.now) (is_named agenda.now) self r.0 (has_listed_tag r.1.keys)) }
-        ensures in_order { IfOk result (λ r. IsStrictlySortedBy nat_cmp r.1.keys) }
+    ) -> Result<BTreeSet<u64, Global>, NoMemory>
+        ensures passes { IfOk result (λ old. PassesLives now (is_tag_among left.now) (is_named agenda.now) self.old self.new (has_listed_tag old.keys)) }
+        ensures in_order { IfOk result (λ old. IsStrictlySortedBy nat_cmp old.keys) }
     {
-        let Retention {
-            mut due,
-            mut lingering,
-        } = self;
-        let mut touched = due.take_due(now)?;
-        let no_longer_named = those_in(alloc, &lingering, left)?;
+        let mut touched = self.due.take_due(now)?;
+        let no_longer_named = those_in(alloc, &self.lingering, left)?;
         touched.extend_from_slice(&no_longer_named)?;
         let mut old = BTreeSet::new(alloc);
-        settle_all(&mut lingering, &mut old, &touched, agenda)?;
+        settle_all(&mut self.lingering, &mut old, &touched, agenda)?;
         let _count = old.len();
-        Ok((Retention { due, lingering }, old))
+        Ok(old)
     }
 }
 

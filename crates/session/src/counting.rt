@@ -2,7 +2,7 @@ ghost use Rattle.std.specs.Prelude.{◌≡◌, ◌≤◌, ◌^◌, length, IfOk}
 ghost use Rattle.rule_model.specs.Types.{event_types as types_of_events};
 ghost use Rattle.session_laws.specs.Counts.{AreCounts};
 
-use crate::boxed::BoxedFacts;
+use fact_store::FactStore;
 use fx_base::{NoMemory, TypeId};
 use rule_model::TypeInfo;
 use std::alloc::Global;
@@ -24,7 +24,7 @@ pub(crate) fn event_types(alloc: Global, types: &[TypeInfo]) -> Result<Vec<TypeI
 /// For each type how many ids have a fact of it.
 pub(crate) fn counts_of(
     alloc: Global,
-    facts: &BoxedFacts,
+    facts: &FactStore,
     types: &[TypeId],
 ) -> Result<Vec<u64>, NoMemory>
     ensures { IfOk result (λ counts. AreCounts facts.now types.now counts.items) }

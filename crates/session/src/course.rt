@@ -114,39 +114,34 @@ impl Course {
         self.begun
     }
 
-    /// The course behind a new fact: an event moves the last start of its entry point, and begins the world.
-    pub(crate) fn with_new(self, program: &Program, fact: &Fact) -> Result<Course, NoMemory>
-        ensures last_starts { IfOk result (λ next. (entry : ℕ) → moment_in next.last_starts entry ≡ last_start_with program.now fact.now (moment_in self.last_starts) entry) }
-        ensures promises { IfOk result (λ next. next.promises ≡ self.promises) }
-        ensures begun { IfOk result (λ next. next.begun ≡ (self.begun || is_event program.now fact.now.ty.0)) }
+    /// Goes on behind a new fact: an event moves the last start of its entry point, and begins the world.
+    pub(crate) fn take_new(&mut self, program: &Program, fact: &Fact) -> Result<(), NoMemory>
+        ensures last_starts { OnOk result ((entry : ℕ) → moment_in self.new.last_starts entry ≡ last_start_with program.now fact.now (moment_in self.old.last_starts) entry) }
+        ensures promises { OnOk result (self.new.promises ≡ self.old.promises) }
+        ensures begun { OnOk result (self.new.begun ≡ (self.old.begun || is_event program.now fact.now.ty.0)) }
     {
         if !program.is_event(fact.ty) {
-            return Ok(self);
+            return Ok(());
         }
-        let mut course = self;
-        course.last_starts = with_moment(course.last_starts, fact.entry, fact.times.start)?;
-        course.begun = true;
-        Ok(course)
+        set_moment(&mut self.last_starts, fact.entry, fact.times.start)?;
+        self.begun = true;
+        Ok(())
     }
 
-    /// The course behind the promise of an entry point.
-    pub(crate) fn with_promise(self, entry: EntryId, from: Millis) -> Result<Course, NoMemory>
-        ensures promises { IfOk result (λ next. (other : ℕ) → moment_in next.promises other ≡ promise_with entry.0 from (moment_in self.promises) other) }
-        ensures last_starts { IfOk result (λ next. next.last_starts ≡ self.last_starts) }
-        ensures begun { IfOk result (λ next. next.begun ≡ self.begun) }
+    /// Goes on behind the promise of an entry point.
+    pub(crate) fn take_promise(&mut self, entry: EntryId, from: Millis) -> Result<(), NoMemory>
+        ensures promises { OnOk result ((other : ℕ) → moment_in self.new.promises other ≡ promise_with entry.0 from (moment_in self.old.promises) other) }
+        ensures last_starts { OnOk result (self.new.last_starts ≡ self.old.last_starts) }
+        ensures begun { OnOk result (self.new.begun ≡ self.old.begun) }
     {
-        let mut course = self;
-        course.promises = with_moment(course.promises, entry, from)?;
-        Ok(course)
+        set_moment(&mut self.promises, entry, from)
     }
 
-    /// The course of a world that has begun. Takes no memory.
-    pub(crate) fn with_begin(self) -> Course
-        ensures { result ≡ record self { begun = true } }
+    /// The world has begun. Takes no memory.
+    pub(crate) fn take_begin(&mut self)
+        ensures { self.new ≡ record self.old { begun = true } }
     {
-        let mut course = self;
-        course.begun = true;
-        course
+        self.begun = true;
     }
 }
 
@@ -161,19 +156,14 @@ fn padded(alloc: Global, moments: &[Millis], many: usize) -> Result<Vec<Millis>,
     Ok(first)
 }
 
-// These moments with another one at an entry point.
-fn with_moment(
-    moments: Vec<Millis>,
-    entry: EntryId,
-    moment: Millis,
-) -> Result<Vec<Millis>, NoMemory>
-    ensures { IfOk result (λ next. (other : ℕ) → moment_in next.items other ≡ promise_with entry.0 moment (moment_in moments.items) other) }
+// Puts a moment at an entry point.
+fn set_moment(moments: &mut Vec<Millis>, entry: EntryId, moment: Millis) -> Result<(), NoMemory>
+    ensures { OnOk result ((other : ℕ) → moment_in moments.new.items other ≡ promise_with entry.0 moment (moment_in moments.old.items) other) }
 {
-    let mut moments = moments;
     let place = entry.0 as usize;
-    reach(&mut moments, place)?;
+    reach(moments, place)?;
     moments[place] = moment;
-    Ok(moments)
+    Ok(())
 }
 
 // Lengthens moments by zeros until one stands at this place.

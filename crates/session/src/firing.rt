@@ -10,12 +10,12 @@ ghost use Rattle.session_laws.specs.Leading.{AllFit, AllWantKnown, StayKnown};
 ghost use Rattle.session_laws.specs.Standing.{IsSound, Runs, Standing, StaysSound};
 ghost use Rattle.session_laws.specs.Places.{planned_for, planned};
 
-use crate::boxed::BoxedFacts;
 use crate::refreshing::add_names;
 use crate::state::State;
 use crate::steps::Plan;
 use action_eval::{EvalFault, planned_step};
 use engine::{Cell, OutLine};
+use fact_store::FactStore;
 use fx_base::{NoMemory, Seq};
 use row_delta::Row;
 use rule_model::{Action, Condition, Match, Program, Rule, Step};
@@ -28,7 +28,7 @@ fn plan_action(
     alloc: Global,
     action: &Action,
     row: &Row,
-    facts: &BoxedFacts,
+    facts: &FactStore,
 ) -> Result<Result<Step, Code>, NoMemory>
     ensures { IfOk result (λ wanted. wanted ≡ planned_for facts.now row.now action.now) }
 {
@@ -43,7 +43,7 @@ fn plan_actions(
     alloc: Global,
     actions: &[Action],
     row: &Row,
-    facts: &BoxedFacts,
+    facts: &FactStore,
 ) -> Result<Plan, NoMemory>
     ensures { IfOk result (λ plan. plan.items ≡ planned facts.now row.now actions.now) }
 {
@@ -131,49 +131,47 @@ impl State {
 
     /// Marks the match that fires first, and does what is planned.
     pub(crate) fn fire(
-        self,
+        &mut self,
         alloc: Global,
         setting: &Setting,
         memory: &mut Memory,
         plan: Plan,
         lines: &mut Vec<OutLine>,
-    ) -> Result<State, NoMemory>
+    ) -> Result<(), NoMemory>
         requires runs { Runs setting.now }
-        requires low { self.next_tag + length plan.items ≤ 2 ^ 63 }
-        requires pending { 0 < length self.agenda.pending }
-        ensures stands { IfOk result (λ s. (w : World) (m : MatchData) → Standing setting.now memory.old self w → Some m ≡ first (fire_cmp self.agenda.saliences) self.agenda.pending
-            → AllFit setting.now.program w plan.items → Standing setting.now memory.new s (does_all setting.now.program (marked w m) plan.items).1) }
-        ensures lines { OnOk result ((w : World) (m : MatchData) → Standing setting.now memory.old self w → Some m ≡ first (fire_cmp self.agenda.saliences) self.agenda.pending
+        requires low { self.old.next_tag + length plan.items ≤ 2 ^ 63 }
+        requires pending { 0 < length self.old.agenda.pending }
+        ensures stands { OnOk result ((w : World) (m : MatchData) → Standing setting.now memory.old self.old w → Some m ≡ first (fire_cmp self.old.agenda.saliences) self.old.agenda.pending
+            → AllFit setting.now.program w plan.items → Standing setting.now memory.new self.new (does_all setting.now.program (marked w m) plan.items).1) }
+        ensures lines { OnOk result ((w : World) (m : MatchData) → Standing setting.now memory.old self.old w → Some m ≡ first (fire_cmp self.old.agenda.saliences) self.old.agenda.pending
             → AllFit setting.now.program w plan.items → lines.new.items ≡ lines.old.items ++ fire_line setting.now.program m ∷ [] ++ (does_all setting.now.program (marked w m) plan.items).0) }
-        ensures tags { IfOk result (λ s. s.next_tag ≤ self.next_tag + length plan.items) }
-        ensures sound { AllWantKnown setting.now.program plan.items → IfOk result (λ s. StaysSound setting.now.program memory.old self memory.new s) }
-        ensures known { IsSound setting.now.program memory.old self → AllWantKnown setting.now.program plan.items → OnOk result (StayKnown setting.now.program lines.old.items lines.new.items) }
+        ensures tags { OnOk result (self.new.next_tag ≤ self.old.next_tag + length plan.items) }
+        ensures sound { AllWantKnown setting.now.program plan.items → OnOk result (StaysSound setting.now.program memory.old self.old memory.new self.new) }
+        ensures known { IsSound setting.now.program memory.old self.old → AllWantKnown setting.now.program plan.items → OnOk result (StayKnown setting.now.program lines.old.items lines.new.items) }
     {
-        let (state, fired) = self.mark(alloc, setting, memory)?;
+        let fired = self.mark(alloc, setting, memory)?;
         lines.push(line_of(alloc, &setting.program, &fired)?)?;
-        state.apply_all(alloc, setting, memory, plan, lines)
+        self.apply_all(alloc, setting, memory, plan, lines)
     }
 
     // Marks the match that fires first, and forgets what it alone had kept.
     fn mark(
-        self,
+        &mut self,
         alloc: Global,
         setting: &Setting,
         memory: &mut Memory,
-    ) -> Result<(State, Match), NoMemory>
+    ) -> Result<Match, NoMemory>
         requires runs { Runs setting.now }
-        requires pending { 0 < length self.agenda.pending }
-        ensures top { IfOk result (λ r. Some r.1 ≡ first (fire_cmp self.agenda.saliences) self.agenda.pending) }
-        ensures stands { IfOk result (λ r. (w : World) → Standing setting.now memory.old self w → Standing setting.now memory.new r.0 (marked w r.1)) }
-        ensures tags { IfOk result (λ r. r.0.next_tag ≡ self.next_tag) }
-        ensures sound { IfOk result (λ r. StaysSound setting.now.program memory.old self memory.new r.0) }
+        requires pending { 0 < length self.old.agenda.pending }
+        ensures top { IfOk result (λ fired. Some fired ≡ first (fire_cmp self.old.agenda.saliences) self.old.agenda.pending) }
+        ensures stands { IfOk result (λ fired. (w : World) → Standing setting.now memory.old self.old w → Standing setting.now memory.new self.new (marked w fired)) }
+        ensures tags { OnOk result (self.new.next_tag ≡ self.old.next_tag) }
+        ensures sound { OnOk result (StaysSound setting.now.program memory.old self.old memory.new self.new) }
     {
-        let mut state = self;
-        let (agenda, fired) = state.agenda.fire_top(alloc)?;
-        state.agenda = agenda;
+        let fired = self.agenda.fire_top(alloc)?;
         let mut left = Vec::new(alloc);
         add_names(&mut left, fired.row.facts.as_slice())?;
-        let state = state.settled(alloc, setting, memory, left.as_slice())?;
-        Ok((state, fired))
+        self.settle(alloc, setting, memory, left.as_slice())?;
+        Ok(fired)
     }
 }

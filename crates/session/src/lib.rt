@@ -2,7 +2,6 @@
 //! answers the lines of each change and firing. What it answers is the world's, which keeps every fact.
 #![tactic(auto)]
 
-mod boxed;
 mod counting;
 mod course;
 mod firing;

@@ -1,4 +1,4 @@
-ghost use Rattle.std.specs.Prelude.{◌≡◌, ◌+◌, ◌<◌, ◌^◌, ◌≤ℤ◌, ◌+ℤ◌, ◌-ℤ◌, ◌==◌, ◌&&◌, not, ℕ, pos, true, false, None, Some, length, nat_lt, slice_get, is_some, cond, IfOk, OnOk};
+ghost use Rattle.std.specs.Prelude.{◌≡◌, ◌+◌, ◌<◌, ◌^◌, ◌≤ℤ◌, ◌+ℤ◌, ◌-ℤ◌, ◌==◌, ◌&&◌, not, ℕ, pos, true, false, None, Some, length, nat_lt, slice_get, is_some, cond, IfOk, OnOk, OnErr};
 ghost use Rattle.rule_model.specs.Lives.{AreShort, IsShortLife};
 ghost use Rattle.rule_model.specs.declared.step.Step.TheVariants.{Insert, Modify, Retract, At, Promise, Begin};
 ghost use Rattle.rule_model.specs.Candidates.{is_present};
@@ -13,10 +13,10 @@ ghost use Rattle.session_laws.specs.Standing.{Runs, StaysSound};
 ghost use Rattle.session_laws.specs.Waiting.{with_timer, without_timer};
 ghost use Rattle.std.specs.FinMap as map;
 
-use crate::boxed::BoxedFacts;
-use crate::refreshing::{followed, without_all};
+use crate::refreshing::{follow, take_all};
 use crate::state::State;
 use due_queue::DueQueue;
+use fact_store::FactStore;
 use fx_base::{Copies, EntryId, Fact, FactId, Facts, Millis, NoMemory, Seq, Tag, TypeId, Value};
 use retention::Retention;
 use rule_model::{Life, LifeTable, Program};
@@ -57,45 +57,42 @@ fn revised(
     })
 }
 
-/// These facts and one more, whose tag is new.
-pub(crate) fn with_fact(facts: BoxedFacts, fact: Fact) -> Result<BoxedFacts, NoMemory>
-    requires { map.get facts fact.tag.0 ≡ None }
-    ensures { IfOk result (λ more. more ≡ map.insert facts fact.tag.0 fact) }
+/// Holds one fact more, whose tag is new. Where memory is refused, nothing changes.
+pub(crate) fn put_fact(facts: &mut FactStore, fact: Fact) -> Result<(), NoMemory>
+    requires { map.get facts.old fact.tag.0 ≡ None }
+    ensures ok { OnOk result (facts.new ≡ map.insert facts.old fact.tag.0 fact) }
+    ensures err { OnErr result (facts.new ≡ facts.old) }
 {
-    let mut facts = facts;
-    facts.put(fact)?;
-    Ok(facts)
-}
-
-/// These timers and that of a fact, if it expires; its tag is new.
-pub(crate) fn timed(
-    expiries: DueQueue,
-    program: &Program,
-    fact: &Fact,
-) -> Result<DueQueue, NoMemory>
-    requires runnable { IsRunnable program.now }
-    requires low { (pos 0 -ℤ most_millis) ≤ℤ fact.now.times.start }
-    requires high { fact.now.times.start ≤ℤ most_millis }
-    requires fresh { map.get expiries fact.now.tag.0 ≡ None }
-    ensures { IfOk result (λ more. more ≡ with_timer expiries fact.now.tag.0 (end_of_presence program.now fact.now.ty.0 fact.now.times.start)) }
-{
-    let mut expiries = expiries;
-    match presence_end(program, fact.ty, fact.times.start) {
-        Some(moment) => {
-            expiries.put(moment, fact.tag.0)?;
-            Ok(expiries)
-        }
-        None => Ok(expiries),
+    match facts.put(fact) {
+        Ok(()) => Ok(()),
+        Err((_, refused)) => Err(refused),
     }
 }
 
-// These timers without that of a tag, if it has one.
-fn untimed(expiries: DueQueue, tag: Tag) -> DueQueue
-    ensures { (other : ℕ) → map.get result other ≡ without_timer expiries tag.0 other }
+/// Lets a fact wait for its end, if it expires; its tag is new. Where memory is refused, nothing changes.
+pub(crate) fn put_timer(
+    expiries: &mut DueQueue,
+    program: &Program,
+    fact: &Fact,
+) -> Result<(), NoMemory>
+    requires runnable { IsRunnable program.now }
+    requires low { (pos 0 -ℤ most_millis) ≤ℤ fact.now.times.start }
+    requires high { fact.now.times.start ≤ℤ most_millis }
+    requires fresh { map.get expiries.old fact.now.tag.0 ≡ None }
+    ensures ok { OnOk result (expiries.new ≡ with_timer expiries.old fact.now.tag.0 (end_of_presence program.now fact.now.ty.0 fact.now.times.start)) }
+    ensures err { OnErr result (expiries.new ≡ expiries.old) }
 {
-    let mut expiries = expiries;
+    match presence_end(program, fact.ty, fact.times.start) {
+        Some(moment) => expiries.put(moment, fact.tag.0),
+        None => Ok(()),
+    }
+}
+
+// Takes out the timer of a tag, if it has one.
+fn take_timer(expiries: &mut DueQueue, tag: Tag)
+    ensures { (other : ℕ) → map.get expiries.new other ≡ without_timer expiries.old tag.0 other }
+{
     expiries.cancel(tag.0);
-    expiries
 }
 
 // The first moment at which an event of this end is past a finite life.
@@ -158,304 +155,283 @@ pub(crate) fn hold(
 
 // What steps without a fault move, and then what is old is forgotten.
 impl State {
-    /// The state with one fact more, which has the next numbers. Of an event that is not present any more the numbers and the start
-    /// stay alone.
-    pub(crate) fn with_new(
-        self,
+    /// Takes in a fact, which has the next numbers. Of an event that is not present any more the numbers and the start stay alone.
+    pub(crate) fn take_new(
+        &mut self,
         alloc: Global,
         setting: &Setting,
         memory: &mut Memory,
         fact: Fact,
-    ) -> Result<State, NoMemory>
+    ) -> Result<(), NoMemory>
         requires runs { Runs setting.now }
-        requires low { self.next_tag < 2 ^ 63 }
-        requires id { fact.id.0 ≡ self.next_id }
-        requires tag { fact.tag.0 ≡ self.next_tag }
-        requires times { fact.times ≡ times_of (slice_get setting.now.program.types fact.ty.0) self.clock fact.fields }
+        requires low { self.old.next_tag < 2 ^ 63 }
+        requires id { fact.id.0 ≡ self.old.next_id }
+        requires tag { fact.tag.0 ≡ self.old.next_tag }
+        requires times { fact.times ≡ times_of (slice_get setting.now.program.types fact.ty.0) self.old.clock fact.fields }
         requires start_low { (pos 0 -ℤ most_millis) ≤ℤ fact.times.start }
         requires start_high { fact.times.start ≤ℤ most_millis }
         requires end_low { (pos 0 -ℤ most_millis) ≤ℤ fact.times.end }
         requires end_high { fact.times.end ≤ℤ (most_millis +ℤ most_millis) }
-        ensures stands { IfOk result (λ s. MovesSession setting.now memory.old self (Insert fact.ty fact.entry fact.fields) memory.new s) }
-        ensures tags { IfOk result (λ s. s.next_tag ≡ self.next_tag + 1) }
-        ensures sound { nat_lt fact.entry.0 (length setting.now.program.entries) ≡ true → IfOk result (λ s. StaysSound setting.now.program memory.old self memory.new s) }
+        ensures stands { OnOk result (MovesSession setting.now memory.old self.old (Insert fact.ty fact.entry fact.fields) memory.new self.new) }
+        ensures tags { OnOk result (self.new.next_tag ≡ self.old.next_tag + 1) }
+        ensures sound { nat_lt fact.entry.0 (length setting.now.program.entries) ≡ true → OnOk result (StaysSound setting.now.program memory.old self.old memory.new self.new) }
     {
         if setting.program.is_present(self.clock, &fact) {
-            self.with_present(alloc, setting, memory, fact)
+            self.take_present(alloc, setting, memory, fact)
         } else {
-            self.with_numbers(alloc, setting, memory, &fact)
+            self.take_numbers(alloc, setting, memory, &fact)
         }
     }
 
     // The same with a fact that is present.
-    fn with_present(
-        self,
+    fn take_present(
+        &mut self,
         alloc: Global,
         setting: &Setting,
         memory: &mut Memory,
         fact: Fact,
-    ) -> Result<State, NoMemory>
+    ) -> Result<(), NoMemory>
         requires runs { Runs setting.now }
-        requires low { self.next_tag < 2 ^ 63 }
-        requires id { fact.id.0 ≡ self.next_id }
-        requires tag { fact.tag.0 ≡ self.next_tag }
-        requires times { fact.times ≡ times_of (slice_get setting.now.program.types fact.ty.0) self.clock fact.fields }
+        requires low { self.old.next_tag < 2 ^ 63 }
+        requires id { fact.id.0 ≡ self.old.next_id }
+        requires tag { fact.tag.0 ≡ self.old.next_tag }
+        requires times { fact.times ≡ times_of (slice_get setting.now.program.types fact.ty.0) self.old.clock fact.fields }
         requires start_low { (pos 0 -ℤ most_millis) ≤ℤ fact.times.start }
         requires start_high { fact.times.start ≤ℤ most_millis }
         requires end_low { (pos 0 -ℤ most_millis) ≤ℤ fact.times.end }
         requires end_high { fact.times.end ≤ℤ (most_millis +ℤ most_millis) }
-        requires present { is_present setting.now.program self.clock fact ≡ true }
-        ensures stands { IfOk result (λ s. MovesSession setting.now memory.old self (Insert fact.ty fact.entry fact.fields) memory.new s) }
-        ensures tags { IfOk result (λ s. s.next_tag ≡ self.next_tag + 1) }
-        ensures sound { nat_lt fact.entry.0 (length setting.now.program.entries) ≡ true → IfOk result (λ s. StaysSound setting.now.program memory.old self memory.new s) }
+        requires present { is_present setting.now.program self.old.clock fact ≡ true }
+        ensures stands { OnOk result (MovesSession setting.now memory.old self.old (Insert fact.ty fact.entry fact.fields) memory.new self.new) }
+        ensures tags { OnOk result (self.new.next_tag ≡ self.old.next_tag + 1) }
+        ensures sound { nat_lt fact.entry.0 (length setting.now.program.entries) ≡ true → OnOk result (StaysSound setting.now.program memory.old self.old memory.new self.new) }
     {
-        let mut state = self;
         let tag = fact.tag;
         let program = &setting.program;
-        state.course = state.course.with_new(program, &fact)?;
-        state.expiries = timed(state.expiries, program, &fact)?;
+        self.next_id += 1;
+        self.next_tag += 1;
+        self.course.take_new(program, &fact)?;
         hold(&mut memory.retention, tag, life_end(&setting.lives, &fact))?;
-        state.facts = with_fact(state.facts, fact)?;
-        let agenda = state.agenda;
-        let moment = state.course.moment(state.clock);
-        let (agenda, left) = followed(
+        put_timer(&mut self.expiries, program, &fact)?;
+        put_fact(&mut self.facts, fact)?;
+        let moment = self.course.moment(self.clock);
+        let left = follow(
             alloc,
             program,
             &mut memory.net,
-            agenda,
-            &state.facts,
+            &mut self.agenda,
+            &self.facts,
             &[],
-            state.facts.fact(tag),
+            self.facts.fact(tag),
             &moment,
         )?;
-        state.agenda = agenda;
-        state.next_id += 1;
-        state.next_tag += 1;
-        state.settled(alloc, setting, memory, left.as_slice())
+        self.settle(alloc, setting, memory, left.as_slice())
     }
 
     // The same with an event that is not present any more. Its start may end the waiting of a `not`.
-    fn with_numbers(
-        self,
+    fn take_numbers(
+        &mut self,
         alloc: Global,
         setting: &Setting,
         memory: &mut Memory,
         fact: &Fact,
-    ) -> Result<State, NoMemory>
+    ) -> Result<(), NoMemory>
         requires runs { Runs setting.now }
-        requires low { self.next_tag < 2 ^ 63 }
-        requires id { fact.now.id.0 ≡ self.next_id }
-        requires tag { fact.now.tag.0 ≡ self.next_tag }
-        requires times { fact.now.times ≡ times_of (slice_get setting.now.program.types fact.now.ty.0) self.clock fact.now.fields }
-        requires absent { is_present setting.now.program self.clock fact.now ≡ false }
-        ensures stands { IfOk result (λ s. MovesSession setting.now memory.old self (Insert fact.now.ty fact.now.entry fact.now.fields) memory.new s) }
-        ensures tags { IfOk result (λ s. s.next_tag ≡ self.next_tag + 1) }
-        ensures sound { nat_lt fact.now.entry.0 (length setting.now.program.entries) ≡ true → IfOk result (λ s. StaysSound setting.now.program memory.old self memory.new s) }
+        requires low { self.old.next_tag < 2 ^ 63 }
+        requires id { fact.now.id.0 ≡ self.old.next_id }
+        requires tag { fact.now.tag.0 ≡ self.old.next_tag }
+        requires times { fact.now.times ≡ times_of (slice_get setting.now.program.types fact.now.ty.0) self.old.clock fact.now.fields }
+        requires absent { is_present setting.now.program self.old.clock fact.now ≡ false }
+        ensures stands { OnOk result (MovesSession setting.now memory.old self.old (Insert fact.now.ty fact.now.entry fact.now.fields) memory.new self.new) }
+        ensures tags { OnOk result (self.new.next_tag ≡ self.old.next_tag + 1) }
+        ensures sound { nat_lt fact.now.entry.0 (length setting.now.program.entries) ≡ true → OnOk result (StaysSound setting.now.program memory.old self.old memory.new self.new) }
     {
-        let mut state = self;
-        state.course = state.course.with_new(&setting.program, fact)?;
-        let agenda = state.agenda;
-        let moment = state.course.moment(state.clock);
-        let (agenda, left) = followed(
+        self.next_id += 1;
+        self.next_tag += 1;
+        self.course.take_new(&setting.program, fact)?;
+        let moment = self.course.moment(self.clock);
+        let left = follow(
             alloc,
             &setting.program,
             &mut memory.net,
-            agenda,
-            &state.facts,
+            &mut self.agenda,
+            &self.facts,
             &[],
             None,
             &moment,
         )?;
-        state.agenda = agenda;
-        state.next_id += 1;
-        state.next_tag += 1;
-        state.settled(alloc, setting, memory, left.as_slice())
+        self.settle(alloc, setting, memory, left.as_slice())
     }
 
-    /// The state with a modification of the plain fact of the id, which has this tag and is there.
-    pub(crate) fn with_sets(
-        self,
+    /// Modifies the plain fact of the id, which has this tag and is there.
+    pub(crate) fn take_sets(
+        &mut self,
         alloc: Global,
         setting: &Setting,
         memory: &mut Memory,
         id: FactId,
         tag: Tag,
         sets: Seq<(usize, Value)>,
-    ) -> Result<State, NoMemory>
+    ) -> Result<(), NoMemory>
         requires runs { Runs setting.now }
-        requires low { self.next_tag < 2 ^ 63 }
-        requires tag { IsNewestTag self.facts id.0 tag }
-        requires plain { modify_fault setting.now.program (newest self id.0) ≡ None }
-        ensures stands { IfOk result (λ s. MovesSession setting.now memory.old self (Modify id sets) memory.new s) }
-        ensures tags { IfOk result (λ s. s.next_tag ≡ self.next_tag + 1) }
-        ensures sound { IfOk result (λ s. StaysSound setting.now.program memory.old self memory.new s) }
+        requires low { self.old.next_tag < 2 ^ 63 }
+        requires tag { IsNewestTag self.old.facts id.0 tag }
+        requires plain { modify_fault setting.now.program (newest self.old id.0) ≡ None }
+        ensures stands { OnOk result (MovesSession setting.now memory.old self.old (Modify id sets) memory.new self.new) }
+        ensures tags { OnOk result (self.new.next_tag ≡ self.old.next_tag + 1) }
+        ensures sound { OnOk result (StaysSound setting.now.program memory.old self.old memory.new self.new) }
     {
-        let mut state = self;
-        let next = Tag(state.next_tag);
-        let before = state.facts.fact(tag).unwrap();
+        let next = Tag(self.next_tag);
+        let before = self.facts.fact(tag).unwrap();
         let after = revised(alloc, before, sets, next)?;
-        state.facts = with_fact(state.facts, after)?;
-        let agenda = state.agenda;
-        let moment = state.course.moment(state.clock);
-        let (agenda, left) = followed(
+        self.next_tag += 1;
+        put_fact(&mut self.facts, after)?;
+        let moment = self.course.moment(self.clock);
+        let left = follow(
             alloc,
             &setting.program,
             &mut memory.net,
-            agenda,
-            &state.facts,
+            &mut self.agenda,
+            &self.facts,
             &[tag.0],
-            state.facts.fact(next),
+            self.facts.fact(next),
             &moment,
         )?;
-        state.agenda = agenda;
-        state.facts.take(tag);
-        state.next_tag += 1;
-        state.settled(alloc, setting, memory, left.as_slice())
+        self.facts.take(tag);
+        self.settle(alloc, setting, memory, left.as_slice())
     }
 
-    /// The state without the fact of the type and the id, which has this tag and is there.
-    pub(crate) fn without(
-        self,
+    /// Takes away the fact of the type and the id, which has this tag and is there.
+    pub(crate) fn take_away(
+        &mut self,
         alloc: Global,
         setting: &Setting,
         memory: &mut Memory,
         ty: TypeId,
         id: FactId,
         tag: Tag,
-    ) -> Result<State, NoMemory>
+    ) -> Result<(), NoMemory>
         requires runs { Runs setting.now }
-        requires tag { IsNewestTag self.facts id.0 tag }
-        requires of_type { is_of_type ty.0 (newest self id.0) ≡ true }
-        ensures stands { IfOk result (λ s. MovesSession setting.now memory.old self (Retract ty id) memory.new s) }
-        ensures tags { IfOk result (λ s. s.next_tag ≡ self.next_tag) }
-        ensures sound { IfOk result (λ s. StaysSound setting.now.program memory.old self memory.new s) }
+        requires tag { IsNewestTag self.old.facts id.0 tag }
+        requires of_type { is_of_type ty.0 (newest self.old id.0) ≡ true }
+        ensures stands { OnOk result (MovesSession setting.now memory.old self.old (Retract ty id) memory.new self.new) }
+        ensures tags { OnOk result (self.new.next_tag ≡ self.old.next_tag) }
+        ensures sound { OnOk result (StaysSound setting.now.program memory.old self.old memory.new self.new) }
     {
-        let mut state = self;
-        let agenda = state.agenda;
-        let moment = state.course.moment(state.clock);
-        let (agenda, left) = followed(
+        let moment = self.course.moment(self.clock);
+        let left = follow(
             alloc,
             &setting.program,
             &mut memory.net,
-            agenda,
-            &state.facts,
+            &mut self.agenda,
+            &self.facts,
             &[tag.0],
             None,
             &moment,
         )?;
-        state.agenda = agenda;
-        state.facts.take(tag);
-        state.expiries = untimed(state.expiries, tag);
+        self.facts.take(tag);
+        take_timer(&mut self.expiries, tag);
         memory.retention.release(tag);
-        state.settled(alloc, setting, memory, left.as_slice())
+        self.settle(alloc, setting, memory, left.as_slice())
     }
 
-    /// The state without the event of the type and the id, which it does not have: none is there, or it is forgotten.
-    pub(crate) fn without_forgotten(
-        self,
+    /// Takes away the event of the type and the id, which is not held: none is there, or it is forgotten.
+    pub(crate) fn take_away_forgotten(
+        &mut self,
         alloc: Global,
         setting: &Setting,
         memory: &mut Memory,
         ty: TypeId,
         id: FactId,
-    ) -> Result<State, NoMemory>
+    ) -> Result<(), NoMemory>
         requires runs { Runs setting.now }
-        requires absent { is_of_type ty.0 (newest self id.0) ≡ false }
-        ensures stands { IfOk result (λ s. MovesSession setting.now memory.old self (Retract ty id) memory.new s) }
-        ensures tags { IfOk result (λ s. s.next_tag ≡ self.next_tag) }
-        ensures sound { IfOk result (λ s. StaysSound setting.now.program memory.old self memory.new s) }
+        requires absent { is_of_type ty.0 (newest self.old id.0) ≡ false }
+        ensures stands { OnOk result (MovesSession setting.now memory.old self.old (Retract ty id) memory.new self.new) }
+        ensures tags { OnOk result (self.new.next_tag ≡ self.old.next_tag) }
+        ensures sound { OnOk result (StaysSound setting.now.program memory.old self.old memory.new self.new) }
     {
-        self.settled(alloc, setting, memory, &[])
+        self.settle(alloc, setting, memory, &[])
     }
 
-    /// The state where an entry point has promised a moment. It costs a look at each node, and of a row that waits no longer what the
-    /// network says.
-    pub(crate) fn with_promise(
-        self,
+    /// An entry point promises a moment. It costs a look at each node, and of a row that waits no longer what the network says.
+    pub(crate) fn take_promise(
+        &mut self,
         alloc: Global,
         setting: &Setting,
         memory: &mut Memory,
         entry: EntryId,
         from: Millis,
-    ) -> Result<State, NoMemory>
+    ) -> Result<(), NoMemory>
         requires runs { Runs setting.now }
-        ensures stands { IfOk result (λ s. MovesSession setting.now memory.old self (Promise entry from) memory.new s) }
-        ensures tags { IfOk result (λ s. s.next_tag ≡ self.next_tag) }
-        ensures sound { nat_lt entry.0 (length setting.now.program.entries) ≡ true → IfOk result (λ s. StaysSound setting.now.program memory.old self memory.new s) }
+        ensures stands { OnOk result (MovesSession setting.now memory.old self.old (Promise entry from) memory.new self.new) }
+        ensures tags { OnOk result (self.new.next_tag ≡ self.old.next_tag) }
+        ensures sound { nat_lt entry.0 (length setting.now.program.entries) ≡ true → OnOk result (StaysSound setting.now.program memory.old self.old memory.new self.new) }
     {
-        let mut state = self;
-        state.course = state.course.with_promise(entry, from)?;
-        let agenda = state.agenda;
-        let moment = state.course.moment(state.clock);
-        let (agenda, left) = followed(
+        self.course.take_promise(entry, from)?;
+        let moment = self.course.moment(self.clock);
+        let left = follow(
             alloc,
             &setting.program,
             &mut memory.net,
-            agenda,
-            &state.facts,
+            &mut self.agenda,
+            &self.facts,
             &[],
             None,
             &moment,
         )?;
-        state.agenda = agenda;
-        state.settled(alloc, setting, memory, left.as_slice())
+        self.settle(alloc, setting, memory, left.as_slice())
     }
 
-    /// The state of a world that has begun. No row asks for that, so the network is not asked.
-    pub(crate) fn with_begin(
-        self,
+    /// The world begins. No row asks for that, so the network is not asked.
+    pub(crate) fn take_begin(
+        &mut self,
         alloc: Global,
         setting: &Setting,
         memory: &mut Memory,
-    ) -> Result<State, NoMemory>
+    ) -> Result<(), NoMemory>
         requires runs { Runs setting.now }
-        ensures stands { IfOk result (λ s. MovesSession setting.now memory.old self Begin memory.new s) }
-        ensures tags { IfOk result (λ s. s.next_tag ≡ self.next_tag) }
-        ensures sound { IfOk result (λ s. StaysSound setting.now.program memory.old self memory.new s) }
+        ensures stands { OnOk result (MovesSession setting.now memory.old self.old Begin memory.new self.new) }
+        ensures tags { OnOk result (self.new.next_tag ≡ self.old.next_tag) }
+        ensures sound { OnOk result (StaysSound setting.now.program memory.old self.old memory.new self.new) }
     {
-        let mut state = self;
-        state.course = state.course.with_begin();
-        state.settled(alloc, setting, memory, &[])
+        self.course.take_begin();
+        self.settle(alloc, setting, memory, &[])
     }
 
-    /// The state at a later clock, without the events that are not present any more. Where nothing is due it costs a look at the
-    /// queue of expiries, one at the network's least moment and one at the ends of lives.
-    pub(crate) fn with_clock(
-        self,
+    /// Moves the clock, and takes away the events that are not present any more. Where nothing is due it costs a look at the queue of
+    /// expiries, one at the network's least moment and one at the ends of lives.
+    pub(crate) fn take_clock(
+        &mut self,
         alloc: Global,
         setting: &Setting,
         memory: &mut Memory,
         clock: Millis,
-    ) -> Result<State, NoMemory>
+    ) -> Result<(), NoMemory>
         requires runs { Runs setting.now }
         requires low { pos 0 ≤ℤ clock }
         requires high { clock ≤ℤ most_millis }
-        requires later { self.clock ≤ℤ clock }
-        ensures stands { IfOk result (λ s. MovesSession setting.now memory.old self (At clock) memory.new s) }
-        ensures tags { IfOk result (λ s. s.next_tag ≡ self.next_tag) }
-        ensures sound { IfOk result (λ s. StaysSound setting.now.program memory.old self memory.new s) }
+        requires later { self.old.clock ≤ℤ clock }
+        ensures stands { OnOk result (MovesSession setting.now memory.old self.old (At clock) memory.new self.new) }
+        ensures tags { OnOk result (self.new.next_tag ≡ self.old.next_tag) }
+        ensures sound { OnOk result (StaysSound setting.now.program memory.old self.old memory.new self.new) }
     {
-        let mut state = self;
-        let due = state.expiries.take_due(clock)?;
+        let due = self.expiries.take_due(clock)?;
         if due.is_empty() && memory.net.is_quiet(clock) {
-            state.clock = clock;
-            return state.settled(alloc, setting, memory, &[]);
+            self.clock = clock;
+            return self.settle(alloc, setting, memory, &[]);
         }
-        let agenda = state.agenda;
-        let moment = state.course.moment(clock);
-        let (agenda, left) = followed(
+        let moment = self.course.moment(clock);
+        let left = follow(
             alloc,
             &setting.program,
             &mut memory.net,
-            agenda,
-            &state.facts,
+            &mut self.agenda,
+            &self.facts,
             due.as_slice(),
             None,
             &moment,
         )?;
-        state.agenda = agenda;
-        state.facts = without_all(state.facts, due);
-        state.clock = clock;
-        state.settled(alloc, setting, memory, left.as_slice())
+        take_all(&mut self.facts, due);
+        self.clock = clock;
+        self.settle(alloc, setting, memory, left.as_slice())
     }
 }

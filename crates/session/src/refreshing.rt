@@ -19,8 +19,8 @@ ghost use Rattle.session_laws.specs.Refreshed.{IsRefreshed};
 ghost use Rattle.session_laws.specs.Waiting.{fact_left_at};
 ghost use Rattle.std.specs.FinMap as map;
 
-use crate::boxed::{BoxedAgenda, BoxedFacts};
 use agenda::Agenda;
+use fact_store::FactStore;
 use fx_base::{Fact, Facts, NoMemory, Tag};
 use rete_net::{Rete, RuleChange};
 use row_delta::{Named, Row};
@@ -47,51 +47,30 @@ fn add_rows(tags: &mut Vec<Tag>, rows: &[Row]) -> Result<(), NoMemory>
     Ok(())
 }
 
-/// The agenda after these changes of the rows of rules, and the tags that the rows which go name: among them are those of the matches
-/// that have stopped pending.
-pub(crate) fn refreshed(
+/// Takes these changes of the rows of rules into the agenda, and answers the tags that the rows which go name: among them are those of
+/// the matches that have stopped pending.
+pub(crate) fn refresh(
     alloc: Global,
-    agenda: Agenda,
+    agenda: &mut Agenda,
     changes: Vec<RuleChange>,
-) -> Result<(Agenda, Vec<Tag>), NoMemory>
-    ensures agenda { (p : ProgramData) (old new : RuleData → List RowData) → AreBetween p old new changes.items → IfOk result (λ r. IsRefreshed p.rules old new agenda r.0) }
-    ensures left { IfOk result (λ r. HasLeft agenda r.0 (is_tag_among r.1.items)) }
-    ensures rules { (rules : ℕ) → ((c : RuleChangeData) → In c changes.items → c.rule.0 < rules) → AreOfRules rules agenda.pending → IfOk result (λ r. AreOfRules rules r.0.pending) }
+) -> Result<Vec<Tag>, NoMemory>
+    ensures agenda { (p : ProgramData) (old new : RuleData → List RowData) → AreBetween p old new changes.items → OnOk result (IsRefreshed p.rules old new agenda.old agenda.new) }
+    ensures left { IfOk result (λ left. HasLeft agenda.old agenda.new (is_tag_among left.items)) }
+    ensures rules { (rules : ℕ) → ((c : RuleChangeData) → In c changes.items → c.rule.0 < rules) → AreOfRules rules agenda.old.pending → OnOk result (AreOfRules rules agenda.new.pending) }
 {
-    let mut agenda = agenda;
     let mut left = Vec::new(alloc);
     for change in changes {
         let RuleChange { rule, delta } = change;
         add_rows(&mut left, delta.gone.as_slice())?;
-        agenda = agenda.change(rule, delta)?;
+        agenda.change(rule, delta)?;
     }
-    Ok((agenda, left))
-}
-
-impl BoxedAgenda {
-    // The same with an agenda in its box, where it stays if nothing changes.
-    fn refreshed(
-        self,
-        alloc: Global,
-        changes: Vec<RuleChange>,
-    ) -> Result<(BoxedAgenda, Vec<Tag>), NoMemory>
-        ensures agenda { (p : ProgramData) (old new : RuleData → List RowData) → AreBetween p old new changes.items → IfOk result (λ r. IsRefreshed p.rules old new self r.0) }
-        ensures left { IfOk result (λ r. HasLeft self r.0 (is_tag_among r.1.items)) }
-        ensures rules { (rules : ℕ) → ((c : RuleChangeData) → In c changes.items → c.rule.0 < rules) → AreOfRules rules self.pending → IfOk result (λ r. AreOfRules rules r.0.pending) }
-    {
-        if changes.is_empty() {
-            return Ok((self, Vec::new(alloc)));
-        }
-        let (agenda, room) = self.taken_out(alloc)?;
-        let (agenda, left) = refreshed(alloc, agenda, changes)?;
-        Ok((BoxedAgenda::put_back(room, agenda), left))
-    }
+    Ok(left)
 }
 
 // Those of the facts that have these tags, in the order of these.
 fn facts_at<'s>(
     alloc: Global,
-    facts: &'s BoxedFacts,
+    facts: &'s FactStore,
     tags: &[u64],
 ) -> Result<Vec<&'s Fact>, NoMemory>
     ensures { IfOk result (λ found. lent found.items ≡ filter_map (map.get facts.now) tags.now) }
@@ -105,40 +84,38 @@ fn facts_at<'s>(
     Ok(found)
 }
 
-/// The agenda after the network has taken the facts of these tags that go, the fact that comes, if one does, and the moment; and the
-/// tags that the rows which go name. The facts have those that go and the one that comes.
-pub(crate) fn followed(
+/// The network takes the facts of these tags that go, the fact that comes, if one does, and the moment, and the agenda what changes by
+/// that. It answers the tags that the rows which go name. The facts have those that go and the one that comes.
+pub(crate) fn follow(
     alloc: Global,
     program: &Program,
     net: &mut Rete,
-    agenda: BoxedAgenda,
-    facts: &BoxedFacts,
+    agenda: &mut Agenda,
+    facts: &FactStore,
     gone: &[u64],
     come: Option<&Fact>,
     moment: &Moment,
-) -> Result<(BoxedAgenda, Vec<Tag>), NoMemory>
+) -> Result<Vec<Tag>, NoMemory>
     requires { IsRunnable program.now }
     ensures net { (before behind all : HeldFacts) (from : Instant) (forgotten : NamedData → Bool) → LeadsOn program.now before from behind (instant_at moment.now) all gone.now (option_map (λ f. f.now) come.entry) forgotten facts.now
         → NetStands program.now net.old (facts_at before from) forgotten → OnOk result (NetStands program.now net.new (facts_at behind (instant_at moment.now)) forgotten) }
     ensures agenda { (before behind all : HeldFacts) (from : Instant) (forgotten : NamedData → Bool) → LeadsOn program.now before from behind (instant_at moment.now) all gone.now (option_map (λ f. f.now) come.entry) forgotten facts.now
         → NetStands program.now net.old (facts_at before from) forgotten
-        → IfOk result (λ r. IsRefreshed program.now.rules (clean_rows program.now (facts_at before from) forgotten) (clean_rows program.now (facts_at behind (instant_at moment.now)) forgotten) agenda r.0) }
-    ensures left { IfOk result (λ r. HasLeft agenda r.0 (is_tag_among r.1.items)) }
+        → OnOk result (IsRefreshed program.now.rules (clean_rows program.now (facts_at before from) forgotten) (clean_rows program.now (facts_at behind (instant_at moment.now)) forgotten) agenda.old agenda.new) }
+    ensures left { IfOk result (λ left. HasLeft agenda.old agenda.new (is_tag_among left.items)) }
     ensures shape { (p : ProgramData) → IsNetOf p net.old.nodes.items net.old.ends.items → OnOk result (IsNetOf p net.new.nodes.items net.new.ends.items) }
-    ensures rules { length net.old.ends.items < 2 ^ 16 → AreOfRules (length net.old.ends.items) agenda.pending → IfOk result (λ r. AreOfRules (length net.old.ends.items) r.0.pending) }
+    ensures rules { length net.old.ends.items < 2 ^ 16 → AreOfRules (length net.old.ends.items) agenda.old.pending → OnOk result (AreOfRules (length net.old.ends.items) agenda.new.pending) }
 {
     let gone = facts_at(alloc, facts, gone)?;
     let changes = net.advance(alloc, program, gone.as_slice(), come, moment, facts)?;
-    agenda.refreshed(alloc, changes)
+    refresh(alloc, agenda, changes)
 }
 
-/// The facts without those of these tags.
-pub(crate) fn without_all(facts: BoxedFacts, tags: Vec<u64>) -> BoxedFacts
-    ensures { (tag : ℕ) → map.get result tag ≡ fact_left_at facts tags.items tag }
+/// Takes out the facts of these tags. Takes no memory.
+pub(crate) fn take_all(facts: &mut FactStore, tags: Vec<u64>)
+    ensures { (tag : ℕ) → map.get facts.new tag ≡ fact_left_at facts.old tags.items tag }
 {
-    let mut facts = facts;
     for tag in tags {
         facts.take(Tag(tag));
     }
-    facts
 }

@@ -11,13 +11,13 @@ ghost use Rattle.retention.specs.Retentions.{lingers};
 ghost use Rattle.session_laws.specs.Restoring.{stored, AreHeld, HasTimes, AreStorable, comes_by, NoneGo, AreMarked, AreMarking};
 ghost use Rattle.session_laws.specs.Standing.{Runs};
 
-use crate::boxed::BoxedFacts;
-use crate::moving::{hold, life_end, timed, with_fact};
+use crate::moving::{hold, life_end, put_fact, put_timer};
 use crate::session::saliences_of;
 use agenda::Agenda;
 use checkpoint::FiredMatch;
 use due_queue::DueQueue;
 use engine::ResumeFault;
+use fact_store::FactStore;
 use fx_base::{Copies, Fact, NoMemory, RuleId};
 use rete_net::RuleChange;
 use retention::Retention;
@@ -30,48 +30,42 @@ use std::collections::BTreeSet;
 /// Facts by their tags, the moments at which they expire, and those at which their lives end.
 #[derive(Drop)]
 pub(crate) struct Restored {
-    pub(crate) facts: BoxedFacts,
+    pub(crate) facts: FactStore,
     pub(crate) expiries: DueQueue,
     pub(crate) retention: Retention,
 }
 
 impl Restored {
     // No facts.
-    fn new(alloc: Global) -> Result<Restored, NoMemory>
-        ensures facts { IfOk result (λ r. r.facts ≡ map.empty) }
-        ensures expiries { IfOk result (λ r. r.expiries ≡ map.empty) }
-        ensures due { IfOk result (λ r. r.retention.due ≡ map.empty) }
-        ensures lingering { IfOk result (λ r. (tag : ℕ) → lingers r.retention tag ≡ false) }
+    fn new(alloc: Global) -> Restored
+        ensures facts { result.facts ≡ map.empty }
+        ensures expiries { result.expiries ≡ map.empty }
+        ensures due { result.retention.due ≡ map.empty }
+        ensures lingering { (tag : ℕ) → lingers result.retention tag ≡ false }
     {
-        Ok(Restored {
-            facts: BoxedFacts::new(alloc)?,
+        Restored {
+            facts: FactStore::new(alloc),
             expiries: DueQueue::new(alloc),
             retention: Retention::new(alloc),
-        })
+        }
     }
 
-    // The same with a fact, whose tag is new.
-    fn with(self, setting: &Setting, fact: Fact) -> Result<Restored, NoMemory>
+    // Takes in a fact, whose tag is new.
+    fn put(&mut self, setting: &Setting, fact: Fact) -> Result<(), NoMemory>
         requires runs { Runs setting.now }
         requires times { HasTimes fact }
-        requires held { AreHeld setting.now.program setting.now.lives self.facts self.expiries self.retention }
-        requires fresh { map.get self.facts fact.tag.0 ≡ None }
-        ensures facts { IfOk result (λ r. r.facts ≡ map.insert self.facts fact.tag.0 fact) }
-        ensures held { IfOk result (λ r. AreHeld setting.now.program setting.now.lives r.facts r.expiries r.retention) }
+        requires held { AreHeld setting.now.program setting.now.lives self.old.facts self.old.expiries self.old.retention }
+        requires fresh { map.get self.old.facts fact.tag.0 ≡ None }
+        ensures facts { OnOk result (self.new.facts ≡ map.insert self.old.facts fact.tag.0 fact) }
+        ensures held { OnOk result (AreHeld setting.now.program setting.now.lives self.new.facts self.new.expiries self.new.retention) }
     {
-        let Restored {
-            facts,
-            expiries,
-            mut retention,
-        } = self;
-        let expiries = timed(expiries, &setting.program, &fact)?;
-        hold(&mut retention, fact.tag, life_end(&setting.lives, &fact))?;
-        let facts = with_fact(facts, fact)?;
-        Ok(Restored {
-            facts,
-            expiries,
-            retention,
-        })
+        put_timer(&mut self.expiries, &setting.program, &fact)?;
+        hold(
+            &mut self.retention,
+            fact.tag,
+            life_end(&setting.lives, &fact),
+        )?;
+        put_fact(&mut self.facts, fact)
     }
 
     /// These facts.
@@ -85,9 +79,9 @@ impl Restored {
         ensures facts { IfOk result (λ r. r.facts ≡ stored facts.items) }
         ensures held { IfOk result (λ r. AreHeld setting.now.program setting.now.lives r.facts r.expiries r.retention) }
     {
-        let mut restored = Restored::new(alloc)?;
+        let mut restored = Restored::new(alloc);
         for fact in facts {
-            restored = restored.with(setting, fact)?;
+            restored.put(setting, fact)?;
         }
         Ok(restored)
     }
@@ -125,31 +119,29 @@ fn matches_of(alloc: Global, changes: &[RuleChange]) -> Result<BTreeSet<Match, G
     Ok(matches)
 }
 
-// The agenda in which the rows that come by these changes are pending too.
-fn with_rows(agenda: Agenda, changes: Vec<RuleChange>) -> Result<Agenda, NoMemory>
-    ensures saliences { IfOk result (λ a. a.saliences ≡ agenda.saliences) }
-    ensures pending { NoneGo changes.items → IfOk result (λ a. (m : MatchData) → has_match a.pending m ≡ (has_match agenda.pending m || comes_by changes.items m)) }
-    ensures fired { NoneGo changes.items → IfOk result (λ a. (m : MatchData) → has_match a.fired m ≡ has_match agenda.fired m) }
+// The rows that come by these changes are pending too.
+fn put_rows(agenda: &mut Agenda, changes: Vec<RuleChange>) -> Result<(), NoMemory>
+    ensures saliences { OnOk result (agenda.new.saliences ≡ agenda.old.saliences) }
+    ensures pending { NoneGo changes.items → OnOk result ((m : MatchData) → has_match agenda.new.pending m ≡ (has_match agenda.old.pending m || comes_by changes.items m)) }
+    ensures fired { NoneGo changes.items → OnOk result ((m : MatchData) → has_match agenda.new.fired m ≡ has_match agenda.old.fired m) }
 {
-    let mut agenda = agenda;
     for change in changes {
         let RuleChange { rule, delta } = change;
-        agenda = agenda.change(rule, delta)?;
+        agenda.change(rule, delta)?;
     }
-    Ok(agenda)
+    Ok(())
 }
 
-// The agenda with the matches marked that were fired; `Unfit` where one of them is not among those that came.
-fn with_fired(
+// Marks the matches that were fired; `Unfit` where one of them is not among those that came.
+fn mark_fired(
     alloc: Global,
-    agenda: Agenda,
+    agenda: &mut Agenda,
     came: &BTreeSet<Match, Global>,
     fired: &[FiredMatch],
-) -> Result<Agenda, ResumeFault>
-    ensures marked { IfOk result (λ a. AreMarking came.now.keys agenda a fired.now) }
+) -> Result<(), ResumeFault>
+    ensures marked { OnOk result (AreMarking came.now.keys agenda.old agenda.new fired.now) }
     ensures unfit { IsErrOf result ResumeFault.Unfit → (m : FiredMatchData) × In m fired.now × (has_match came.now.keys (match_fired m) ≡ false) }
 {
-    let mut agenda = agenda;
     for matched in fired {
         let copy = matched.row.copy(alloc)?;
         let wanted = Match {
@@ -159,9 +151,9 @@ fn with_fired(
         if !came.contains(&wanted) {
             return Err(ResumeFault::Unfit);
         }
-        agenda = agenda.mark(wanted.rule, wanted.row)?;
+        agenda.mark(wanted.rule, wanted.row)?;
     }
-    Ok(agenda)
+    Ok(())
 }
 
 /// The agenda in which the rows that come by these changes are pending, but for the fired matches, which are marked; `Unfit` where one of
@@ -179,6 +171,8 @@ pub(crate) fn agenda_of(
 {
     let came = matches_of(alloc, changes.as_slice())?;
     let saliences = saliences_of(alloc, rules)?;
-    let agenda = with_rows(Agenda::new(alloc, &saliences)?, changes)?;
-    with_fired(alloc, agenda, &came, fired)
+    let mut agenda = Agenda::new(alloc, &saliences)?;
+    put_rows(&mut agenda, changes)?;
+    mark_fired(alloc, &mut agenda, &came, fired)?;
+    Ok(agenda)
 }

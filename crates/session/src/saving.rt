@@ -1,9 +1,12 @@
-ghost use Rattle.std.specs.Prelude.{◌≡◌, ℕ, map as list_map, IfOk, OnOk, IsErrOf};
+ghost use Rattle.std.specs.Prelude.{◌≡◌, ℕ, List, map as list_map, IfOk, OnOk, IsErrOf};
 ghost use Rattle.std.specs.List.Sorted.{IsStrictlySortedBy};
+ghost use Rattle.fact_store.specs.Held.{facts_of};
+ghost use Rattle.fx_base.specs.declared.fact.Fact.{Fact as FactData};
 ghost use Rattle.rule_lives.specs.Keeping.{IsSafeTable};
 ghost use Rattle.rule_world.specs.Lawful.{IsLawful};
 ghost use Rattle.rule_world.specs.Programs.{IsRunnable};
 ghost use Rattle.rule_world.specs.Worlds.{World};
+ghost use Rattle.rule_model.specs.Lent.{lent};
 ghost use Rattle.rule_model.specs.Matches.{match_cmp};
 ghost use Rattle.image_laws.specs.Fitting.{Fits};
 ghost use Rattle.image_laws.specs.Images.{IsImageOf, match_fired};
@@ -16,7 +19,6 @@ ghost use Rattle.checkpoint.specs.declared.image.Image.{Image as ImageData};
 ghost use Rattle.session.specs.Restores.{AreOfImage};
 ghost use Rattle.session.specs.Sessions.{SessionStands};
 
-use crate::boxed::{BoxedAgenda, BoxedFacts};
 use crate::course::Course;
 use crate::restoring::{Restored, agenda_of};
 use crate::running::Running;
@@ -25,7 +27,8 @@ use crate::state::State;
 use agenda::Agenda;
 use checkpoint::{FiredMatch, Image, RunPart};
 use engine::ResumeFault;
-use fx_base::{Fact, NoMemory, Seq};
+use fact_store::FactStore;
+use fx_base::{Copies, Fact, NoMemory, Seq};
 use image_fitting::fits_plainly;
 use image_fitting::laws::an_image_fits_by_tests_and_rows;
 use rete_net::{LoadFault, Rete};
@@ -42,7 +45,7 @@ fn matched(
     moment: &Moment,
     extras: &[Extra],
     fired: &[FiredMatch],
-    facts: &BoxedFacts,
+    facts: &FactStore,
 ) -> Result<(Rete, Agenda), ResumeFault>
     requires runs { Runs setting.now }
     ensures matched { (image : ImageData) → AreOfImage setting.now image moment.now extras.now fired.now facts.now → IfOk result (λ r. IsMatched setting.now.program image r.0 r.1) }
@@ -50,7 +53,7 @@ fn matched(
         → (owners : ℕ → ℕ → ℕ) → AreOwners setting.now.program owners → FitsByRows setting.now.program setting.now.lives image owners → ⊥ }
 {
     let program = &setting.program;
-    let kept = facts.all(alloc)?;
+    let kept = facts.facts(alloc)?;
     match Rete::load(alloc, program, &kept, extras, moment, facts) {
         Ok(loaded) => {
             let (net, changes) = loaded;
@@ -92,13 +95,12 @@ fn restored(alloc: Global, setting: &Setting, image: Image) -> Result<(State, Me
         fired.as_slice(),
         &kept.facts,
     )?;
-    let agenda = BoxedAgenda::new(alloc, agenda)?;
     let Restored {
         facts,
         expiries,
-        retention,
+        mut retention,
     } = kept;
-    let (retention, old) = retention.past(alloc, clock, &[], agenda.agenda())?;
+    let old = retention.past(alloc, clock, &[], &agenda)?;
     if !old.is_empty() {
         return Err(ResumeFault::Unfit);
     }
@@ -114,19 +116,49 @@ fn restored(alloc: Global, setting: &Setting, image: Image) -> Result<(State, Me
     Ok((state, Memory { net, retention }))
 }
 
-// This memory in a box.
-fn boxed(alloc: Global, memory: Memory) -> Result<Box<Memory>, NoMemory>
-    ensures { IfOk result (λ b. b.value ≡ memory) }
+// This state and this memory in boxes.
+fn boxed(
+    alloc: Global,
+    state: State,
+    memory: Memory,
+) -> Result<(Box<State>, Box<Memory>), NoMemory>
+    ensures state { IfOk result (λ r. r.0.value ≡ state) }
+    ensures memory { IfOk result (λ r. r.1.value ≡ memory) }
 {
-    Ok(Box::new(alloc, memory)?)
+    Ok((Box::new(alloc, state)?, Box::new(alloc, memory)?))
+}
+
+// A copy of a fact.
+fn copy_of(alloc: Global, fact: &Fact) -> Result<Fact, NoMemory>
+    ensures { IfOk result (λ copy. copy ≡ fact.now) }
+{
+    Ok(Fact {
+        id: fact.id,
+        ty: fact.ty,
+        entry: fact.entry,
+        fields: fact.fields.copy(alloc)?,
+        tag: fact.tag,
+        times: fact.times,
+    })
+}
+
+// Copies of these facts, in their order.
+fn copies_of(alloc: Global, facts: &[&Fact]) -> Result<Vec<Fact>, NoMemory>
+    ensures { IfOk result (λ copies. copies.items ≡ lent facts.now) }
+{
+    let mut copies = Vec::with_capacity(alloc, facts.len())?;
+    for fact in facts {
+        copies.push(copy_of(alloc, fact)?)?;
+    }
+    Ok(copies)
 }
 
 // The fired matches of an agenda, by rule and row.
-fn fired_of(alloc: Global, agenda: BoxedAgenda) -> Result<Vec<FiredMatch>, NoMemory>
-    ensures matches { IfOk result (λ fired. list_map match_fired fired.items ≡ agenda.fired) }
+fn fired_of(alloc: Global, agenda: &Agenda) -> Result<Vec<FiredMatch>, NoMemory>
+    ensures matches { IfOk result (λ fired. list_map match_fired fired.items ≡ agenda.now.fired) }
     ensures order { IfOk result (λ fired. IsStrictlySortedBy match_cmp (list_map match_fired fired.items)) }
 {
-    let matches = agenda.agenda().fired(alloc)?;
+    let matches = agenda.fired(alloc)?;
     let mut fired = Vec::with_capacity(alloc, matches.len())?;
     for matched in matches {
         let Match { rule, row } = matched;
@@ -136,6 +168,35 @@ fn fired_of(alloc: Global, agenda: BoxedAgenda) -> Result<Vec<FiredMatch>, NoMem
 }
 
 impl State {
+    // The image of what is kept, with this part of the run, and with what so many entry points have reached, but without the facts.
+    fn saved_apart(
+        &self,
+        alloc: Global,
+        run: RunPart,
+        entries: usize,
+        net: &Rete,
+    ) -> Result<Image, NoMemory>
+        ensures run { IfOk result (λ image. image.run ≡ run) }
+        ensures saved { IfOk result (λ image. (facts : List FactData) → facts ≡ facts_of self.now.facts → IsSessionSaved self.now entries net.now (record image { facts = facts })) }
+    {
+        let last_starts = self.course.first_last_starts(alloc, entries)?;
+        let promises = self.course.first_promises(alloc, entries)?;
+        let fired = fired_of(alloc, &self.agenda)?;
+        let extras = net.extras(alloc, &self.facts)?;
+        Ok(Image {
+            run,
+            clock: self.clock,
+            begun: self.course.begun(),
+            last_starts: Seq::from_vec(last_starts),
+            promises: Seq::from_vec(promises),
+            next_id: self.next_id,
+            next_tag: self.next_tag,
+            facts: Seq::from_vec(Vec::new(alloc)),
+            fired: Seq::from_vec(fired),
+            extras: Seq::from_vec(extras),
+        })
+    }
+
     // The image of what is kept, with this part of the run, and with what so many entry points have reached. The facts go into it.
     fn saved(
         self,
@@ -147,32 +208,27 @@ impl State {
         ensures run { IfOk result (λ image. image.run ≡ run) }
         ensures saved { IfOk result (IsSessionSaved self entries net.now) }
     {
-        let State {
-            facts,
-            clock,
-            course,
-            agenda,
-            next_id,
-            next_tag,
-            ..
-        } = self;
-        let last_starts = course.first_last_starts(alloc, entries)?;
-        let promises = course.first_promises(alloc, entries)?;
-        let fired = fired_of(alloc, agenda)?;
-        let extras = net.extras(alloc, &facts)?;
-        let facts = facts.into_all(alloc)?;
-        Ok(Image {
-            run,
-            clock,
-            begun: course.begun(),
-            last_starts: Seq::from_vec(last_starts),
-            promises: Seq::from_vec(promises),
-            next_id,
-            next_tag,
-            facts: Seq::from_vec(facts),
-            fired: Seq::from_vec(fired),
-            extras: Seq::from_vec(extras),
-        })
+        let mut image = self.saved_apart(alloc, run, entries, net)?;
+        let State { facts, .. } = self;
+        image.facts = Seq::from_vec(facts.into_facts(alloc)?);
+        Ok(image)
+    }
+
+    // The same image, with copies of the facts.
+    fn copied(
+        &self,
+        alloc: Global,
+        run: RunPart,
+        entries: usize,
+        net: &Rete,
+    ) -> Result<Image, NoMemory>
+        ensures run { IfOk result (λ image. image.run ≡ run) }
+        ensures saved { IfOk result (IsSessionSaved self.now entries net.now) }
+    {
+        let mut image = self.saved_apart(alloc, run, entries, net)?;
+        let facts = self.facts.facts(alloc)?;
+        image.facts = Seq::from_vec(copies_of(alloc, &facts)?);
+        Ok(image)
     }
 }
 
@@ -186,7 +242,17 @@ impl Session {
     {
         let entries = self.setting.setting().program.entries.as_slice().len();
         let Session { state, memory, .. } = self;
-        state.saved(alloc, run, entries, &memory.net)
+        Box::into_inner(state).saved(alloc, run, entries, &memory.net)
+    }
+
+    /// The same image. The session stays as it is; it copies the kept facts too.
+    pub fn image(&self, alloc: Global, run: RunPart) -> Result<Image, NoMemory>
+        ensures run { IfOk result (λ image. image.run ≡ run) }
+        ensures lawful { (w : World) → SessionStands self.now w → IsLawful self.now.setting.program w }
+        ensures image { IfOk result (λ image. (w : World) → SessionStands self.now w → IsImageOf self.now.setting.program self.now.setting.lives w image) }
+    {
+        let entries = self.setting.setting().program.entries.as_slice().len();
+        self.state.copied(alloc, run, entries, &self.memory.net)
     }
 
     /// A session of a program, with a safe table of lives, in each lawful world of which the image is that. `Unfit`: exactly where the image
@@ -202,7 +268,7 @@ impl Session {
         ensures stands { IfOk result (λ s. (w : World) → IsLawful program w → IsImageOf program lives w image → SessionStands s w) }
         ensures program { IfOk result (λ s. s.setting.program ≡ program) }
         ensures table { IfOk result (λ s. s.setting.lives ≡ lives) }
-        ensures next { IfOk result (λ s. s.state.next_tag ≡ image.next_tag) }
+        ensures next { IfOk result (λ s. s.state.value.next_tag ≡ image.next_tag) }
         ensures fits { OnOk result (Fits program lives image) }
         ensures unfit { IsErrOf result ResumeFault.Unfit → Fits program lives image → ⊥ }
     {
@@ -213,7 +279,7 @@ impl Session {
         }
         let setting = Running::new(alloc, Setting { program, lives })?;
         let (state, memory) = restored(alloc, setting.setting(), image)?;
-        let memory = boxed(alloc, memory)?;
+        let (state, memory) = boxed(alloc, state, memory)?;
         Ok(Session {
             setting,
             state,

@@ -1,9 +1,9 @@
-ghost use Rattle.std.specs.Prelude.{◌≡◌, ◌+◌, ◌≤◌, ◌^◌, true, IfOk, is_some};
+ghost use Rattle.std.specs.Prelude.{◌≡◌, ◌+◌, ◌-◌, ◌≤◌, ◌^◌, true, IfOk, is_some};
 ghost use Rattle.rule_model.specs.Matches.{saliences};
 ghost use Rattle.session_laws.specs.Standing.{IsSound};
 
 use crate::counting::{counts_of, event_types};
-use crate::refreshing::refreshed;
+use crate::refreshing::refresh;
 use crate::running::Running;
 use crate::state::State;
 use agenda::Agenda;
@@ -35,9 +35,9 @@ pub(crate) fn saliences_of(alloc: Global, rules: &[Rule]) -> Result<Vec<i64>, No
 #[derive(Drop)]
 pub struct Session {
     pub(crate) setting: Running,
-    pub(crate) state: State,
+    pub(crate) state: Box<State>,
     pub(crate) memory: Box<Memory>,
-    ghost sound: { ∥ IsSound setting.program memory.value state ∥₁ },
+    ghost sound: { ∥ IsSound setting.program memory.value state.value ∥₁ },
 }
 
 impl Session {
@@ -58,12 +58,13 @@ impl Session {
         ensures stands { IfOk result (λ s. SessionStands s empty_world) }
         ensures program { IfOk result (λ s. s.setting.program ≡ program) }
         ensures table { IfOk result (λ s. s.setting.lives ≡ lives) }
-        ensures next { IfOk result (λ s. s.state.next_tag ≡ 1) }
+        ensures next { IfOk result (λ s. s.state.value.next_tag ≡ 1) }
     {
         let saliences = saliences_of(alloc, program.rules.as_slice())?;
         let (net, first) = Rete::build(alloc, &program)?;
-        let (agenda, _left) = refreshed(alloc, Agenda::new(alloc, &saliences)?, first)?;
-        let state = State::new(alloc, agenda)?;
+        let mut agenda = Agenda::new(alloc, &saliences)?;
+        refresh(alloc, &mut agenda, first)?;
+        let state = Box::new(alloc, State::new(alloc, agenda))?;
         let retention = Retention::new(alloc);
         let setting = Running::new(alloc, Setting { program, lives })?;
         let memory = Box::new(alloc, Memory { net, retention })?;
@@ -76,23 +77,23 @@ impl Session {
 
     /// The lines of a change, or its fault, which leaves the world as it is.
     pub fn apply(self, alloc: Global, change: &Change) -> Result<(Session, Lines), NoMemory>
-        requires { self.state.next_tag ≤ 2 ^ 62 }
+        requires { self.state.value.next_tag ≤ 2 ^ 62 }
         ensures lines { IfOk result (λ r. (w : World) → SessionStands self w → r.1 ≡ (gives self.setting.program w change.now).0) }
         ensures next { IfOk result (λ r. (w : World) → SessionStands self w → SessionStands r.0 (gives self.setting.program w change.now).1) }
         ensures known { IfOk result (λ r. are_known self.setting.program r.1 ≡ true) }
         ensures program { IfOk result (λ r. r.0.setting.program ≡ self.setting.program) }
         ensures table { IfOk result (λ r. r.0.setting.lives ≡ self.setting.lives) }
-        ensures tags { IfOk result (λ r. r.0.state.next_tag ≤ self.state.next_tag + 1) }
+        ensures tags { IfOk result (λ r. r.0.state.value.next_tag ≤ self.state.value.next_tag + 1) }
     {
         let Session {
             setting,
-            state,
+            mut state,
             mut memory,
         } = self;
         let mut lines = Vec::new(alloc);
         let inside = setting.setting();
-        let asked = asked_step(alloc, &inside.program, &state, change)?;
-        let state = state.apply(alloc, inside, &mut *memory, asked, &mut lines)?;
+        let asked = asked_step(alloc, &inside.program, &*state, change)?;
+        state.apply(alloc, inside, &mut *memory, asked, &mut lines)?;
         Ok((
             Session {
                 setting,
@@ -106,23 +107,23 @@ impl Session {
     /// The lines of one firing and of its actions, whose values are those of the world before it; `No` exactly where nothing is
     /// pending.
     pub fn fire_one(self, alloc: Global) -> Result<(Session, Fired), NoMemory>
-        requires { self.state.next_tag ≤ 2 ^ 62 }
+        requires { self.state.value.next_tag ≤ 2 ^ 62 }
         ensures answers { IfOk result (λ r. (w : World) → SessionStands self w → FiringAnswers (fires self.setting.program w) r.1 w (SessionStands r.0)) }
         ensures known { IfOk result (λ r. is_known_firing self.setting.program r.1 ≡ true) }
         ensures program { IfOk result (λ r. r.0.setting.program ≡ self.setting.program) }
         ensures table { IfOk result (λ r. r.0.setting.lives ≡ self.setting.lives) }
-        ensures tags { IfOk result (λ r. r.0.state.next_tag ≤ self.state.next_tag + 16) }
+        ensures tags { IfOk result (λ r. r.0.state.value.next_tag ≤ self.state.value.next_tag + 16) }
     {
         let Session {
             setting,
-            state,
+            mut state,
             mut memory,
         } = self;
         let inside = setting.setting();
         match state.plan(alloc, &inside.program)? {
             Some(plan) => {
                 let mut lines = Vec::new(alloc);
-                let state = state.fire(alloc, inside, &mut *memory, plan, &mut lines)?;
+                state.fire(alloc, inside, &mut *memory, plan, &mut lines)?;
                 Ok((
                     Session {
                         setting,
@@ -157,6 +158,13 @@ impl Session {
         self.state.clock()
     }
 
+    /// How many tags were given. Takes no memory.
+    pub fn tags_given(&self) -> u64
+        ensures { result ≡ self.now.state.value.next_tag - 1 }
+    {
+        self.state.tags_given()
+    }
+
     /// For each event type of the program, in their order, how many of its events are kept. It goes once over the types, and takes
     /// memory for their places and their numbers alone.
     pub fn held(&self, alloc: Global) -> Result<Vec<u64>, NoMemory>
@@ -178,7 +186,6 @@ impl Session {
 }
 
 impl Engine for Session {
-    ghost use Rattle.std.specs.Prelude.{◌-◌};
     ghost use Rattle.session_laws.specs.Counts.{held_counts};
     ghost use Rattle.session_laws.specs.Gives.{gives as session_gives, fires as session_fires};
     ghost use Rattle.session.specs.Sessions.{SessionStands};
@@ -189,7 +196,7 @@ impl Engine for Session {
 
     ghost table = { λ s. s.setting.lives };
 
-    ghost tags = { λ s. s.state.next_tag - 1 };
+    ghost tags = { λ s. s.state.value.next_tag - 1 };
 
     ghost gives = { session_gives };
 
@@ -213,6 +220,10 @@ impl Engine for Session {
         Session::due(self)
     }
 
+    fn tags_given(&self) -> u64 {
+        Session::tags_given(self)
+    }
+
     fn held(&self, alloc: Global) -> Result<Vec<u64>, NoMemory> {
         Session::held(self, alloc)
     }
@@ -223,6 +234,10 @@ impl Engine for Session {
 
     fn save(self, alloc: Global, run: RunPart) -> Result<Image, NoMemory> {
         Session::save(self, alloc, run)
+    }
+
+    fn image(&self, alloc: Global, run: RunPart) -> Result<Image, NoMemory> {
+        Session::image(self, alloc, run)
     }
 
     fn resume(

@@ -1,16 +1,16 @@
-ghost use Rattle.std.specs.Prelude.{◌≡◌, [], pos, IfOk, option_map, false, true, IsSome, IsNone, IfSome, IfErr, None, Some};
+ghost use Rattle.std.specs.Prelude.{◌≡◌, ◌-◌, [], pos, IfOk, option_map, false, true, IsSome, IsNone, IfSome, IfErr, None, Some};
 ghost use Rattle.rule_model.specs.Matches.{fire_cmp};
 ghost use Rattle.rule_model.specs.First.{first};
 ghost use Rattle.rule_world.specs.Worlds.{modify_fault, is_of_type};
 ghost use Rattle.session_laws.specs.Places.{IsNewestTag, newest};
 ghost use Rattle.std.specs.FinMap as map;
 
-use crate::boxed::{BoxedAgenda, BoxedFacts};
 use crate::course::Course;
 use agenda::Agenda;
 use change_read::Present;
 use due_queue::DueQueue;
-use fx_base::{Fact, FactId, Millis, NoMemory, Tag, TypeId};
+use fact_store::FactStore;
+use fx_base::{Fact, FactId, Millis, Tag, TypeId};
 use rule_model::{Match, Program};
 use rule_world::Code;
 use std::alloc::Global;
@@ -20,13 +20,13 @@ use std::marker::Model;
 /// so far, the agenda and the next numbers.
 #[derive(Drop)]
 pub(crate) struct State {
-    pub(crate) facts: BoxedFacts,
+    pub(crate) facts: FactStore,
     /// The tags of the events that expire, with the moments from which they are not present.
     pub(crate) expiries: DueQueue,
     /// In milliseconds, from 0 to 2^53.
     pub(crate) clock: Millis,
     pub(crate) course: Course,
-    pub(crate) agenda: BoxedAgenda,
+    pub(crate) agenda: Agenda,
     pub(crate) next_id: u64,
     pub(crate) next_tag: u64,
 }
@@ -47,28 +47,25 @@ impl Model for State {
 }
 
 impl State {
-    /// No facts, the clock at 0, and this agenda.
-    pub(crate) fn new(alloc: Global, agenda: Agenda) -> Result<State, NoMemory>
-        ensures facts { IfOk result (λ s. s.facts ≡ map.empty) }
-        ensures expiries { IfOk result (λ s. s.expiries ≡ map.empty) }
-        ensures clock { IfOk result (λ s. s.clock ≡ pos 0) }
-        ensures course { IfOk result (λ s. s.course ≡ record { last_starts = []; promises = []; begun = false }) }
-        ensures agenda { IfOk result (λ s. s.agenda ≡ agenda) }
-        ensures next_id { IfOk result (λ s. s.next_id ≡ 1) }
-        ensures next_tag { IfOk result (λ s. s.next_tag ≡ 1) }
+    /// No facts, the clock at 0, and this agenda. Takes no memory.
+    pub(crate) fn new(alloc: Global, agenda: Agenda) -> State
+        ensures facts { result.facts ≡ map.empty }
+        ensures expiries { result.expiries ≡ map.empty }
+        ensures clock { result.clock ≡ pos 0 }
+        ensures course { result.course ≡ record { last_starts = []; promises = []; begun = false } }
+        ensures agenda { result.agenda ≡ agenda }
+        ensures next_id { result.next_id ≡ 1 }
+        ensures next_tag { result.next_tag ≡ 1 }
     {
-        let facts = BoxedFacts::new(alloc)?;
-        let agenda = BoxedAgenda::new(alloc, agenda)?;
-        let expiries = DueQueue::new(alloc);
-        Ok(State {
-            facts,
-            expiries,
+        State {
+            facts: FactStore::new(alloc),
+            expiries: DueQueue::new(alloc),
             clock: 0,
             course: Course::new(alloc),
             agenda,
             next_id: 1,
             next_tag: 1,
-        })
+        }
     }
 
     /// The match that fires first among the pending ones. Takes no memory.
@@ -76,6 +73,13 @@ impl State {
         ensures { option_map (λ m. m.now) result ≡ first (fire_cmp self.now.agenda.saliences) self.now.agenda.pending }
     {
         self.agenda.top()
+    }
+
+    /// How many tags were given. Takes no memory.
+    pub(crate) fn tags_given(&self) -> u64
+        ensures { result ≡ self.now.next_tag - 1 }
+    {
+        self.next_tag.saturating_sub(1)
     }
 
     /// The clock, in milliseconds. Takes no memory.

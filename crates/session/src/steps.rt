@@ -35,18 +35,17 @@ fn is_fixed(program: &Program, ty: TypeId, begun: bool) -> bool
     program.is_reference(ty) && begun
 }
 
+// The fault changes nothing.
+fn refuse(code: Code, lines: &mut Vec<OutLine>) -> Result<(), NoMemory>
+    ensures lines { OnOk result (lines.new.items ≡ lines.old.items ++ Fault code ∷ []) }
+    ensures known { (p : ProgramData) → OnOk result (StayKnown p lines.old.items lines.new.items) }
+{
+    lines.push(OutLine::Fault(code))?;
+    Ok(())
+}
+
 // Steps and their faults.
 impl State {
-    // The same state: the fault changes nothing.
-    fn refuse(self, code: Code, lines: &mut Vec<OutLine>) -> Result<State, NoMemory>
-        ensures state { IfOk result (λ s. s ≡ self) }
-        ensures lines { OnOk result (lines.new.items ≡ lines.old.items ++ Fault code ∷ []) }
-        ensures known { (p : ProgramData) → OnOk result (StayKnown p lines.old.items lines.new.items) }
-    {
-        lines.push(OutLine::Fault(code))?;
-        Ok(self)
-    }
-
     // The times of a new fact with these values, or its fault.
     fn times_for(
         &self,
@@ -79,7 +78,7 @@ impl State {
 
     // A new fact with the next numbers.
     fn insert(
-        self,
+        &mut self,
         alloc: Global,
         setting: &Setting,
         memory: &mut Memory,
@@ -87,13 +86,13 @@ impl State {
         entry: EntryId,
         fields: Seq<Value>,
         lines: &mut Vec<OutLine>,
-    ) -> Result<State, NoMemory>
+    ) -> Result<(), NoMemory>
         requires runs { Runs setting.now }
-        requires low { self.next_tag < 2 ^ 63 }
-        ensures stands { IfOk result (λ s. Tries setting.now memory.old self (Insert ty entry fields) memory.new s) }
-        ensures lines { OnOk result (Writes setting.now memory.old self (Insert ty entry fields) lines.old.items lines.new.items) }
-        ensures tags { IfOk result (λ s. s.next_tag ≤ self.next_tag + 1) }
-        ensures sound { has_known_places setting.now.program (Insert ty entry fields) ≡ true → IfOk result (λ s. StaysSound setting.now.program memory.old self memory.new s) }
+        requires low { self.old.next_tag < 2 ^ 63 }
+        ensures stands { OnOk result (Tries setting.now memory.old self.old (Insert ty entry fields) memory.new self.new) }
+        ensures lines { OnOk result (Writes setting.now memory.old self.old (Insert ty entry fields) lines.old.items lines.new.items) }
+        ensures tags { OnOk result (self.new.next_tag ≤ self.old.next_tag + 1) }
+        ensures sound { has_known_places setting.now.program (Insert ty entry fields) ≡ true → OnOk result (StaysSound setting.now.program memory.old self.old memory.new self.new) }
         ensures known { has_known_places setting.now.program (Insert ty entry fields) ≡ true → OnOk result (StayKnown setting.now.program lines.old.items lines.new.items) }
     {
         match self.times_for(&setting.program, ty, entry, fields.as_slice()) {
@@ -109,161 +108,166 @@ impl State {
                     tag,
                     times,
                 };
-                self.with_new(alloc, setting, memory, fact)
+                self.take_new(alloc, setting, memory, fact)
             }
-            Err(code) => self.refuse(code, lines),
+            Err(code) => refuse(code, lines),
         }
     }
 
     // Other values in some fields of the fact of the id.
     fn modify(
-        self,
+        &mut self,
         alloc: Global,
         setting: &Setting,
         memory: &mut Memory,
         id: FactId,
         sets: Seq<(usize, Value)>,
         lines: &mut Vec<OutLine>,
-    ) -> Result<State, NoMemory>
+    ) -> Result<(), NoMemory>
         requires runs { Runs setting.now }
-        requires low { self.next_tag < 2 ^ 63 }
-        ensures stands { IfOk result (λ s. Tries setting.now memory.old self (Modify id sets) memory.new s) }
-        ensures lines { OnOk result (Writes setting.now memory.old self (Modify id sets) lines.old.items lines.new.items) }
-        ensures tags { IfOk result (λ s. s.next_tag ≤ self.next_tag + 1) }
-        ensures sound { IfOk result (λ s. StaysSound setting.now.program memory.old self memory.new s) }
+        requires low { self.old.next_tag < 2 ^ 63 }
+        ensures stands { OnOk result (Tries setting.now memory.old self.old (Modify id sets) memory.new self.new) }
+        ensures lines { OnOk result (Writes setting.now memory.old self.old (Modify id sets) lines.old.items lines.new.items) }
+        ensures tags { OnOk result (self.new.next_tag ≤ self.old.next_tag + 1) }
+        ensures sound { OnOk result (StaysSound setting.now.program memory.old self.old memory.new self.new) }
         ensures known { has_known_places setting.now.program (Modify id sets) ≡ true → OnOk result (StayKnown setting.now.program lines.old.items lines.new.items) }
     {
         match self.modifiable(&setting.program, id) {
-            Ok(tag) => self.with_sets(alloc, setting, memory, id, tag, sets),
-            Err(code) => self.refuse(code, lines),
+            Ok(tag) => self.take_sets(alloc, setting, memory, id, tag, sets),
+            Err(code) => refuse(code, lines),
         }
     }
 
     // The fact of the type and the id taken away. An event that is not there is none to take away.
     fn retract(
-        self,
+        &mut self,
         alloc: Global,
         setting: &Setting,
         memory: &mut Memory,
         ty: TypeId,
         id: FactId,
         lines: &mut Vec<OutLine>,
-    ) -> Result<State, NoMemory>
+    ) -> Result<(), NoMemory>
         requires runs { Runs setting.now }
-        ensures stands { IfOk result (λ s. Tries setting.now memory.old self (Retract ty id) memory.new s) }
-        ensures lines { OnOk result (Writes setting.now memory.old self (Retract ty id) lines.old.items lines.new.items) }
-        ensures tags { IfOk result (λ s. s.next_tag ≡ self.next_tag) }
-        ensures sound { IfOk result (λ s. StaysSound setting.now.program memory.old self memory.new s) }
+        ensures stands { OnOk result (Tries setting.now memory.old self.old (Retract ty id) memory.new self.new) }
+        ensures lines { OnOk result (Writes setting.now memory.old self.old (Retract ty id) lines.old.items lines.new.items) }
+        ensures tags { OnOk result (self.new.next_tag ≡ self.old.next_tag) }
+        ensures sound { OnOk result (StaysSound setting.now.program memory.old self.old memory.new self.new) }
         ensures known { has_known_places setting.now.program (Retract ty id) ≡ true → OnOk result (StayKnown setting.now.program lines.old.items lines.new.items) }
     {
         if are_observed(&setting.program, ty) {
-            return self.refuse(Code::EventObserved, lines);
+            return refuse(Code::EventObserved, lines);
         }
         if setting.program.is_reference(ty) {
-            return self.refuse(Code::ReferenceFixed, lines);
+            return refuse(Code::ReferenceFixed, lines);
         }
         match self.tag_of(ty, id) {
-            Some(tag) => self.without(alloc, setting, memory, ty, id, tag),
+            Some(tag) => self.take_away(alloc, setting, memory, ty, id, tag),
             None if setting.program.is_event(ty) => {
-                self.without_forgotten(alloc, setting, memory, ty, id)
+                self.take_away_forgotten(alloc, setting, memory, ty, id)
             }
-            None => self.refuse(Code::Absent, lines),
+            None => refuse(Code::Absent, lines),
         }
     }
 
     // The clock so many milliseconds later.
     fn advance(
-        self,
+        &mut self,
         alloc: Global,
         setting: &Setting,
         memory: &mut Memory,
         by: Millis,
         lines: &mut Vec<OutLine>,
-    ) -> Result<State, NoMemory>
+    ) -> Result<(), NoMemory>
         requires runs { Runs setting.now }
-        ensures stands { IfOk result (λ s. Tries setting.now memory.old self (Advance by) memory.new s) }
-        ensures lines { OnOk result (Writes setting.now memory.old self (Advance by) lines.old.items lines.new.items) }
-        ensures tags { IfOk result (λ s. s.next_tag ≡ self.next_tag) }
-        ensures sound { IfOk result (λ s. StaysSound setting.now.program memory.old self memory.new s) }
+        ensures stands { OnOk result (Tries setting.now memory.old self.old (Advance by) memory.new self.new) }
+        ensures lines { OnOk result (Writes setting.now memory.old self.old (Advance by) lines.old.items lines.new.items) }
+        ensures tags { OnOk result (self.new.next_tag ≡ self.old.next_tag) }
+        ensures sound { OnOk result (StaysSound setting.now.program memory.old self.old memory.new self.new) }
         ensures known { has_known_places setting.now.program (Advance by) ≡ true → OnOk result (StayKnown setting.now.program lines.old.items lines.new.items) }
     {
         match clock_after(self.clock, by) {
-            Ok(clock) => self.with_clock(alloc, setting, memory, clock),
-            Err(code) => self.refuse(code, lines),
+            Ok(clock) => self.take_clock(alloc, setting, memory, clock),
+            Err(code) => refuse(code, lines),
         }
     }
 
     // The clock at this moment.
     fn go_to(
-        self,
+        &mut self,
         alloc: Global,
         setting: &Setting,
         memory: &mut Memory,
         moment: Millis,
         lines: &mut Vec<OutLine>,
-    ) -> Result<State, NoMemory>
+    ) -> Result<(), NoMemory>
         requires runs { Runs setting.now }
-        ensures stands { IfOk result (λ s. Tries setting.now memory.old self (At moment) memory.new s) }
-        ensures lines { OnOk result (Writes setting.now memory.old self (At moment) lines.old.items lines.new.items) }
-        ensures tags { IfOk result (λ s. s.next_tag ≡ self.next_tag) }
-        ensures sound { IfOk result (λ s. StaysSound setting.now.program memory.old self memory.new s) }
+        ensures stands { OnOk result (Tries setting.now memory.old self.old (At moment) memory.new self.new) }
+        ensures lines { OnOk result (Writes setting.now memory.old self.old (At moment) lines.old.items lines.new.items) }
+        ensures tags { OnOk result (self.new.next_tag ≡ self.old.next_tag) }
+        ensures sound { OnOk result (StaysSound setting.now.program memory.old self.old memory.new self.new) }
         ensures known { has_known_places setting.now.program (At moment) ≡ true → OnOk result (StayKnown setting.now.program lines.old.items lines.new.items) }
     {
         match clock_at(self.clock, moment) {
-            Ok(clock) => self.with_clock(alloc, setting, memory, clock),
-            Err(code) => self.refuse(code, lines),
+            Ok(clock) => self.take_clock(alloc, setting, memory, clock),
+            Err(code) => refuse(code, lines),
         }
     }
 
     // The entry point's promise at this moment.
     fn promise_from(
-        self,
+        &mut self,
         alloc: Global,
         setting: &Setting,
         memory: &mut Memory,
         entry: EntryId,
         from: Millis,
         lines: &mut Vec<OutLine>,
-    ) -> Result<State, NoMemory>
+    ) -> Result<(), NoMemory>
         requires runs { Runs setting.now }
-        ensures stands { IfOk result (λ s. Tries setting.now memory.old self (Promise entry from) memory.new s) }
-        ensures lines { OnOk result (Writes setting.now memory.old self (Promise entry from) lines.old.items lines.new.items) }
-        ensures tags { IfOk result (λ s. s.next_tag ≡ self.next_tag) }
-        ensures sound { has_known_places setting.now.program (Promise entry from) ≡ true → IfOk result (λ s. StaysSound setting.now.program memory.old self memory.new s) }
+        ensures stands { OnOk result (Tries setting.now memory.old self.old (Promise entry from) memory.new self.new) }
+        ensures lines { OnOk result (Writes setting.now memory.old self.old (Promise entry from) lines.old.items lines.new.items) }
+        ensures tags { OnOk result (self.new.next_tag ≡ self.old.next_tag) }
+        ensures sound { has_known_places setting.now.program (Promise entry from) ≡ true → OnOk result (StaysSound setting.now.program memory.old self.old memory.new self.new) }
         ensures known { has_known_places setting.now.program (Promise entry from) ≡ true → OnOk result (StayKnown setting.now.program lines.old.items lines.new.items) }
     {
         match promise_at(self.course.promise(entry), from) {
-            Ok(from) => self.with_promise(alloc, setting, memory, entry, from),
-            Err(code) => self.refuse(code, lines),
+            Ok(from) => self.take_promise(alloc, setting, memory, entry, from),
+            Err(code) => refuse(code, lines),
         }
     }
 
     // The world has begun, which has no fault and no line.
-    fn begin(self, alloc: Global, setting: &Setting, memory: &mut Memory) -> Result<State, NoMemory>
+    fn begin(
+        &mut self,
+        alloc: Global,
+        setting: &Setting,
+        memory: &mut Memory,
+    ) -> Result<(), NoMemory>
         requires runs { Runs setting.now }
-        ensures stands { IfOk result (λ s. Tries setting.now memory.old self Begin memory.new s) }
-        ensures lines { (lines : List OutLineData) → Writes setting.now memory.old self Begin lines lines }
-        ensures tags { IfOk result (λ s. s.next_tag ≡ self.next_tag) }
-        ensures sound { IfOk result (λ s. StaysSound setting.now.program memory.old self memory.new s) }
+        ensures stands { OnOk result (Tries setting.now memory.old self.old Begin memory.new self.new) }
+        ensures lines { (lines : List OutLineData) → Writes setting.now memory.old self.old Begin lines lines }
+        ensures tags { OnOk result (self.new.next_tag ≡ self.old.next_tag) }
+        ensures sound { OnOk result (StaysSound setting.now.program memory.old self.old memory.new self.new) }
     {
-        self.with_begin(alloc, setting, memory)
+        self.take_begin(alloc, setting, memory)
     }
 
     // A step, whose line is added to these, or its fault.
     fn step(
-        self,
+        &mut self,
         alloc: Global,
         setting: &Setting,
         memory: &mut Memory,
         step: Step,
         lines: &mut Vec<OutLine>,
-    ) -> Result<State, NoMemory>
+    ) -> Result<(), NoMemory>
         requires runs { Runs setting.now }
-        requires low { self.next_tag < 2 ^ 63 }
-        ensures stands { IfOk result (λ s. Tries setting.now memory.old self step memory.new s) }
-        ensures lines { OnOk result (Writes setting.now memory.old self step lines.old.items lines.new.items) }
-        ensures tags { IfOk result (λ s. s.next_tag ≤ self.next_tag + 1) }
-        ensures sound { has_known_places setting.now.program step ≡ true → IfOk result (λ s. StaysSound setting.now.program memory.old self memory.new s) }
+        requires low { self.old.next_tag < 2 ^ 63 }
+        ensures stands { OnOk result (Tries setting.now memory.old self.old step memory.new self.new) }
+        ensures lines { OnOk result (Writes setting.now memory.old self.old step lines.old.items lines.new.items) }
+        ensures tags { OnOk result (self.new.next_tag ≤ self.old.next_tag + 1) }
+        ensures sound { has_known_places setting.now.program step ≡ true → OnOk result (StaysSound setting.now.program memory.old self.old memory.new self.new) }
         ensures known { has_known_places setting.now.program step ≡ true → OnOk result (StayKnown setting.now.program lines.old.items lines.new.items) }
     {
         match step {
@@ -283,48 +287,47 @@ impl State {
 
     /// Does a step, or refuses it for its fault, and adds the line of either.
     pub(crate) fn apply(
-        self,
+        &mut self,
         alloc: Global,
         setting: &Setting,
         memory: &mut Memory,
         wanted: Result<Step, Code>,
         lines: &mut Vec<OutLine>,
-    ) -> Result<State, NoMemory>
+    ) -> Result<(), NoMemory>
         requires runs { Runs setting.now }
-        requires low { self.next_tag < 2 ^ 63 }
-        ensures stands { IfOk result (λ s. StandsAfter setting.now memory.old self wanted memory.new s) }
-        ensures lines { OnOk result (WritesFor setting.now memory.old self wanted lines.old.items lines.new.items) }
-        ensures tags { IfOk result (λ s. s.next_tag ≤ self.next_tag + 1) }
-        ensures sound { WantsKnown setting.now.program wanted → IfOk result (λ s. StaysSound setting.now.program memory.old self memory.new s) }
+        requires low { self.old.next_tag < 2 ^ 63 }
+        ensures stands { OnOk result (StandsAfter setting.now memory.old self.old wanted memory.new self.new) }
+        ensures lines { OnOk result (WritesFor setting.now memory.old self.old wanted lines.old.items lines.new.items) }
+        ensures tags { OnOk result (self.new.next_tag ≤ self.old.next_tag + 1) }
+        ensures sound { WantsKnown setting.now.program wanted → OnOk result (StaysSound setting.now.program memory.old self.old memory.new self.new) }
         ensures known { WantsKnown setting.now.program wanted → OnOk result (StayKnown setting.now.program lines.old.items lines.new.items) }
     {
         match wanted {
             Ok(step) => self.step(alloc, setting, memory, step, lines),
-            Err(code) => self.refuse(code, lines),
+            Err(code) => refuse(code, lines),
         }
     }
 
     /// The same for steps and faults one after the other: one that is refused stops none of the later ones.
     pub(crate) fn apply_all(
-        self,
+        &mut self,
         alloc: Global,
         setting: &Setting,
         memory: &mut Memory,
         plan: Plan,
         lines: &mut Vec<OutLine>,
-    ) -> Result<State, NoMemory>
+    ) -> Result<(), NoMemory>
         requires runs { Runs setting.now }
-        requires low { self.next_tag + length plan.items ≤ 2 ^ 63 }
-        ensures stands { IfOk result (λ s. StandsAfterAll setting.now memory.old self plan.items memory.new s) }
-        ensures lines { OnOk result (WritesAll setting.now memory.old self plan.items lines.old.items lines.new.items) }
-        ensures tags { IfOk result (λ s. s.next_tag ≤ self.next_tag + length plan.items) }
-        ensures sound { AllWantKnown setting.now.program plan.items → IfOk result (λ s. StaysSound setting.now.program memory.old self memory.new s) }
+        requires low { self.old.next_tag + length plan.items ≤ 2 ^ 63 }
+        ensures stands { OnOk result (StandsAfterAll setting.now memory.old self.old plan.items memory.new self.new) }
+        ensures lines { OnOk result (WritesAll setting.now memory.old self.old plan.items lines.old.items lines.new.items) }
+        ensures tags { OnOk result (self.new.next_tag ≤ self.old.next_tag + length plan.items) }
+        ensures sound { AllWantKnown setting.now.program plan.items → OnOk result (StaysSound setting.now.program memory.old self.old memory.new self.new) }
         ensures known { AllWantKnown setting.now.program plan.items → OnOk result (StayKnown setting.now.program lines.old.items lines.new.items) }
     {
-        let mut state = self;
         for wanted in plan {
-            state = state.apply(alloc, setting, memory, wanted, lines)?;
+            self.apply(alloc, setting, memory, wanted, lines)?;
         }
-        Ok(state)
+        Ok(())
     }
 }

@@ -4,8 +4,15 @@ use Rattle.agenda.proofs.Ranks.{well_of}
 use Rattle.agenda.proofs.Steps.{pending_taken, fired_put, parts}
 use Rattle.agenda.proofs.agenda.Agenda.mark.Goals as goal
 
-pub invariant_of-result : goal.invariant_of-result
-invariant_of-result c = record {
+-- where the mark is refused
+pub invariant_of-self : goal.invariant_of-self
+invariant_of-self c = record {
+  well = c.take_ranked.ensures.well c.self.inside.saliences c.self.invariant.well;
+  counts = c.take_ranked.ensures.named c.self.invariant.counts;
+}
+
+pub invariant_of-self-2 : goal.invariant_of-self-2
+invariant_of-self-2 c = record {
   well = c.take_ranked.ensures.well c.self.inside.saliences c.self.invariant.well;
   counts = c.take_ranked.ensures.named c.self.invariant.counts;
 }
@@ -17,7 +24,7 @@ returns-clause-pending c m =
     let k = c.of-ranked.result in
     let made : k ≡ ranked_of s (match_of c.args.rule.0 row) = c.of-ranked.ensures ∙ ap (λ z. ranked_of z (match_of c.args.rule.0 row)) c.as_slice.ensures in
     let n : AllWell s c.take_ranked.new.pending.keys = c.take_ranked.ensures.well s c.self.invariant.well in
-    let v : matches c.self.inside.pending.keys ≡ c.args.self.pending = ap (λ (h : Marks). h.pending) c.self.view_is in
+    let v : matches c.self.inside.pending.keys ≡ c.args.self.now.pending = ap (λ (h : Marks). h.pending) c.self.view_is in
     subst (λ ms. has_match (matches c.take_ranked.new.pending.keys) m ≡ (has_match ms m && not (c.args.rule.0 == m.rule.0 && eq_by_cmp row_cmp row m.row))) v
     (pending_taken s k c.self.inside.pending.keys c.take_ranked.new.pending.keys c.args.rule.0 row c.self.invariant.well n (well_of s k (match_of c.args.rule.0 row) made)
     (ap (λ (z : Ranked). z.matched.rule.0) made) (ap (λ (z : Ranked). z.matched.row) made) c.take_ranked.ensures.updates m)
@@ -26,7 +33,7 @@ pub returns-clause-fired : goal.returns-clause-fired
 returns-clause-fired c m =
     let row = c.args.row in
     let k = c.of-ranked.result.matched in
-    let v : c.self.inside.fired.keys ≡ c.args.self.fired = ap (λ (h : Marks). h.fired) c.self.view_is in
+    let v : c.self.inside.fired.keys ≡ c.args.self.now.fired = ap (λ (h : Marks). h.fired) c.self.view_is in
     subst (λ ms. has_match c.insert.new.self.keys m ≡ (has_match ms m || (c.args.rule.0 == m.rule.0 && eq_by_cmp row_cmp row m.row))) v
     (fired_put k c.self.inside.fired.keys c.insert.new.self.keys c.in_ok-insert.ensures.updates.0 m
     ∙ ap (λ b. has_match c.self.inside.fired.keys m || b)
