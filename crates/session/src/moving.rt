@@ -13,7 +13,7 @@ ghost use Rattle.session_laws.specs.Standing.{Runs, StaysSound};
 ghost use Rattle.session_laws.specs.Waiting.{with_timer, without_timer};
 ghost use Rattle.std.specs.FinMap as map;
 
-use crate::refreshing::{follow, take_all};
+use crate::refreshing::{follow, take_all, take_fact};
 use crate::state::State;
 use due_queue::DueQueue;
 use fact_store::FactStore;
@@ -296,7 +296,7 @@ impl State {
             self.facts.fact(next),
             &moment,
         )?;
-        self.facts.take(tag);
+        take_fact(&mut self.facts, tag);
         self.settle(alloc, setting, memory, left.as_slice())
     }
 
@@ -328,7 +328,7 @@ impl State {
             None,
             &moment,
         )?;
-        self.facts.take(tag);
+        take_fact(&mut self.facts, tag);
         take_timer(&mut self.expiries, tag);
         memory.retention.release(tag);
         self.settle(alloc, setting, memory, left.as_slice())

@@ -111,11 +111,18 @@ pub(crate) fn follow(
     refresh(alloc, agenda, changes)
 }
 
+/// Takes out the fact of a tag, if one is held. Takes no memory.
+pub(crate) fn take_fact(facts: &mut FactStore, tag: Tag)
+    ensures { facts.new ≡ map.remove facts.old tag.0 }
+{
+    facts.take(tag);
+}
+
 /// Takes out the facts of these tags. Takes no memory.
 pub(crate) fn take_all(facts: &mut FactStore, tags: Vec<u64>)
     ensures { (tag : ℕ) → map.get facts.new tag ≡ fact_left_at facts.old tags.items tag }
 {
     for tag in tags {
-        facts.take(Tag(tag));
+        take_fact(facts, Tag(tag));
     }
 }

@@ -84,13 +84,13 @@ impl State {
         if old.is_empty() {
             return Ok(());
         }
-        let old = tags_of(alloc, &old)?;
-        let names = names_at(alloc, &self.facts, &old)?;
+        let tags = tags_of(alloc, &old)?;
+        let names = names_at(alloc, &self.facts, &tags)?;
         let dropped = memory
             .net
             .forget(alloc, &setting.program, &names, &self.facts)?;
         drop_fired(&mut self.agenda, dropped);
-        take_all(&mut self.facts, old);
+        take_all(&mut self.facts, tags);
         Ok(())
     }
 }

@@ -57,9 +57,11 @@ impl State {
         ensures next_id { result.next_id ≡ 1 }
         ensures next_tag { result.next_tag ≡ 1 }
     {
+        let facts = FactStore::new(alloc);
+        let expiries = DueQueue::new(alloc);
         State {
-            facts: FactStore::new(alloc),
-            expiries: DueQueue::new(alloc),
+            facts,
+            expiries,
             clock: 0,
             course: Course::new(alloc),
             agenda,

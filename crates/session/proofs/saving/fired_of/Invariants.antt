@@ -4,6 +4,6 @@ use Rattle.session.proofs.saving.fired_of.Given as goal
 
 abbrev pub invariant-loop-matched : goal.invariant-loop-matched
 invariant-loop-matched l = record {
-  all : list_map match_fired l.fired.items ++ l.matched-iterator.rest.items ≡ l.fn.agenda.fired;
-  order : IsStrictlySortedBy match_cmp l.fn.agenda.fired;
+  all : list_map match_fired l.fired.items ++ l.matched-iterator.rest.items ≡ l.agenda.fired;
+  order : IsStrictlySortedBy match_cmp l.agenda.fired;
 }

@@ -26,7 +26,7 @@ returns-then-not-is_empty-clause-unfit c unfit owners own =
     let p = c.args.setting.now.program in
     let image = c.args.image in
     let kept = c.in_ok-kept.kept in
-    let keys = c.in_ok-retention.old.keys in
+    let keys = c.in_ok-old.old.keys in
     let same : to_z w64 (of_z w64 image.clock) ≡ image.clock = clock_same image.clock c.requires.plain.lawful.clock_low c.requires.plain.lawful.clock_high in
     let course : c.in_ok-course.course ≡ record { last_starts = image.last_starts; promises = image.promises; begun = image.begun } =
     c.in_ok-course.ensures ∙ ap (λ (ls : List ℤ). record { last_starts = ls; promises = c.as_slice-2.result.now; begun = image.begun }) c.as_slice.ensures
@@ -35,9 +35,9 @@ returns-then-not-is_empty-clause-unfit c unfit owners own =
     let are =
     are_of_image c.args.setting.now image c.requires.plain c.moment-moment.result c.in_ok-course.course _ c.moment-moment.ensures.clock same c.moment-moment.ensures.last_starts c.moment-moment.ensures.promises course
     c.as_slice-3.result.now c.as_slice-3.ensures c.as_slice-4.result.now c.as_slice-4.ensures kept.facts held in
-    let passes : PassesLives image.clock (is_tag_among []) (is_named c.in_ok-net.agenda) kept.retention c.in_ok-retention.retention (has_listed_tag keys) = simp (same, c.agenda-2.ensures, c.in_ok-agenda.ensures) at c.in_ok-retention.ensures.passes in
+    let passes : PassesLives image.clock (is_tag_among []) (is_named c.in_ok-net.agenda) kept.retention c.past.new.self (has_listed_tag keys) = simp same at c.in_ok-old.ensures.passes in
     let some : length keys ≡ 0 → ⊥ = search rules in
-    old_refuses p c.args.setting.now.lives image kept.facts kept.expiries kept.retention c.in_ok-retention.retention c.in_ok-net.agenda (has_listed_tag keys) held c.in_ok-kept.ensures.held
+    old_refuses p c.args.setting.now.lives image kept.facts kept.expiries kept.retention c.past.new.self c.in_ok-net.agenda (has_listed_tag keys) held c.in_ok-kept.ensures.held
     passes c.in_ok-net.net (c.in_ok-net.ensures.matched image are) c.requires.plain (some_key keys some) owners own
 
 pub invariant_of-state : goal.invariant_of-state
@@ -50,8 +50,8 @@ returns-clause-restored c owners own =
     let p = c.args.setting.now.program in
     let image = c.args.image in
     let kept = c.in_ok-kept.kept in
-    let keys = c.in_ok-retention.old.keys in
-    let marks = c.in_ok-agenda.agenda in
+    let keys = c.in_ok-old.old.keys in
+    let marks = c.in_ok-net.agenda in
     let same : to_z w64 (of_z w64 image.clock) ≡ image.clock = clock_same image.clock c.requires.plain.lawful.clock_low c.requires.plain.lawful.clock_high in
     let course : c.in_ok-course.course ≡ record { last_starts = image.last_starts; promises = image.promises; begun = image.begun } =
     c.in_ok-course.ensures ∙ ap (λ (ls : List ℤ). record { last_starts = ls; promises = c.as_slice-2.result.now; begun = image.begun }) c.as_slice.ensures
@@ -60,8 +60,8 @@ returns-clause-restored c owners own =
     let are =
     are_of_image c.args.setting.now image c.requires.plain c.moment-moment.result c.in_ok-course.course _ c.moment-moment.ensures.clock same c.moment-moment.ensures.last_starts c.moment-moment.ensures.promises course
     c.as_slice-3.result.now c.as_slice-3.ensures c.as_slice-4.result.now c.as_slice-4.ensures kept.facts held in
-    let passes : PassesLives image.clock (is_tag_among []) (is_named marks) kept.retention c.in_ok-retention.retention (has_listed_tag keys) = simp (same, c.agenda-2.ensures) at c.in_ok-retention.ensures.passes in
+    let passes : PassesLives image.clock (is_tag_among []) (is_named marks) kept.retention c.past.new.self (has_listed_tag keys) = simp same at c.in_ok-old.ensures.passes in
     let none : length keys ≡ 0 = search rules in
-    let matched = subst (λ (a : Marks). IsMatched p image c.in_ok-net.net a) (sym c.in_ok-agenda.ensures) (c.in_ok-net.ensures.matched image are) in
-    restored_is c.args.setting.now c.requires.runs image c.requires.plain owners own c.in_ok-net.net kept.expiries kept.retention c.in_ok-retention.retention marks keys matched passes (no_keys keys none)
+    let matched = c.in_ok-net.ensures.matched image are in
+    restored_is c.args.setting.now c.requires.runs image c.requires.plain owners own c.in_ok-net.net kept.expiries kept.retention c.past.new.self marks keys matched passes (no_keys keys none)
     kept.facts _ c.in_ok-course.course held c.in_ok-kept.ensures.held same course

@@ -9,7 +9,7 @@ returns-clause-lines c w s =
     let here : Standing c.args.self.setting m k w = subst (λ (n : Memory). Standing c.args.self.setting n k w) (sym c.deref_mut.ensures.value) s in
     let z = c.setting-inside.result.now in
     let same = c.setting-inside.ensures.same in
-    let taken = simp c.new-lines.ensures.items at c.in_ok-state.ensures.lines in
+    let taken = simp c.new-lines.ensures.items at c.in_ok-apply.ensures.lines in
     c.from_vec.ensures
     ∙ change_lines z m k c.setting-inside.ensures.runs c.args.change.now c.in_ok-asked.asked c.in_ok-asked.ensures w (subst (λ (x : Setting). Standing x m k w) (sym same) here) c.apply.new.lines.items taken
     ∙ ap (λ (x : Setting). (gives x.program w c.args.change.now).0) same
@@ -21,8 +21,8 @@ returns-clause-next c w s =
     let here : Standing c.args.self.setting m k w = subst (λ (n : Memory). Standing c.args.self.setting n k w) (sym c.deref_mut.ensures.value) s in
     let z = c.setting-inside.result.now in
     let same = c.setting-inside.ensures.same in
-    subst (λ (x : Setting). Standing x c.apply.new.memory c.in_ok-state.state (gives x.program w c.args.change.now).1) same
-    (change_stands z m k c.setting-inside.ensures.runs c.args.change.now c.in_ok-asked.asked c.in_ok-asked.ensures w (subst (λ (x : Setting). Standing x m k w) (sym same) here) c.apply.new.memory c.in_ok-state.state c.in_ok-state.ensures.stands)
+    subst (λ (x : Setting). Standing x c.apply.new.memory c.apply.new.self (gives x.program w c.args.change.now).1) same
+    (change_stands z m k c.setting-inside.ensures.runs c.args.change.now c.in_ok-asked.asked c.in_ok-asked.ensures w (subst (λ (x : Setting). Standing x m k w) (sym same) here) c.apply.new.memory c.apply.new.self c.in_ok-apply.ensures.stands)
 
 pub returns-clause-known : goal.returns-clause-known
 returns-clause-known c =
@@ -30,7 +30,7 @@ returns-clause-known c =
     let known = asked_known z.program c.args.self.state.course.begun (newest c.args.self.state) c.args.change.now c.in_ok-asked.asked c.setting-inside.ensures.runs.runnable c.in_ok-asked.ensures in
     rw c.from_vec.ensures
     (subst (λ (x : Setting). are_known x.program c.apply.new.lines.items ≡ true) c.setting-inside.ensures.same
-    (c.in_ok-state.ensures.known known (ap (are_known z.program) c.new-lines.ensures.items)))
+    (c.in_ok-apply.ensures.known known (ap (are_known z.program) c.new-lines.ensures.items)))
 
 pub invariant_of-result : goal.invariant_of-result
 invariant_of-result c =
@@ -41,6 +41,6 @@ invariant_of-result c =
     let known = asked_known c.setting-inside.result.now.program c.args.self.state.course.begun (newest c.args.self.state) c.args.change.now c.in_ok-asked.asked c.setting-inside.ensures.runs.runnable c.in_ok-asked.ensures in
     record {
       sound =
-          subst (λ (x : Setting). ∥ IsSound x.program c.apply.new.memory c.in_ok-state.state ∥₁) same
-          (∥∥₁_map (subst (λ (x : Setting). ∥ IsSound x.program m k ∥₁) (sym same) sound) (c.in_ok-state.ensures.sound known));
+          subst (λ (x : Setting). ∥ IsSound x.program c.apply.new.memory c.apply.new.self ∥₁) same
+          (∥∥₁_map (subst (λ (x : Setting). ∥ IsSound x.program m k ∥₁) (sym same) sound) (c.in_ok-apply.ensures.sound known));
     }

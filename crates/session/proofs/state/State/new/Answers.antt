@@ -5,7 +5,7 @@ use Rattle.session.proofs.state.State.new.Goals as goal
 
 pub invariant_of-result : goal.invariant_of-result
 invariant_of-result c = record {
-  fresh = λ tag le. ap (λ m. map.get m tag) c.in_ok-facts.ensures ∙ get-empty nat_cmp tag;
+  fresh = λ tag le. ap (λ m. map.get m tag) c.new-facts.ensures ∙ get-empty nat_cmp tag;
   untimed = λ tag le. ap (λ m. map.get m tag) c.new-expiries.ensures ∙ get-empty nat_cmp tag;
   ids = omega arith;
   clock_low = zero_clock.0;

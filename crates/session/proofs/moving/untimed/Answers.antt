@@ -1,5 +1,0 @@
-use Rattle.session_laws.proofs.Timers.{cancelled}
-use Rattle.session.proofs.moving.untimed.Goals as goal
-
-pub returns : goal.returns
-returns c other = cancelled c.args.expiries c.cancel.new.self c.args.tag.0 c.cancel.result c.cancel.ensures.found c.cancel.ensures.removed c.cancel.ensures.unchanged other

@@ -1,8 +1,0 @@
-use Rattle.session.proofs.Common.{◌≡◌, NoneGo, AreAdding}
-use Rattle.session.proofs.restoring.with_rows.Given as goal
-
-abbrev pub invariant-loop-change : goal.invariant-loop-change
-invariant-loop-change l = record {
-  saliences : l.agenda.saliences ≡ l.fn.agenda.saliences;
-  adding : NoneGo l.fn.changes.items → AreAdding l.fn.agenda l.fn.changes.items l.agenda l.change-iterator.rest.items;
-}

@@ -1,9 +1,0 @@
-use Rattle.session.proofs.Common.{IfOk-weaker, Retract, stepped}
-use Rattle.session_laws.proofs.Retracting.{retracts_forgotten}
-use Rattle.session.proofs.state.State.without_forgotten.Goals as goal
-
-pub returns-clause-stands : goal.returns-clause-stands
-returns-clause-stands c =
-    IfOk-weaker c.settled.result _ _ (λ t settles w st none law.
-    settles (stepped c.args.setting.now.program w (Retract c.args.ty c.args.id))
-    (retracts_forgotten c.args.setting.now c.args.memory.now c.args.self w st c.requires.runs c.args.ty c.args.id none c.requires.absent law _)) c.settled.ensures.stands
