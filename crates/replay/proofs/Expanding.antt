@@ -1,8 +1,10 @@
 -- What a rule file reads as that is written out to another one: its front whole, and behind it what the checks of earlier items ask for.
 use Rattle.replay.proofs.Common.{◌≡◌, ◌≤◌, ◌<◌, ◌+◌, ◌-◌, ◌⊎◌, ◌++◌, ℕ, List, [], length, get_or, take, inl, inr, Result, Ok, Err, Some, sym, ap, ◌∙◌, refl, subst, arith}
-use Rattle.replay.proofs.Common.{append-nil, take_all, take-append-drop, flat_map, Written, Failure, failure_of, checked, checked_by, Program, obstacle, Refusal}
-use Rattle.replay.proofs.Common.{Accepted, Refused, plain_file, of_checked, of_checked_with, of_obstacle, with_titles}
+use Rattle.replay.proofs.Common.{◌||◌, ◌∷◌, append-nil, take_all, take-append-drop, flat_map, Written, Failure, failure_of, checked_by, Program, obstacle, Refusal}
+use Rattle.replay.proofs.Common.{Accepted, Refused, plain_file, of_checked, of_obstacle, with_titles}
+use Rattle.replay.specs.Refusals.{of_checked_with}
 use Rattle.std.specs.Prelude.{drop}
+use Rattle.drl_check.specs.Outcomes.{checked}
 use Rattle.std.proofs.lemmas.List.{get_or_append_left}
 use Rattle.std.proofs.lemmas.Grind.{flat_map-append}
 use Rattle.fx_base.proofs.Sequences.{drop_past}
@@ -32,6 +34,10 @@ by_whole file (Err failure) = refl
 fails_with : (file : File) (f : Failure) → failure_of file ≡ Some f → checked file ≡ Err f
 unfolding checked
 fails_with file f e = ap (λ o. checked_by o (program_of file)) e
+
+some_items : (items : List Item) → 0 < length (rules_of items) → 0 < length items
+some_items [] some = some
+some_items (item ∷ items) some = omega arith
 
 module _ (file : Written) (e : Expanded) (is : IsExpanded file e) where
   abbrev types : List WrittenType
@@ -72,10 +78,12 @@ module _ (file : Written) (e : Expanded) (is : IsExpanded file e) where
   watched_alike : (name : List ℕ) → is_among (watched_names (front ++ rest)) name ≡ is_among (watched_names (front ++ other)) name
   watched_alike name = watched_append types name front rest ∙ ap (λ b. is_among (watched_names front) name || b) (same_watched types name behind) ∙ sym (watched_append types name front other)
 
+  many_rules : 256 < length e.titles → 256 < length (rules_of front)
+  many_rules many = let n : length e.titles ≡ length (rules_of front) = ap length is.titles_of_rules ∙ sym (as_many_titles types before) in omega (arith, n, many)
+
   failing : 256 < length e.titles → Both (length front) (failure_of (plain_file file)) (failure_of e.file)
   failing many =
-      let n : length e.titles ≡ length (rules_of front) = ap length is.titles_of_rules ∙ sym (as_many_titles types before) in
-      let found = first_alike front rest other types_alike watched_alike (omega (arith, n, many)) in
+      let found = first_alike front rest other types_alike watched_alike (many_rules many) in
       (found.0, ap (λ (items : List Item). failure_of (record { items = items })) in_parts ∙ found.1, ap (λ (items : List Item). failure_of (record { items = items })) is.items ∙ found.2, found.3)
 
   -- an item of the front comes from the same item
@@ -91,13 +99,11 @@ module _ (file : Written) (e : Expanded) (is : IsExpanded file e) where
   front_of many =
       let found = failing many in
       let f : Failure = found.0 in
-      let some = length-titles many in
-      ap (of_checked file) (fails_with (plain_file file) f found.1) ∙ ap (λ n. Refused (record { item = n; line = f.line; code = Checked f.code })) (from_front (within_32_bits f.number - 1) (omega (arith, found.3, some)))
+      let more = many_rules many in
+      let some : 0 < length front = some_items front (omega (arith, more)) in
+      ap (of_checked file) (fails_with (plain_file file) f found.1)
+      ∙ ap (λ n. Refused (record { item = n; line = f.line; code = Checked f.code })) (from_front (within_32_bits f.number - 1) (omega (arith, found.3, some)))
       ∙ ap (of_checked_with e.titles e.origins) (sym (fails_with e.file f found.2))
-    where
-      length-titles : 256 < length e.titles → 0 < length front
-      length-titles many = 
-        let n : length e.titles ≡ length (rules_of front) = ap length is.titles_of_rules ∙ sym (as_many_titles types before) in some_items front (omega (arith, n, many))
 
   by_ends : (length file.items ≤ e.front) ⊎ (256 < length e.titles) → of_checked file (checked (plain_file file)) ≡ of_checked_with e.titles e.origins (checked e.file)
   by_ends (inl few) = all_of few

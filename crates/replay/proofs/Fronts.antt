@@ -1,8 +1,8 @@
 -- Of a file with more rules than a file may have an item of its front fails a check first, one up to the 257th rule: what stands behind tells nothing but
 -- the types that are declared and those that are watched.
-use Rattle.replay.proofs.Common.{◌≡◌, ◌≤◌, ◌<◌, ◌+◌, ◌++◌, ◌∷◌, ◌&&◌, ◌×◌, ◌||◌, ℕ, Bool, true, false, List, [], length, Option, Some, None, refl, sym, ap, ◌∙◌, subst}
+use Rattle.replay.proofs.Common.{◌≡◌, ◌≤◌, ◌<◌, ◌+◌, ◌++◌, ◌∷◌, ◌&&◌, ◌||◌, ℕ, Bool, true, false, List, [], length, Option, Some, None, refl, sym, ap, ◌∙◌, subst}
 use Rattle.replay.proofs.Common.{arith, append_assoc, length-append, list_any, Failure, Program, nat_lt, if◌then◌else◌}
-use Rattle.std.specs.Prelude.{not}
+use Rattle.std.specs.Prelude.{drop, not}
 use Rattle.std.proofs.lemmas.Bool.Decides.{nat_tests}
 use Rattle.drl_expr.specs.Words.{is_among}
 use Rattle.drl_grammar.specs.declared.action.ActTree.{ActTree}
@@ -18,8 +18,10 @@ use Rattle.drl_sight.specs.EntryPoints.{declared_entries, entry_names}
 use Rattle.drl_sight.specs.Observed.{is_event_among, watched_names}
 use Rattle.drl_sight.specs.Sight.{Sight, Meaning, of_fact, of_field, of_result, meaning_of, sight_of_actions}
 use Rattle.drl_program.specs.Programs.{types_alone}
+use Rattle.drl_limits.specs.Limits.{has_few_entries, rule_within}
 use Rattle.drl_check.specs.declared.fault.CheckCode.{CheckCode}
-use Rattle.drl_check.specs.Checks.{codes_in_order, drops_observed, failure_at, failure_from, first_code}
+use Rattle.drl_check.specs.declared.fault.CheckCode.TheVariants.{TwiceDeclared, LimitPassed}
+use Rattle.drl_check.specs.Checks.{codes_in_order, drops_observed, fails, failure_at, failure_from, first_code}
 use Rattle.drl_check.specs.Events.{is_observed_meant, retracts_observed}
 use Rattle.drl_check.specs.Failing.{first_failing}
 use Rattle.drl_check.proofs.Failures.{failing_is, rules_next}
@@ -62,18 +64,25 @@ module _ (w v : List (List ℕ)) (same : (name : List ℕ) → is_among w name �
 abbrev pub Both : ℕ → Option Failure → Option Failure → Type 0
 Both most o p = (f : Failure) × (o ≡ Some f) × (p ≡ Some f) × (f.number ≤ most)
 
-second_passed : (a b : Bool) (x y : CheckCode) (o : Option CheckCode) → (if a then Some x else if b then Some y else o) ≡ None → b ≡ false
-second_passed true b x y o e = absurd cc
-second_passed false true x y o e = absurd cc
-second_passed false false x y o e = refl
+second_passed : (c d : CheckCode) (codes : List CheckCode) (all before : List Item) (b : Body) → first_code (c ∷ (d ∷ codes)) all before b ≡ None → fails d all before b ≡ false
+second_passed c d codes all before b e = by (fails c all before b) (fails d all before b) e
+  where
+    by : (x y : Bool) → (if x then Some c else if y then Some d else first_code codes all before b) ≡ None → y ≡ false
+    by true y e = absurd cc
+    by false true e = absurd cc
+    by false false e = refl
 
-first_of_both : (n : ℕ) (b : Bool) → not (nat_lt n 256 && b) ≡ false → n < 256
-first_of_both n true e = Prim.grind (arith, nat_tests)
-first_of_both n false e = Prim.grind (arith, nat_tests)
+first_of_three : (n : ℕ) (b c : Bool) → not (nat_lt n 256 && b && c) ≡ false → n < 256
+first_of_three n true true e = Prim.grind (arith, nat_tests)
+first_of_three n true false e = Prim.grind (arith, nat_tests)
+first_of_three n false c e = Prim.grind (arith, nat_tests)
 
 -- behind an item that passes all checks there are at most 256 rules
 few_stay : (all before : List Item) (b : Body) → first_code codes_in_order all before b ≡ None → length (rules_of before) ≤ 256 → length (rules_of before) + length (rule_in b) ≤ 256
-few_stay all before (body.Rule r) passed few = let less : length (rules_of before) < 256 = first_of_both (length (rules_of before)) _ (second_passed _ _ _ _ _ passed) in omega (arith, less)
+few_stay all before (body.Rule r) passed few =
+    let less : length (rules_of before) < 256 =
+    first_of_three (length (rules_of before)) (has_few_entries (entry_names before) (body.Rule r)) (rule_within r) (second_passed TwiceDeclared LimitPassed (drop 2 codes_in_order) all before (body.Rule r) passed) in
+    omega (arith, less)
 few_stay all before (body.Package path) passed few = omega (arith, few)
 few_stay all before (body.Import path star) passed few = omega (arith, few)
 few_stay all before (body.Dialect text) passed few = omega (arith, few)
@@ -126,4 +135,6 @@ module _ (all whole : List Item) (types : types_of all ≡ types_of whole) (watc
 pub first_alike : (front rest other : List Item) → types_of (front ++ rest) ≡ types_of (front ++ other)
     → ((name : List ℕ) → is_among (watched_names (front ++ rest)) name ≡ is_among (watched_names (front ++ other)) name) → 256 < length (rules_of front)
     → Both (length front) (failure_from (front ++ rest) [] (front ++ rest)) (failure_from (front ++ other) [] (front ++ other))
-first_alike front rest other types watched many = alike (front ++ rest) (front ++ other) types watched rest other [] front (omega arith) many
+first_alike front rest other types watched many =
+    let found = alike (front ++ rest) (front ++ other) types watched rest other [] front (omega arith) (omega (arith, many)) in
+    (found.0, found.1, found.2, omega (arith, found.3))

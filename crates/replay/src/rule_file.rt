@@ -207,7 +207,7 @@ fn renamed(alloc: Global, rules: Vec<Rule>, titles: &[Text]) -> Result<Vec<Rule>
 }
 
 // What a file is that is written out to this one.
-#[tactic(auto, using(crate::proofs::Expanding::accepted_of, crate::proofs::Expanding::refused_of))]
+#[tactic(auto, using(crate::proofs::Expanding::accepted_of))]
 fn read_expanded(alloc: Global, expanded: &Expanded) -> Result<Reading, NoMemory>
     ensures reading { IfOk result (λ found. (file : WrittenFile) → IsExpanded file expanded.now → found ≡ of_obstacle file (obstacle file.items)) }
     ensures sound { IfOk result IsSoundReading }
