@@ -1,5 +1,5 @@
 -- What a rule file reads as that is written out to another one: its front whole, and behind it what the checks of earlier items ask for.
-use Rattle.replay.proofs.Common.{◌≡◌, ◌≤◌, ◌<◌, ◌+◌, ◌-◌, ◌⊎◌, ◌++◌, ℕ, List, [], length, get_or, take, inl, inr, Result, Ok, Err, Some, sym, ap, ◌∙◌, refl, subst, arith}
+use Rattle.replay.proofs.Common.{◌≡◌, ◌≤◌, ◌<◌, ◌+◌, ◌-◌, ◌⊎◌, ◌++◌, ℕ, List, [], length, get_or, take, inl, inr, Result, Ok, Err, Some, sym, ap, ◌∙◌, refl, arith}
 use Rattle.replay.proofs.Common.{◌||◌, ◌∷◌, append-nil, take_all, take-append-drop, flat_map, Written, Failure, failure_of, checked_by, Program, obstacle, Refusal}
 use Rattle.replay.proofs.Common.{Accepted, Refused, plain_file, of_checked, of_obstacle, with_titles}
 use Rattle.replay.specs.Refusals.{of_checked_with}

@@ -1,7 +1,7 @@
 -- Of a file with more rules than a file may have an item of its front fails a check first, one up to the 257th rule: what stands behind tells nothing but
 -- the types that are declared and those that are watched.
-use Rattle.replay.proofs.Common.{◌≡◌, ◌≤◌, ◌<◌, ◌+◌, ◌++◌, ◌∷◌, ◌&&◌, ◌||◌, ℕ, Bool, true, false, List, [], length, Option, Some, None, refl, sym, ap, ◌∙◌, subst}
-use Rattle.replay.proofs.Common.{arith, append_assoc, length-append, list_any, Failure, Program, nat_lt, if◌then◌else◌}
+use Rattle.replay.proofs.Common.{◌≡◌, ◌≤◌, ◌<◌, ◌+◌, ◌++◌, ◌∷◌, ◌&&◌, ◌||◌, ℕ, Bool, true, false, List, [], length, Option, Some, None, refl, sym, ap, ◌∙◌}
+use Rattle.replay.proofs.Common.{arith, length-append, list_any, Failure, Program, nat_lt, if◌then◌else◌}
 use Rattle.std.specs.Prelude.{drop, not}
 use Rattle.std.proofs.lemmas.Bool.Decides.{nat_tests}
 use Rattle.drl_expr.specs.Words.{is_among}
@@ -10,7 +10,6 @@ use Rattle.drl_grammar.specs.declared.action.ActTree.TheVariants as action
 use Rattle.drl_grammar.specs.declared.file.Body.{Body}
 use Rattle.drl_grammar.specs.declared.file.Body.TheVariants as body
 use Rattle.drl_grammar.specs.declared.file.Item.{Item}
-use Rattle.drl_grammar.specs.declared.file.RuleTree.{RuleTree}
 use Rattle.drl_grammar.specs.declared.file.TypeTree.{TypeTree}
 use Rattle.drl_sight.specs.Annotations.{is_tree_of_events}
 use Rattle.drl_sight.specs.Declarations.{types_of, rules_of, type_names, rule_names, rule_in}
@@ -104,17 +103,15 @@ module _ (all whole : List Item) (types : types_of all ≡ types_of whole) (watc
         → (o ≡ None → Both (length (before ++ item ∷ []) + length items) (failure_from all (before ++ item ∷ []) (items ++ rest)) (failure_from whole (before ++ item ∷ []) (items ++ other)))
         → Both (length before + length (item ∷ items)) (failure_from all before (item ∷ (items ++ rest))) (failure_from whole before (item ∷ (items ++ other)))
     unfolding failure_from
-    one_more before items item (Some code) e later =
-        (
-          record { number = length before + 1; line = item.line; code = code },
-          ap (λ o. failure_at (length before + 1) item.line o (failure_from all (before ++ item ∷ []) (items ++ rest))) e,
-          ap (λ o. failure_at (length before + 1) item.line o (failure_from whole (before ++ item ∷ []) (items ++ other))) (sym (same_code before item.body) ∙ e),
-          omega arith,
-        )
+    one_more before items item (Some code) e later = (
+      record { number = length before + 1; line = item.line; code = code },
+      ap (λ o. failure_at (length before + 1) item.line o (failure_from all (before ++ item ∷ []) (items ++ rest))) e,
+      ap (λ o. failure_at (length before + 1) item.line o (failure_from whole (before ++ item ∷ []) (items ++ other))) (sym (same_code before item.body) ∙ e),
+      omega arith,
+    )
     one_more before items item None e later =
         let found = later refl in
-        let n = length-append before (item ∷ []) in
-        (
+        let n = length-append before (item ∷ []) in (
           found.0,
           ap (λ o. failure_at (length before + 1) item.line o (failure_from all (before ++ item ∷ []) (items ++ rest))) e ∙ found.1,
           ap (λ o. failure_at (length before + 1) item.line o (failure_from whole (before ++ item ∷ []) (items ++ other))) (sym (same_code before item.body) ∙ e) ∙ found.2,
