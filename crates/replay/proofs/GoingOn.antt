@@ -1,6 +1,6 @@
 -- The run behind the image of an earlier one is the rest of the run of both scripts as one, and what is saved of it the image of that.
 use Rattle.replay.proofs.Common.{◌≡◌, inl, inr, ◌≤◌, ◌++◌, ℕ, List, Option, Some, None, refl, sym, ap, subst, ◌∙◌, arith, lines_of, Image, RunPart, LifeTable, Program, AreLives}
-use Rattle.replay.proofs.Common.{World, empty_world, Gives, Fires, Counts, first_part, run_part_at, run_on, Outcome, RunSetting, RunState, setting_of, then_run, whole_run}
+use Rattle.replay.proofs.Common.{empty_world, Gives, Fires, Counts, first_part, run_part_at, run_on, Outcome, RunSetting, RunState, setting_of, then_run, whole_run}
 use Rattle.replay.proofs.Common.{first_state, script_joined, whole_behind, GoesOn, IsImageOfRun, IsRest, Report, Reports, IsToldBehind, IsReport, IsRunBehind}
 use Rattle.replay.proofs.Common.{IsRunStatus, IsSaved, IsSavedBehind, IsSaveStatus, outcome_report, run_status, Wanted, usage_line, refuses, refuses_checkpoint, runs}
 use Rattle.replay.proofs.Common.{resumes, saves, saves_on, accepts, tells_lives, proves, sums_up}

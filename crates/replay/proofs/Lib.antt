@@ -5,6 +5,7 @@ pub mod Reports
 pub mod LoadFile
 pub mod RuleFileLaws
 pub mod Titles
+pub mod Fronts
 pub mod Expanding
 pub mod Tables
 pub mod LivesText

@@ -1,6 +1,6 @@
 -- A program has at most one table of lives, and so at most one report.
 use Rattle.replay.proofs.Common.{◌≡◌, ◌⊎◌, inl, inr, ℕ, zero, suc, ℤ, pos, List, [], ◌∷◌, length, Option, Some, None, refl, sym, ap, subst, ◌∙◌, arith}
-use Rattle.replay.proofs.Common.{slice_get, ◌≤ℤ◌, lines_of, Life, LifeTable, Program, IsLifeOf, AreLives, Gives, Fires, Counts, RunState, setting_of, whole_run}
+use Rattle.replay.proofs.Common.{slice_get, lines_of, Life, LifeTable, Program, IsLifeOf, AreLives, Gives, Fires, Counts, RunState, setting_of, whole_run}
 use Rattle.replay.proofs.Common.{Image, RunPart, World, first_part, Report, IsToldBehind, IsBehindSome, IsDefinite, IsReport, IsSaved, image_report}
 use Rattle.replay.proofs.Common.{outcome_report, summary_report, lives_text, Wanted, usage_line, refuses, refuses_checkpoint, runs, resumes, saves, saves_on}
 use Rattle.replay.proofs.Common.{accepts, tells_lives, proves, sums_up}

@@ -1,6 +1,6 @@
 -- What was saved is taken as a checkpoint.
 use Rattle.replay.proofs.Common.{◌≡◌, inl, inr, ◌≤◌, ◌^◌, ◌++◌, ◌&&◌, ℕ, Bool, true, false, List, [], ◌∷◌, drop, length, nat_lt, Option, Some, None, refl, sym}
-use Rattle.replay.proofs.Common.{ap, subst, ◌∙◌, arith, nat_tests, append_assoc, append-nil, bytes_eq, if◌then◌else◌, append, lines_of, Image}
+use Rattle.replay.proofs.Common.{ap, subst, ◌∙◌, arith, nat_tests, append_assoc, append-nil, bytes_eq, if◌then◌else◌, lines_of, Image}
 use Rattle.replay.proofs.Common.{Script, LifeTable, Program, AreLives, Gives, Fires, Counts, first_part, run_part_at, Outcome, RunState, setting_of, whole_run}
 use Rattle.replay.proofs.Common.{can_go_on, has_image, Unfit, TooLong, Report, Reports, IsReport, IsSaved}
 use Rattle.replay.proofs.Common.{checkpoint_report, image_report, run_status, Wanted, usage_line, refuses, refuses_checkpoint, runs, resumes, saves, saves_on}

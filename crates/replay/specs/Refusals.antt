@@ -43,6 +43,11 @@ abbrev pub of_checked : Written → Result Program Failure → Reading
 of_checked file (Ok program) = Accepted (with_titles (titles file.items) program)
 of_checked file (Err failure) = Refused (record { item = origin_of file failure.number; line = failure.line; code = code.Checked failure.code })
 
+-- the same, given for each rule of the plain file the name of the rule that it comes from, and for each of its items the number of the item that it comes from
+abbrev pub of_checked_with : List (List ℕ) → List ℕ → Result Program Failure → Reading
+of_checked_with names origins (Ok program) = Accepted (with_titles names program)
+of_checked_with names origins (Err failure) = Refused (record { item = slice_index_or origins (within_32_bits failure.number - 1) 0; line = failure.line; code = code.Checked failure.code })
+
 -- a file that can be written out, or the first item that cannot
 abbrev pub of_obstacle : Written → Option Obstacle → Reading
 of_obstacle file None = of_checked file (checked (plain_file file))

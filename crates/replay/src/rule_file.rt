@@ -4,12 +4,11 @@ ghost use Rattle.drl_parse.specs.Parsed.{Parsed, GivesParsed as GivesFile};
 ghost use Rattle.drl_check.specs.Answers.{FailsCheck};
 ghost use Rattle.drl_check.specs.Checks.{Failure};
 ghost use Rattle.drl_grammar.specs.declared.written.Written.{Written as WrittenFile};
-ghost use Rattle.subrules.specs.Expanded.{origins as origins_of};
 ghost use Rattle.subrules.specs.Faults.{obstacle};
 ghost use Rattle.subrules.specs.Outcomes.{IsExpanded, IsRefusal};
 ghost use Rattle.rule_world.specs.Programs.{IsRunnable};
 ghost use Rattle.rule_model.specs.declared.program.Program.{Program as ProgramData};
-ghost use Rattle.replay.specs.Refusals.{of_parsed, of_obstacle, of_checked, reading, IsRefusedReading, IsSoundReading};
+ghost use Rattle.replay.specs.Refusals.{of_parsed, of_obstacle, of_checked_with, reading, IsRefusedReading, IsSoundReading};
 ghost use Rattle.drl_show.specs.Shown.{shown};
 ghost use Rattle.replay.specs.Checkpoints.{rules_shown};
 ghost use Rattle.replay.specs.Titles.{renamed, with_titles};
@@ -145,7 +144,7 @@ fn expand_refusal(fault: ExpandFault) -> Result<Refusal, NoMemory>
     }
 }
 
-// The number of the item from which an item of the plain file comes.
+// The number of the item from which an item of the plain file comes, of one of the front.
 fn origin(origins: &[u64], item: u32) -> u64
     ensures { result ≡ slice_index_or origins.now (item - 1) 0 }
 {
@@ -157,8 +156,8 @@ fn origin(origins: &[u64], item: u32) -> u64
 
 // The place and the code of a fault of the checks, of a file written out to one whose items come from these.
 fn check_refusal(fault: CheckFault, origins: &[u64]) -> Result<Refusal, NoMemory>
-    ensures told { IfOk result (λ refusal. (file : WrittenFile) (found : Result ProgramData Failure) → origins.now ≡ origins_of file.items → FailsCheck fault found
-        → of_checked file found ≡ Refused refusal) }
+    ensures told { IfOk result (λ refusal. (titles : List (List ℕ)) (found : Result ProgramData Failure) → FailsCheck fault found
+        → of_checked_with titles origins.now found ≡ Refused refusal) }
 {
     match fault {
         CheckFault::Refused { item, line, code } => Ok(Refusal {
@@ -208,7 +207,7 @@ fn renamed(alloc: Global, rules: Vec<Rule>, titles: &[Text]) -> Result<Vec<Rule>
 }
 
 // What a file is that is written out to this one.
-#[tactic(auto, using(crate::proofs::Expanding::accepted_of, crate::proofs::Expanding::refused_of))]
+#[tactic(auto, using(crate::proofs::Expanding::accepted_of))]
 fn read_expanded(alloc: Global, expanded: &Expanded) -> Result<Reading, NoMemory>
     ensures reading { IfOk result (λ found. (file : WrittenFile) → IsExpanded file expanded.now → found ≡ of_obstacle file (obstacle file.items)) }
     ensures sound { IfOk result IsSoundReading }

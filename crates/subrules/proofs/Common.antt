@@ -20,6 +20,7 @@ pub use Rattle.drl_sight.specs.Names.{place_of_name}
 pub use Rattle.subrules.specs.Expanded.{at_line, has_word, inherited_fields, inherited_metas, meta_word, numbered_rules, origins_from, plain_items, plain_type}
 pub use Rattle.subrules.specs.Expanded.{titles_in, type_behind}
 pub use Rattle.subrules.specs.Faults.{are_too_many, has_many_fields, is_over_subtypes, is_varied, number_of_fields, obstacle_from}
+pub use Rattle.subrules.specs.Front.{open_at_end, short_items, watching}
 pub use Rattle.subrules.specs.Hierarchy.{IsAbove, above, ancestors, extended_by, first_names, goes_on, goes_round, has_subtypes, is_below, is_other, is_subtype}
 pub use Rattle.subrules.specs.Hierarchy.{is_type_of_name, kinds_of, parent_of, written_type_named, written_type_names, written_types_of}
 pub use Rattle.subrules.specs.Known.{AreKnown, IsCount, IsHeir, IsLeading, subtype_at, subtype_of}

@@ -1,5 +1,5 @@
 -- What a type inherits by the type that it extends, once that has all that it inherits.
-use Rattle.subrules.proofs.Common.{◌≡◌, ◌+◌, ◌&&◌, ◌||◌, not, ℕ, Bool, true, false, cond, List, [], ◌∷◌, ◌++◌, length, map, Option, Some, None, slice_get, refl}
+use Rattle.subrules.proofs.Common.{◌≡◌, ◌&&◌, ◌||◌, not, ℕ, Bool, true, false, cond, List, [], ◌∷◌, ◌++◌, length, map, Option, Some, None, slice_get, refl}
 use Rattle.subrules.proofs.Common.{sym, ap, ◌∙◌, append_assoc, filter, bytes_eq-Decides, WrittenType, above, goes_on, parent_of, has_word, meta_word}
 use Rattle.subrules.proofs.Common.{plain_type, type_behind, is_among, bytes_eq, AreKnown, IsHeir}
 use Rattle.subrules.specs.Expanded.{inherited_fields, inherited_metas}

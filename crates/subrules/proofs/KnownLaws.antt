@@ -1,5 +1,5 @@
 -- What is known of a type by what is known of the one that it extends.
-use Rattle.subrules.proofs.Common.{◌≡◌, ◌⊎◌, inl, inr, ◌+◌, ◌&&◌, ◌||◌, ℕ, min, nat_lt, Bool, true, false, List, [], ◌∷◌, length, Option, Some, None, is_some}
+use Rattle.subrules.proofs.Common.{◌≡◌, ◌⊎◌, inl, inr, ◌+◌, ◌&&◌, ℕ, min, nat_lt, Bool, true, false, List, [], ◌∷◌, length, Option, Some, None, is_some}
 use Rattle.subrules.proofs.Common.{slice_get, refl, sym, ap, ◌∙◌, arith, option_and_then, zero, suc, ◌++◌, map, cond, option_map, list_any, filter, flat_map}
 use Rattle.subrules.proofs.Common.{WrittenType, above, ancestors, goes_on, parent_of, is_type_of_name, written_type_names, written_type_named, is_below}
 use Rattle.subrules.proofs.Common.{is_other, is_subtype, number_of_fields, has_many_fields, same_Some, none-some, slice_get-map, place_of_name, AreKnown}

@@ -7,3 +7,4 @@ pub mod KindLaws
 pub mod KnownLaws
 pub mod HeirLaws
 pub mod OneWay
+pub mod FrontLaws

@@ -5,6 +5,7 @@ pub mod Ways
 pub mod Nesting
 pub mod Sizes
 pub mod Expanded
+pub mod Front
 pub mod Faults
 pub mod CodeNames
 pub mod Outcomes

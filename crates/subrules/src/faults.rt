@@ -16,7 +16,8 @@ use drl_sight::source_of;
 use fx_base::NoMemory;
 use std::alloc::Global;
 
-fn is_length(window: &Option<WindowTree>) -> bool
+/// Whether a window holds so many events.
+pub(crate) fn is_length(window: &Option<WindowTree>) -> bool
     ensures { result ≡ is_of_length window.now }
 {
     match window {

@@ -18,6 +18,7 @@ mod sizes;
 mod type_faults;
 mod types;
 mod varied;
+mod watchers;
 mod ways;
 
 pub use expanding::{Expanded, expand};

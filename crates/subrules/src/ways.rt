@@ -93,8 +93,8 @@ fn all_negated(
     Ok(way)
 }
 
-// The ways of a condition.
-fn choices_of(
+/// The ways of a condition.
+pub(crate) fn choices_of(
     alloc: Global,
     types: &Hierarchy,
     condition: &CondTree,
