@@ -10,7 +10,7 @@ use Rattle.replay.proofs.Common.{wanted_by, wanted_from, wanted_rules, wanted_by
 use Rattle.replay.proofs.Common.{MayRefuse}
 use Rattle.command_words.specs.Asked.{asked_by}
 use Rattle.script_run.specs.Run.{run as run_lines}
-use Rattle.script_run.proofs.Ahead.{run_ended, append_nothing}
+use Rattle.line_run.proofs.Ahead.{run_ended, append_nothing}
 use Rattle.script_run.proofs.Stops.{none_given}
 use Rattle.replay.specs.Wanted.{wanted, wanted_by_name, wanted_by_number}
 use Rattle.replay.proofs.Reports.{front_by, front_none}

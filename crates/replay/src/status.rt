@@ -1,6 +1,6 @@
 //! The statuses of the program.
 ghost use Rattle.std.specs.Prelude.{◌≡◌, ◌⊎◌, ◌≤◌};
-ghost use Rattle.script_run.specs.Turns.{ended_as};
+ghost use Rattle.line_run.specs.Turns.{ended_as};
 ghost use Rattle.replay.specs.Report.{run_status, fault_status};
 
 use engine::Engine;

@@ -5,7 +5,7 @@ use Rattle.script_run.proofs.Common.{onto_lines, none_left, then_fires, wants_on
 use Rattle.script_run.proofs.Common.{limit_text, has_fault, is_fault}
 use Rattle.engine.specs.declared.lines.Fired.TheVariants.{No, Yes}
 use Rattle.engine.specs.Answers.{FiringAnswers}
-use Rattle.script_run.specs.declared.turn.Turn.{Turn}
+use Rattle.line_run.specs.declared.turn.Turn.{Turn}
 use Rattle.script_run.specs.Firings.{firings}
 
 -- either of two, by the first

@@ -9,8 +9,9 @@ use Rattle.script_read.specs.declared.asked.Change.{Change as ScriptChange}
 use Rattle.script_read.specs.declared.asked.Command.{Command}
 use Rattle.script_read.specs.declared.asked.Command.TheVariants.{Change, Fire, Held}
 use Rattle.script_run.specs.Firings.{firings}
+use Rattle.line_run.specs.Run.{run as run_lines}
 use Rattle.script_run.specs.Run.{run, line_step}
-use Rattle.script_run.proofs.Ahead.{run_goes, run_stops}
+use Rattle.line_run.proofs.Ahead.{run_goes, run_stops}
 use Rattle.script_run.proofs.Joined.{no_more}
 
 module _ (setting : RunSetting) (Holds : World → Type 0)
@@ -71,11 +72,11 @@ module _ (setting : RunSetting) (Holds : World → Type 0)
   step_to number n w line h = if_step (nat_lt 65536 (length line)) _ _ h (if_step (is_line_blank line) _ _ h (asked_to number n w (asked line) h))
 
   pub run_keeps : (s t : RunState) (lines : List (List ℕ)) → Holds s.world → (run setting s lines).comes_to ≡ Some t → Holds t.world
-  unfolding run
+  unfolding run_lines
   run_keeps s t [] h e = let is : s ≡ t = same_Some s t e in rw (sym is) h
   run_keeps s t (x ∷ xs) h e = here (step_in setting s x) refl (step_to (s.progress.lines + 1) s.progress.left s.world x h) (λ u k f. run_keeps u t xs k f)
     where
       here : (step : LineEffect) → step_in setting s x ≡ step → StepsTo step
           → ((u : RunState) → Holds u.world → (run setting u xs).comes_to ≡ Some t → Holds t.world) → Holds t.world
-      here (goes_on done) is there rest = rest (state_after s done) there (sym (ap (λ (o : Outcome). o.comes_to) (run_goes setting s x done is xs)) ∙ e)
-      here (stops text) is there rest = absurd (no_more s t (sym (ap (λ (o : Outcome). o.comes_to) (run_stops setting s x text is xs)) ∙ e))
+      here (goes_on done) is there rest = rest (state_after s done) there (sym (ap (λ (o : Outcome). o.comes_to) (run_goes (step_in setting) s x done is xs)) ∙ e)
+      here (stops text) is there rest = absurd (no_more s t (sym (ap (λ (o : Outcome). o.comes_to) (run_stops (step_in setting) s x text is xs)) ∙ e))

@@ -10,8 +10,9 @@ use Rattle.script_read.specs.declared.asked.Command.{Command}
 use Rattle.script_read.specs.declared.asked.Command.TheVariants.{Change, Fire, Held}
 use Rattle.script_run.specs.Firings.{firings}
 use Rattle.script_run.specs.Limits.{with_limit, IsSameRun}
+use Rattle.line_run.specs.Run.{run as run_lines}
 use Rattle.script_run.specs.Run.{run, line_step}
-use Rattle.script_run.proofs.Ahead.{run_goes, run_stops}
+use Rattle.line_run.proofs.Ahead.{run_goes, run_stops}
 use Rattle.script_run.proofs.Joined.{no_more, run_within}
 
 -- ---- firings, of which so many and so many were left before
@@ -139,7 +140,7 @@ module _ (setting : RunSetting) (limit : ℕ) where
 
   runs_same : (lines : ℕ) (faulted : Bool) (w : World) (m n : ℕ) (xs : List (List ℕ))
       → SameEnds m n (run setting (at_left lines faulted w m) xs) (run other (at_left lines faulted w n) xs)
-  unfolding run
+  unfolding run_lines
   runs_same lines faulted w m n [] = at_ends lines faulted w m n
   runs_same lines faulted w m n (x ∷ xs) =
       here (step_in setting (at_left lines faulted w m) x) (step_in other (at_left lines faulted w n) x) refl refl (step_same (lines + 1) m n w x)
@@ -154,10 +155,10 @@ module _ (setting : RunSetting) (limit : ℕ) where
           let ends : SameEnds c.left d.left (run setting (state_after (at_left lines faulted w m) c) xs) (run other (state_after (at_left lines faulted w n) d) xs)
           = subst (λ (u : RunState). SameEnds c.left d.left (run setting (state_after (at_left lines faulted w m) c) xs) (run other u xs)) there
           (rest c.world (faulted || c.faulty) c.left d.left) in
-          rw (run_goes setting (at_left lines faulted w m) x c is xs, run_goes other (at_left lines faulted w n) x d also xs)
+          rw (run_goes (step_in setting) (at_left lines faulted w m) x c is xs, run_goes (step_in other) (at_left lines faulted w n) x d also xs)
           (behind m n c.left d.left c.text d.text (run setting (state_after (at_left lines faulted w m) c) xs) (run other (state_after (at_left lines faulted w n) d) xs) same.0 same.3 ends)
-      here (stops text) b is also same rest = λ s t e f. absurd (no_more s s (sym (ap comes_of (run_stops setting (at_left lines faulted w m) x text is xs)) ∙ e))
-      here (goes_on c) (stops text) is also same rest = λ s t e f. absurd (no_more s t (sym (ap comes_of (run_stops other (at_left lines faulted w n) x text also xs)) ∙ f))
+      here (stops text) b is also same rest = λ s t e f. absurd (no_more s s (sym (ap comes_of (run_stops (step_in setting) (at_left lines faulted w m) x text is xs)) ∙ e))
+      here (goes_on c) (stops text) is also same rest = λ s t e f. absurd (no_more s t (sym (ap comes_of (run_stops (step_in other) (at_left lines faulted w n) x text also xs)) ∙ f))
 
 made_is : (m n k l : ℕ) → m + l ≡ n + k → k ≤ m → l ≤ n → m - k ≡ n - l
 made_is m n k l sum low less = grind (arith, sum, low, less)

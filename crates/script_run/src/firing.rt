@@ -2,12 +2,13 @@ ghost use Rattle.std.specs.Prelude.{◌≡◌, ◌+◌, ◌*◌, ◌<◌, ◌≤
 ghost use Rattle.rule_world.specs.Worlds.{World};
 ghost use Rattle.script_run.specs.Firings.{wants_one, one_less, firings};
 ghost use Rattle.script_run.specs.Run.{setting_of, fire_step};
-ghost use Rattle.script_run.specs.Turns.{Does, EndsFirings, Within};
+ghost use Rattle.line_run.specs.Turns.{Does};
+ghost use Rattle.script_run.specs.Turns.{EndsFirings, Within};
 
 use crate::text::{push_limit, push_lines};
-use crate::turn::Turn;
 use engine::{Engine, Fired};
 use fx_base::NoMemory;
+use line_run::Turn;
 use std::alloc::Global;
 
 // No firing is left: appends the line of the limit where a match is pending.

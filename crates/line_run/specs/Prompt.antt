@@ -2,7 +2,7 @@
 use Rattle.std.specs.Prelude.{◌≡◌, ◌==◌, ℕ, Bool, true, false, List, [], ◌∷◌, Option, if◌then◌else◌}
 use Rattle.fx_io.specs.Outside.{append}
 use Rattle.rule_world.specs.Worlds.{World}
-use Rattle.script_run.specs.Run.{Outcome}
+use Rattle.line_run.specs.Run.{Outcome}
 
 -- what is written of what lines print: nothing where the run is silent
 abbrev pub said : Bool → List ℕ → List ℕ

@@ -1,7 +1,7 @@
 -- Why a run stops before the end of the script.
 use Rattle.fx_io.specs.declared.line.LineFault.{LineFault}
-use Rattle.script_run.specs.declared.fault.RunFault.{RunFault}
-use Rattle.script_run.specs.declared.fault.RunFault.TheVariants.{ReadFault, ScriptLong, NoMemory}
+use Rattle.line_run.specs.declared.fault.RunFault.{RunFault}
+use Rattle.line_run.specs.declared.fault.RunFault.TheVariants.{ReadFault, ScriptLong, NoMemory}
 use Rattle.fx_io.specs.declared.line.LineFault.TheVariants as line
 
 abbrev pub run_fault : LineFault → RunFault

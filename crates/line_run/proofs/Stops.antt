@@ -1,14 +1,14 @@
 -- Why a run stops, and how many bytes it took.
-use Rattle.script_run.proofs.Common.{◌≡◌, ◌≢◌, ◌==◌, ◌++◌, false, ◌<◌, ◌≤◌, ◌-◌, ◌^◌, ℕ, List, Option, Result, Ok, Err, sym, ap, ◌∙◌, arith, IsErr, IsErrAnd}
-use Rattle.script_run.proofs.Common.{list_any-append, prepend, count_after, IsExhausted, has_end, HasNoEnd, Answers, LeavesNoEnd, GivesLine, Line, Whole, Long}
-use Rattle.script_run.proofs.Common.{End, TakesScript, HasAtMost}
+use Rattle.line_run.proofs.Common.{◌≡◌, ◌≢◌, ◌==◌, ◌++◌, false, ◌<◌, ◌≤◌, ◌+◌, ◌-◌, ℕ, List, [], Option, Result, Ok, Err, refl, sym, ap, ◌∙◌, arith, IsErr, IsErrAnd}
+use Rattle.line_run.proofs.Common.{list_any-append, prepend, count_after, IsExhausted, has_end, HasNoEnd, Answers, LeavesNoEnd, GivesLine, Line, Whole, Long}
+use Rattle.line_run.proofs.Common.{End, TakesUpTo, HasAtMost, to_come}
 use Rattle.std.proofs.lemmas.Bool.{or_parts}
-use Rattle.fx_io.specs.Answers.{Stops}
+use Rattle.fx_io.specs.Answers.{Stops, UsesBytesUp}
 use Rattle.fx_io.specs.declared.line.LineFault.{LineFault}
 use Rattle.fx_io.specs.declared.line.LineFault.TheVariants.{ReadFault, ScriptLong, NoMemory}
-use Rattle.script_run.specs.Faults.{run_fault}
-use Rattle.script_run.specs.declared.fault.RunFault.{RunFault}
-use Rattle.script_run.specs.declared.fault.RunFault.TheVariants.{ScriptLong as TooLong, ReadFault as RunReadFault, NoMemory as RunNoMemory}
+use Rattle.line_run.specs.Faults.{run_fault}
+use Rattle.line_run.specs.declared.fault.RunFault.{RunFault}
+use Rattle.line_run.specs.declared.fault.RunFault.TheVariants.{ScriptLong as TooLong, ReadFault as RunReadFault, NoMemory as RunNoMemory}
 
 -- how a run answers a fault
 abbrev pub the_err : {T : Type 0} → RunFault → Result T RunFault
@@ -37,10 +37,10 @@ pub none_given : (a : ℕ) → a ≡ count_after a 0
 none_given a = grind arith
 
 -- the reader stops where the run does
-pub takes_stop : (fault : LineFault) (bytes : List ℕ) (taken : ℕ) → Stops fault bytes taken (2 ^ 30) → TakesScript (Err (run_fault fault)) taken
-takes_stop ReadFault bytes taken h = h.1
-takes_stop ScriptLong bytes taken h = h.1
-takes_stop NoMemory bytes taken h = tt
+pub takes_stop : (most : ℕ) (fault : LineFault) (bytes : List ℕ) (taken : ℕ) → Stops fault bytes taken most → TakesUpTo most (Err (run_fault fault)) taken
+takes_stop most ReadFault bytes taken h = h.1
+takes_stop most ScriptLong bytes taken h = h.1
+takes_stop most NoMemory bytes taken h = tt
 
 -- at the end of the script nothing is left
 pub exhausted : (most total : ℕ) (line : Line) (bytes kept : List ℕ) (taken : ℕ) (left : Option (List ℕ)) → line ≡ End → GivesLine most total (Ok line) bytes kept taken left → (taken ≤ total) × IsExhausted left
@@ -85,3 +85,17 @@ no_memory_at_length {T} found is e = let k : the_err {T = T} RunNoMemory ≡ the
 -- no line ends in the bytes that were kept
 pub none_kept : (kept read : List ℕ) → HasNoEnd (kept ++ read) → has_end kept ≡ false
 none_kept kept read h = (or_parts (has_end kept) (has_end read) (sym (list_any-append (λ (b : ℕ). b == 10) kept read) ∙ h)).0
+
+-- before anything was taken, all may come
+pub first_to_come : (most taken : ℕ) (kept : List ℕ) → taken ≡ 0 → kept ≡ [] → to_come most taken kept ≡ most + 1
+first_to_come most taken kept none nothing = rw (none, nothing) (omega arith)
+
+-- at the end of a script that is not too long, a byte more might have come
+pub last_to_come : (most taken taken' : ℕ) (kept : List ℕ) → taken ≤ taken' → taken' ≤ most → 0 < to_come most taken kept
+last_to_come most taken taken' kept h k = omega (arith, h, k)
+
+-- where a line is answered, something was to come
+pub some_to_come : (line : Line) (before after : ℕ) → UsesBytesUp line before after → (line ≡ End → 0 < before) → 0 < before
+some_to_come (Whole bytes) before after h ends = omega (arith, h)
+some_to_come Long before after h ends = omega (arith, h)
+some_to_come End before after h ends = ends refl

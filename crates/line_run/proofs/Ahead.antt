@@ -1,21 +1,21 @@
 -- The outcome of the lines ahead, line by line, against what was written and what is gathered.
-use Rattle.script_run.proofs.Common.{◌≡◌, ◌≢◌, ◌⊎◌, inl, inr, ◌<◌, ◌≤◌, ◌+◌, ◌^◌, ◌++◌, ℕ, Bool, true, false, List, [], ◌∷◌, length, take, drop, Option}
-use Rattle.script_run.proofs.Common.{Some, None}
-use Rattle.script_run.proofs.Common.{Result, Ok, Err, option_map, refl, sym, ap, ap₂, subst, ◌∙◌, append_assoc, arith, IfSome, OnErr, flat_map-append}
-use Rattle.script_run.proofs.Common.{append-nil, length-append, take_at, take-append-drop, prepend, append, AppendsFront, IsExhausted, with_line, total_told}
-use Rattle.script_run.proofs.Common.{HasNoEnd, TakesLine, ReadsBytes, Line, Whole, End, World, Goes, Stops, Progress, Ended, RunSetting, RunState, Outcome}
-use Rattle.script_run.proofs.Common.{Done, LineEffect, goes_on, stops, then_run, at_limit, at_end, state_in, state_after, progress_after, step_in, Does}
-use Rattle.script_run.proofs.Common.{Flushes}
+use Rattle.line_run.proofs.Common.{◌≡◌, ◌≢◌, ◌⊎◌, inl, inr, ◌<◌, ◌≤◌, ◌+◌, ◌++◌, ℕ, Bool, true, false, List, [], ◌∷◌, length, take, drop, Option}
+use Rattle.line_run.proofs.Common.{Some, None}
+use Rattle.line_run.proofs.Common.{Result, Ok, Err, option_map, refl, sym, ap, ap₂, subst, ◌∙◌, append_assoc, arith, IfSome, OnErr, flat_map-append}
+use Rattle.line_run.proofs.Common.{append-nil, length-append, take_at, take-append-drop, prepend, append, AppendsFront, IsExhausted, with_line, total_told}
+use Rattle.line_run.proofs.Common.{HasNoEnd, TakesLine, ReadsBytes, Line, Whole, End, World, Goes, Stops, Progress, Ended, Steps, RunState, Outcome}
+use Rattle.line_run.proofs.Common.{Done, LineEffect, goes_on, stops, then_run, at_limit, at_end, state_in, state_after, progress_after, Does}
+use Rattle.line_run.proofs.Common.{Flushes}
 use Rattle.std.proofs.lemmas.Option.{same_Some}
 use Rattle.fx_io.specs.Lines.{lines_of}
 use Rattle.fx_io.specs.Answers.{TakesFromBytes}
 use Rattle.fx_io.specs.declared.line.Line.TheVariants.{Long as LongLine}
 use Rattle.fx_io.proofs.Told.{append-append, prepend-prepend, prepend-nil}
 use Rattle.fx_io.proofs.Ahead.{answers_ahead}
-use Rattle.script_run.specs.declared.turn.Ended.TheVariants.{Script, Limit}
-use Rattle.script_run.specs.Prompt.{said, heard}
-use Rattle.script_run.specs.Run.{run}
-use Rattle.script_run.specs.Unfinished.{Long, StoppedAtRead, ended_lines}
+use Rattle.line_run.specs.declared.turn.Ended.TheVariants.{Script, Limit}
+use Rattle.line_run.specs.Prompt.{said, heard}
+use Rattle.line_run.specs.Run.{run}
+use Rattle.line_run.specs.Unfinished.{LongOver, StoppedAtRead, ended_lines}
 
 -- the outcome of the lines ahead
 abbrev pub Rest : Type 0
@@ -25,27 +25,27 @@ pub then_run-then_run : (a b : List ℕ) (o : Outcome) → then_run a (then_run 
 then_run-then_run a b o = ap (λ (bytes : List ℕ). record o { bytes = bytes }) (sym (append_assoc a b o.bytes))
 
 -- no line
-pub run_ended : (setting : RunSetting) (s : RunState) → run setting s [] ≡ at_end s
+pub run_ended : (steps : Steps) (s : RunState) → run steps s [] ≡ at_end s
 unfolding run
-run_ended setting s = refl
+run_ended steps s = refl
 
 -- a line after which the run goes on
-pub run_goes : (setting : RunSetting) (s : RunState) (line : List ℕ) (done : Done) → step_in setting s line ≡ goes_on done → (more : List (List ℕ))
-    → run setting s (line ∷ more) ≡ then_run done.text (run setting (state_after s done) more)
+pub run_goes : (steps : Steps) (s : RunState) (line : List ℕ) (done : Done) → steps s line ≡ goes_on done → (more : List (List ℕ))
+    → run steps s (line ∷ more) ≡ then_run done.text (run steps (state_after s done) more)
 unfolding run
-run_goes setting s line done e more = rw e refl
+run_goes steps s line done e more = rw e refl
 
 -- a line at which the run ends
-pub run_stops : (setting : RunSetting) (s : RunState) (line text : List ℕ) → step_in setting s line ≡ stops text → (more : List (List ℕ))
-    → run setting s (line ∷ more) ≡ then_run text at_limit
+pub run_stops : (steps : Steps) (s : RunState) (line text : List ℕ) → steps s line ≡ stops text → (more : List (List ℕ))
+    → run steps s (line ∷ more) ≡ then_run text at_limit
 unfolding run
-run_stops setting s line text e more = rw e refl
+run_stops steps s line text e more = rw e refl
 
 -- ---- what is written of it
 
 -- the outcome of the lines from a state on, as it is written
-abbrev pub heard_run : Bool → RunSetting → RunState → Rest
-heard_run silent setting s lines = heard silent (run setting s lines)
+abbrev pub heard_run : Bool → Steps → RunState → Rest
+heard_run silent steps s lines = heard silent (run steps s lines)
 
 heard_end : (silent : Bool) (s : RunState) → heard silent (at_end s) ≡ at_end s
 heard_end true s = refl
@@ -59,16 +59,16 @@ heard_then : (silent : Bool) (text : List ℕ) (o : Outcome) → heard silent (t
 heard_then true text o = refl
 heard_then false text o = refl
 
-pub heard_ended : (silent : Bool) (setting : RunSetting) (s : RunState) → heard_run silent setting s [] ≡ at_end s
-heard_ended silent setting s = ap (heard silent) (run_ended setting s) ∙ heard_end silent s
+pub heard_ended : (silent : Bool) (steps : Steps) (s : RunState) → heard_run silent steps s [] ≡ at_end s
+heard_ended silent steps s = ap (heard silent) (run_ended steps s) ∙ heard_end silent s
 
-heard_goes : (silent : Bool) (setting : RunSetting) (s : RunState) (line : List ℕ) (done : Done) → step_in setting s line ≡ goes_on done → (more : List (List ℕ))
-    → heard_run silent setting s (line ∷ more) ≡ then_run (said silent done.text) (heard_run silent setting (state_after s done) more)
-heard_goes silent setting s line done e more = ap (heard silent) (run_goes setting s line done e more) ∙ heard_then silent done.text (run setting (state_after s done) more)
+heard_goes : (silent : Bool) (steps : Steps) (s : RunState) (line : List ℕ) (done : Done) → steps s line ≡ goes_on done → (more : List (List ℕ))
+    → heard_run silent steps s (line ∷ more) ≡ then_run (said silent done.text) (heard_run silent steps (state_after s done) more)
+heard_goes silent steps s line done e more = ap (heard silent) (run_goes steps s line done e more) ∙ heard_then silent done.text (run steps (state_after s done) more)
 
-heard_stops : (silent : Bool) (setting : RunSetting) (s : RunState) (line text : List ℕ) → step_in setting s line ≡ stops text → (more : List (List ℕ))
-    → heard_run silent setting s (line ∷ more) ≡ then_run (said silent text) at_limit
-heard_stops silent setting s line text e more = ap (heard silent) (run_stops setting s line text e more) ∙ heard_then silent text at_limit ∙ ap (then_run (said silent text)) (heard_limit silent)
+heard_stops : (silent : Bool) (steps : Steps) (s : RunState) (line text : List ℕ) → steps s line ≡ stops text → (more : List (List ℕ))
+    → heard_run silent steps s (line ∷ more) ≡ then_run (said silent text) at_limit
+heard_stops silent steps s line text e more = ap (heard silent) (run_stops steps s line text e more) ∙ heard_then silent text at_limit ∙ ap (then_run (said silent text)) (heard_limit silent)
 
 -- what a line printed was gathered, unless the run is silent
 said_more : (silent : Bool) (gathered text printed gathered' : List ℕ) → gathered ≡ said silent gathered → printed ≡ gathered ++ text → gathered' ≡ said silent printed → gathered' ≡ gathered ++ said silent text
@@ -141,29 +141,29 @@ stops_of stands (goes_on done) before after h = absurd (let e : Stops ≡ Goes d
 stops_of stands (stops text) before after h = (text, refl, h.0)
 
 -- the run goes on behind a line
-pub goes_further : {all : Rest} {script before after : Option (List ℕ)} {first written : Option (List ℕ)} {front : List ℕ} (silent : Bool) (setting : RunSetting) (s : RunState) (bad : Bool) (left : ℕ)
+pub goes_further : {all : Rest} {script before after : Option (List ℕ)} {first written : Option (List ℕ)} {front : List ℕ} (silent : Bool) (steps : Steps) (s : RunState) (bad : Bool) (left : ℕ)
     (behind : Progress) (line gathered printed gathered' : List ℕ) (stands : World → Type 0)
-    → SoFar all (heard_run silent setting s) script before first written front gathered
+    → SoFar all (heard_run silent steps s) script before first written front gathered
     → option_map lines_of before ≡ with_line line (option_map lines_of after) → MovesOn line before after
-    → Does stands (step_in setting s line) gathered printed (Goes bad left) → gathered ≡ said silent gathered → gathered' ≡ said silent printed → behind ≡ progress_after s.progress bad left
-    → (v : World) × stands v × SoFar all (heard_run silent setting (state_in v behind)) script after first written front gathered'
-goes_further {all} {script} {before} {after} {first} {written} {front} silent setting s bad left behind line gathered printed gathered' stands h e moved d none hushed is =
-    let g = goes_of stands (step_in setting s line) gathered printed bad left d in
-    let next : SoFar all (heard_run silent setting (state_after s g.0)) script after first written front gathered' =
-    turned line (said silent g.0.text) gathered gathered' h e moved (said_more silent gathered g.0.text printed gathered' none g.2 hushed) (heard_goes silent setting s line g.0 g.1) in
+    → Does stands (steps s line) gathered printed (Goes bad left) → gathered ≡ said silent gathered → gathered' ≡ said silent printed → behind ≡ progress_after s.progress bad left
+    → (v : World) × stands v × SoFar all (heard_run silent steps (state_in v behind)) script after first written front gathered'
+goes_further {all} {script} {before} {after} {first} {written} {front} silent steps s bad left behind line gathered printed gathered' stands h e moved d none hushed is =
+    let g = goes_of stands (steps s line) gathered printed bad left d in
+    let next : SoFar all (heard_run silent steps (state_after s g.0)) script after first written front gathered' =
+    turned line (said silent g.0.text) gathered gathered' h e moved (said_more silent gathered g.0.text printed gathered' none g.2 hushed) (heard_goes silent steps s line g.0 g.1) in
     let same : progress_after s.progress g.0.faulty g.0.left ≡ behind = ap₂ (progress_after s.progress) (sym g.4) (sym g.5) ∙ sym is in
-    (g.0.world, g.3, subst (λ (p : Progress). SoFar all (heard_run silent setting (state_in g.0.world p)) script after first written front gathered') same next)
+    (g.0.world, g.3, subst (λ (p : Progress). SoFar all (heard_run silent steps (state_in g.0.world p)) script after first written front gathered') same next)
 
 -- the limit was met at a line: nothing more is done
-pub ends_there : {all : Rest} {script before after : Option (List ℕ)} {first written : Option (List ℕ)} {front : List ℕ} (silent : Bool) (setting : RunSetting) (s : RunState)
+pub ends_there : {all : Rest} {script before after : Option (List ℕ)} {first written : Option (List ℕ)} {front : List ℕ} (silent : Bool) (steps : Steps) (s : RunState)
     (line gathered printed gathered' : List ℕ) (stands : World → Type 0)
-    → SoFar all (heard_run silent setting s) script before first written front gathered
+    → SoFar all (heard_run silent steps s) script before first written front gathered
     → option_map lines_of before ≡ with_line line (option_map lines_of after) → MovesOn line before after
-    → Does stands (step_in setting s line) gathered printed Stops → gathered ≡ said silent gathered → gathered' ≡ said silent printed
+    → Does stands (steps s line) gathered printed Stops → gathered ≡ said silent gathered → gathered' ≡ said silent printed
     → SoFar all (λ more. at_limit) script after first written front gathered'
-ends_there silent setting s line gathered printed gathered' stands h e moved d none hushed =
-    let g = stops_of stands (step_in setting s line) gathered printed d in
-    turned line (said silent g.0) gathered gathered' h e moved (said_more silent gathered g.0 printed gathered' none g.2 hushed) (heard_stops silent setting s line g.0 g.1)
+ends_there silent steps s line gathered printed gathered' stands h e moved d none hushed =
+    let g = stops_of stands (steps s line) gathered printed d in
+    turned line (said silent g.0) gathered gathered' h e moved (said_more silent gathered g.0 printed gathered' none g.2 hushed) (heard_stops silent steps s line g.0 g.1)
 
 -- a front of what is gathered was written
 pub flushed : {all now : Rest} {script ahead : Option (List ℕ)} {first written : Option (List ℕ)} {front gathered : List ℕ} (written' : Option (List ℕ)) (gathered' : List ℕ)
@@ -211,10 +211,10 @@ all_done {all} {now} {ahead} {first} {written} {front} {gathered} (Some bytes) l
     (sym bytes_are, sym (ap (λ (o : Outcome). o.ended) is), sym (ap (λ (o : Outcome). o.comes_to) is))
 
 -- there was no line more
-pub no_line : (silent : Bool) (setting : RunSetting) (s : RunState) (ahead : Option (List (List ℕ))) → IfSome ahead (λ lines. lines ≡ [])
-    → IfSome ahead (λ more. heard_run silent setting s more ≡ at_end s)
-no_line silent setting s None h = tt
-no_line silent setting s (Some lines) h = ap (heard_run silent setting s) h ∙ heard_ended silent setting s
+pub no_line : (silent : Bool) (steps : Steps) (s : RunState) (ahead : Option (List (List ℕ))) → IfSome ahead (λ lines. lines ≡ [])
+    → IfSome ahead (λ more. heard_run silent steps s more ≡ at_end s)
+no_line silent steps s None h = tt
+no_line silent steps s (Some lines) h = ap (heard_run silent steps s) h ∙ heard_ended silent steps s
 
 pub no_more : (ahead : Option (List (List ℕ))) → IfSome ahead (λ more. at_limit ≡ at_limit)
 no_more None = tt
@@ -250,15 +250,15 @@ done_alone {all} {front = front} {gathered = gathered} s h e = ap all (sym (appe
 goes_on_there : {faulted : Bool} {ended : Ended} → ended ≡ Script faulted → ended ≢ Limit
 goes_on_there {faulted} e met = let k : Script faulted ≡ Limit = sym e ∙ met in absurd cc
 
--- more than 1 GiB was taken, and the limit was not met before
-pub long_run : {all now : Rest} {ahead : Option (List ℕ)} {first written : Option (List ℕ)} {front gathered : List ℕ} (script after : Option (List ℕ)) (s : RunState) (taken : ℕ)
+-- more was taken than may be, and the limit was not met before
+pub long_run : {all now : Rest} {ahead : Option (List ℕ)} {first written : Option (List ℕ)} {front gathered : List ℕ} (most : ℕ) (script after : Option (List ℕ)) (s : RunState) (taken : ℕ)
     → SoFar all now script ahead first written front gathered → now [] ≡ at_end s
-    → (front : List ℕ) × HasNoEnd front × (ahead ≡ prepend front after) → total_told 0 script ≡ total_told taken after → 2 ^ 30 < taken
-    → IfSome script (Long all)
-long_run None after s taken h e stop total many = tt
-long_run (Some bytes) after s taken h e stop total many =
+    → (front : List ℕ) × HasNoEnd front × (ahead ≡ prepend front after) → total_told 0 script ≡ total_told taken after → most < taken
+    → IfSome script (LongOver most all)
+long_run most None after s taken h e stop total many = tt
+long_run most (Some bytes) after s taken h e stop total many =
     let r = whole bytes h refl in
-    let t = told_after taken (2 ^ 30) bytes after total many in
+    let t = told_after taken most bytes after total many in
     let ahead : r.0 ≡ stop.0 ++ t.0 = same_Some _ _ (sym r.1 ∙ stop.2 ∙ ap (prepend stop.0) t.1) in
     record {
       lines = h.done;
@@ -271,10 +271,10 @@ long_run (Some bytes) after s taken h e stop total many =
     }
 
 -- whether it is written does not count
-pub long_heard : (silent : Bool) (setting : RunSetting) (s : RunState) (script : Option (List ℕ)) → IfSome script (Long (heard_run silent setting s)) → IfSome script (Long (run setting s))
-long_heard silent setting s None h = tt
-long_heard true setting s (Some bytes) h = record { lines = h.lines; piece = h.piece; rest = h.rest; parts = h.parts; no_end = h.no_end; many = h.many; not_met = h.not_met }
-long_heard false setting s (Some bytes) h = h
+pub long_heard : (silent : Bool) (most : ℕ) (steps : Steps) (s : RunState) (script : Option (List ℕ)) → IfSome script (LongOver most (heard_run silent steps s)) → IfSome script (LongOver most (run steps s))
+long_heard silent most steps s None h = tt
+long_heard true most steps s (Some bytes) h = record { lines = h.lines; piece = h.piece; rest = h.rest; parts = h.parts; no_end = h.no_end; many = h.many; not_met = h.not_met }
+long_heard false most steps s (Some bytes) h = h
 
 left_of : (front more : List ℕ) (after : Option (List ℕ)) → Some more ≡ prepend front after → (rest : List ℕ) × (after ≡ Some rest) × (more ≡ front ++ rest)
 left_of front more None e = absurd cc

@@ -1,5 +1,5 @@
 ghost use Rattle.std.specs.Prelude.{◌≡◌, ◌+◌, ◌<◌, ◌^◌, ◌||◌, false};
-ghost use Rattle.script_run.specs.Parts.{progress_behind, run_part_at};
+ghost use Rattle.line_run.specs.Parts.{progress_behind, run_part_at};
 
 use checkpoint::RunPart;
 
@@ -67,7 +67,7 @@ impl Progress {
 
 /// What became of a line of the script.
 #[derive(Clone, Copy, Debug, PartialEq, Eq)]
-pub(crate) enum Turn {
+pub enum Turn {
     /// It was done: whether it was a fault, and how many firings are left to the run.
     Goes(bool, u64),
     /// It was a fire command, and a match was pending where no firing was left.

@@ -1,7 +1,7 @@
 ghost use Rattle.std.specs.Prelude.{◌≡◌, ◌≤◌, [], true, OnOk, OnErr};
 ghost use Rattle.fx_io.specs.Outside.{Rose, append, AppendsFront};
-ghost use Rattle.script_run.specs.Prompt.{said};
-ghost use Rattle.script_run.specs.Turns.{Flushes};
+ghost use Rattle.line_run.specs.Prompt.{said};
+ghost use Rattle.line_run.specs.Turns.{Flushes};
 
 use fx_io::{Failed, Sink, write_all};
 
