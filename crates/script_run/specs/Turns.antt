@@ -7,12 +7,18 @@ use Rattle.line_run.specs.declared.turn.Turn.{Turn}
 use Rattle.line_run.specs.declared.turn.Turn.TheVariants.{Goes, Stops}
 use Rattle.line_run.specs.declared.turn.Ended.{Ended}
 use Rattle.line_run.specs.Turns.{TakesUpTo}
+use Rattle.script_run.specs.Run.{end_text}
 use Rattle.script_run.specs.Texts.{limit_text}
 
 -- no firing is left: the limit is met where a match is pending
 abbrev pub EndsFirings : ℕ → Option (List OutLine × World) → Bool → List ℕ → List ℕ → Turn → Type 0
 EndsFirings limit None faulty before after turn = (after ≡ before) × (turn ≡ Goes faulty 0)
 EndsFirings limit (Some f) faulty before after turn = (after ≡ before ++ limit_text limit) × (turn ≡ Stops)
+
+-- a turn after which the run goes on is closed
+abbrev pub Closes : Option ℕ → ℕ → Turn → List ℕ → List ℕ → Type 0
+Closes live number (Goes faulty left) before after = after ≡ before ++ end_text live number
+Closes live number Stops before after = after ≡ before
 
 -- the tags given, and those that the firings that are left may give, are at most so many
 abbrev pub Within : ℕ → ℕ → Turn → Type 0

@@ -1,13 +1,13 @@
-ghost use Rattle.std.specs.Prelude.{◌≡◌, ◌+◌, ◌*◌, ◌<◌, ◌≤◌, ◌^◌, ℕ, List, Option, length, IfOk};
+ghost use Rattle.std.specs.Prelude.{◌≡◌, ◌+◌, ◌*◌, ◌<◌, ◌≤◌, ◌^◌, ℕ, List, Option, length, IfOk, OnOk};
 ghost use Rattle.rule_world.specs.Worlds.{World};
 ghost use Rattle.line_run.specs.Turns.{Does};
-ghost use Rattle.script_run.specs.Run.{setting_of, printed, command_step, line_step, step_in};
-ghost use Rattle.script_run.specs.Turns.{Within};
+ghost use Rattle.script_run.specs.Run.{command_step, printed, setting_with, step_in, told_step};
+ghost use Rattle.script_run.specs.Turns.{Closes, Within};
 
 use crate::counting::push_kept;
 use crate::fault::LineCode;
-use crate::firing::fire_all;
-use crate::text::{push_fault, push_lines};
+use crate::firing::{FireLine, fire};
+use crate::text::{push_done, push_fault, push_lines};
 use engine::Engine;
 use fx_base::NoMemory;
 use fx_io::Line;
@@ -37,27 +37,35 @@ fn change<E: Engine>(
     Ok((next, Turn::Goes(faulty, left)))
 }
 
+/// An engine that takes the lines of a script, with the limits of firings of its run: of all, and, of a live run, of each fire command.
+#[derive(Drop)]
+pub(crate) struct Obeying<E: Engine> {
+    pub(crate) engine: E,
+    pub(crate) limit: u64,
+    pub(crate) live: Option<u64>,
+    pub(crate) scratch: Scratch,
+}
+
 // Does what a command asks for, and appends what it prints.
 fn obey<E: Engine>(
     alloc: Global,
     engine: E,
-    number: u64,
-    limit: u64,
+    line: FireLine,
     left: u64,
     wanted: &Command,
     text: &mut Vec<u8>,
 ) -> Result<(E, Turn), NoMemory>
     requires { E.tags engine + 16 * left < 2 ^ 62 }
     ensures done { IfOk result (λ r. (w : World) → E.stands engine w
-        → Does (E.stands r.0) (command_step (setting_of E.gives E.fires E.counts limit (E.made_with engine) (E.table engine)) number left w wanted.now)
+        → Does (E.stands r.0) (command_step (setting_with line.live E.gives E.fires E.counts line.limit (E.made_with engine) (E.table engine)) line.number left w wanted.now)
         text.old.items text.new.items r.1) }
     ensures program { IfOk result (λ r. E.made_with r.0 ≡ E.made_with engine) }
     ensures table { IfOk result (λ r. E.table r.0 ≡ E.table engine) }
     ensures tags { IfOk result (λ r. Within (E.tags engine + 16 * left + 16) (E.tags r.0) r.1) }
 {
     match wanted {
-        Command::Change(wanted) => change(alloc, engine, number, left, wanted, text),
-        Command::Fire(most) => fire_all(alloc, engine, number, limit, *most, left, text),
+        Command::Change(wanted) => change(alloc, engine, line.number, left, wanted, text),
+        Command::Fire(most) => fire(alloc, engine, line, *most, left, text),
         Command::Held => {
             push_kept(alloc, &engine, text)?;
             Ok((engine, Turn::Goes(false, left)))
@@ -66,7 +74,6 @@ fn obey<E: Engine>(
 }
 
 // Does what a line asks for that is not too long, and appends what it prints.
-#[tactic(auto, unfolding(crate::specs::Run::line_step))]
 fn obey_line<E: Engine>(
     alloc: Global,
     taker: Obeying<E>,
@@ -78,9 +85,10 @@ fn obey_line<E: Engine>(
     requires counted { at.lines + 1 < 2 ^ 64 }
     requires short { length line.now ≤ 65536 }
     ensures done { IfOk result (λ r. (w : World) → E.stands taker.engine w
-        → Does (E.stands r.0.engine) (line_step (setting_of E.gives E.fires E.counts taker.limit (E.made_with taker.engine) (E.table taker.engine)) (at.lines + 1) at.left w line.now)
+        → Does (E.stands r.0.engine) (told_step (setting_with taker.live E.gives E.fires E.counts taker.limit (E.made_with taker.engine) (E.table taker.engine)) (at.lines + 1) at.left w line.now)
         text.old.items text.new.items r.1) }
     ensures limit { IfOk result (λ r. r.0.limit ≡ taker.limit) }
+    ensures live { IfOk result (λ r. r.0.live ≡ taker.live) }
     ensures program { IfOk result (λ r. E.made_with r.0.engine ≡ E.made_with taker.engine) }
     ensures table { IfOk result (λ r. E.table r.0.engine ≡ E.table taker.engine) }
     ensures tags { IfOk result (λ r. Within (E.tags taker.engine + 16 * at.left + 16) (E.tags r.0.engine) r.1) }
@@ -95,12 +103,19 @@ fn obey_line<E: Engine>(
             let Obeying {
                 engine,
                 limit,
+                live,
                 scratch,
             } = taker;
-            let (engine, turn) = obey(alloc, engine, number, limit, at.left, &wanted, text)?;
+            let line = FireLine {
+                number,
+                limit,
+                live,
+            };
+            let (engine, turn) = obey(alloc, engine, line, at.left, &wanted, text)?;
             let taker = Obeying {
                 engine,
                 limit,
+                live,
                 scratch,
             };
             Ok((taker, turn))
@@ -117,18 +132,23 @@ fn obey_line<E: Engine>(
     }
 }
 
-/// An engine that takes the lines of a script, with the limit of firings of its run.
-#[derive(Drop)]
-pub(crate) struct Obeying<E: Engine> {
-    pub(crate) engine: E,
-    pub(crate) limit: u64,
-    pub(crate) scratch: Scratch,
+// Appends what closes a line of a live run, where that goes on.
+fn close(text: &mut Vec<u8>, live: Option<u64>, number: u64, turn: Turn) -> Result<(), NoMemory>
+    ensures { OnOk result (Closes live number turn text.old.items text.new.items) }
+{
+    match turn {
+        Turn::Stops => Ok(()),
+        Turn::Goes(..) => match live {
+            Some(_) => push_done(text, number),
+            None => Ok(()),
+        },
+    }
 }
 
 impl<E: Engine> LineTaker for Obeying<E> {
     ghost stands = { λ taker. E.stands taker.engine };
 
-    ghost steps = { λ taker. step_in (setting_of E.gives E.fires E.counts taker.limit (E.made_with taker.engine) (E.table taker.engine)) };
+    ghost steps = { λ taker. step_in (setting_with taker.live E.gives E.fires E.counts taker.limit (E.made_with taker.engine) (E.table taker.engine)) };
 
     ghost program = { λ taker. E.made_with taker.engine };
 
@@ -147,11 +167,15 @@ impl<E: Engine> LineTaker for Obeying<E> {
         match line {
             Line::End => Ok((self, None)),
             Line::Long => {
-                push_fault(text, at.lines + 1, LineCode::LineLong)?;
-                Ok((self, Some(Turn::Goes(true, at.left))))
+                let number = at.lines + 1;
+                let turn = Turn::Goes(true, at.left);
+                push_fault(text, number, LineCode::LineLong)?;
+                close(text, self.live, number, turn)?;
+                Ok((self, Some(turn)))
             }
             Line::Whole(bytes) => {
                 let (next, turn) = obey_line(alloc, self, at, bytes.as_slice(), text)?;
+                close(text, next.live, at.lines + 1, turn)?;
                 Ok((next, Some(turn)))
             }
         }

@@ -74,6 +74,7 @@ pub fn run_from<E: Engine, S: Source<K>, K: Sink>(
     let taker = Obeying {
         engine,
         limit,
+        live: None,
         scratch: Scratch::new(alloc),
     };
     match run_lines(alloc, taker, at, SCRIPT_MAX, script, out, silent) {
