@@ -18,8 +18,9 @@ use command_words::Mode;
 use engine::{Engine, ResumeFault};
 use expiry_infer::lives;
 use fx_io::{Sink, Source};
+use line_run::Progress;
 use rule_model::{LifeTable, Program};
-use script_run::{Progress, run_from};
+use script_run::run_from;
 use std::alloc::Global;
 
 // An engine in each world of the beginning.

@@ -28,8 +28,9 @@ use engine::{Engine, ResumeFault};
 use expiry_infer::lives;
 use fx_base::NoMemory;
 use fx_io::{Sink, Source};
+use line_run::Progress;
 use rule_model::{LifeTable, Program};
-use script_run::{Progress, push_limit, run_from};
+use script_run::{push_limit, run_from};
 use std::alloc::Global;
 
 /// The greatest number from which a run goes on.

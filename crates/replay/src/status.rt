@@ -4,7 +4,7 @@ ghost use Rattle.line_run.specs.Turns.{ended_as};
 ghost use Rattle.replay.specs.Report.{run_status, fault_status};
 
 use engine::Engine;
-use script_run::{Ended, Progress, RunFault};
+use line_run::{Ended, Progress, RunFault};
 
 /// Of a run of which no call failed.
 pub(crate) fn status_of(ended: Ended) -> u8
