@@ -5,3 +5,4 @@ pub mod Parts
 pub mod Unfinished
 pub mod Turns
 pub mod Limits
+pub mod Live

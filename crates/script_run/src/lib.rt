@@ -6,9 +6,11 @@ mod counting;
 mod fault;
 mod firing;
 pub mod laws;
+mod live;
 mod obeying;
 mod running;
 mod text;
 
+pub use live::{LIVE_MAX, run_live};
 pub use running::{run, run_from};
 pub use text::{name_of_rule, push_limit, push_number, push_quoted, push_signed};

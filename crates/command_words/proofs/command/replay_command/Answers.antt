@@ -1,7 +1,7 @@
 use Rattle.command_words.proofs.Common.{true, ap, ap₂, ◌∙◌, with_rule}
 use Rattle.clap.specs.Simple.{Shape, app_of_fields, on_top}
 use Rattle.command_words.specs.Command.{replay_app}
-use Rattle.command_words.proofs.command.command.Goals as goal
+use Rattle.command_words.proofs.command.replay_command.Goals as goal
 
 pub returns : goal.returns
 unfolding replay_app
