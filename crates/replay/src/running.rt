@@ -48,7 +48,7 @@ fn engine_in<E: Engine>(
 
 /// An engine in each world of the beginning, and what an image says of the run before it has gone on. What an image holds goes into the
 /// engine.
-pub(crate) fn begun<E: Engine>(
+pub fn begun<E: Engine>(
     alloc: Global,
     program: Program,
     lives: LifeTable,

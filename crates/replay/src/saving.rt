@@ -36,8 +36,8 @@ use std::alloc::Global;
 /// The greatest number from which a run goes on.
 const NUMBER_MAX: u64 = 2_305_843_009_213_693_952;
 
-// Whether the numbers of an image let a run go on from it.
-fn can_go_on(image: &Image) -> bool
+/// Whether the numbers of an image let a run go on from it.
+pub fn can_go_on(image: &Image) -> bool
     ensures { result ≡ can_go_on image.now }
 {
     image.next_id <= NUMBER_MAX

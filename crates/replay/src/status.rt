@@ -29,7 +29,7 @@ pub(crate) fn status_found<E: Engine>(found: Option<(E, Progress)>) -> u8
 }
 
 /// Of a run that stopped.
-pub(crate) fn status_of_fault(fault: RunFault) -> u8
+pub fn status_of_fault(fault: RunFault) -> u8
     ensures { result ≡ fault_status fault }
 {
     match fault {
