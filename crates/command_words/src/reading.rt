@@ -2,7 +2,7 @@ ghost use Rattle.std.specs.Prelude.{◌≡◌, option_map, IfOk, IfSome};
 ghost use Rattle.clap.specs.Words.{found_of, rows_of, first_of};
 ghost use Rattle.command_words.specs.Asked.{IsWithinBounds, mode_of, given_or, asks_file, asks_resumed, asks_load, asked_rows, asked_by};
 
-use crate::command::parse;
+use crate::command::{parse, replay_command};
 use crate::numbers::{limit_of, load_number_of};
 use crate::{Asked, Mode};
 use clap::ArgMatches;
@@ -13,7 +13,7 @@ use std::alloc::Global;
 const MODE_DEFAULT: &str = "run";
 
 /// The limit of firings where the words give none.
-const LIMIT_DEFAULT: &str = "100000";
+pub(crate) const LIMIT_DEFAULT: &str = "100000";
 
 fn mode_of(name: &str) -> Option<Mode>
     ensures { result ≡ mode_of name.now }
@@ -28,13 +28,15 @@ fn mode_of(name: &str) -> Option<Mode>
     }
 }
 
-fn given<'a>(matches: &ArgMatches<'a>, name: &str) -> Option<&'a str>
+/// What an option was given.
+pub(crate) fn given<'a>(matches: &ArgMatches<'a>, name: &str) -> Option<&'a str>
     ensures { option_map (λ text. text.now) result ≡ first_of name.now (rows_of (found_of matches.now)) }
 {
     matches.get_str(name)
 }
 
-fn given_or<'a>(matches: &ArgMatches<'a>, name: &str, default: &'a str) -> &'a str
+/// What an option was given, or its default.
+pub(crate) fn given_or<'a>(matches: &ArgMatches<'a>, name: &str, default: &'a str) -> &'a str
     ensures { result.now ≡ given_or name.now default.entry.now (rows_of (found_of matches.now)) }
 {
     given(matches, name).unwrap_or(default)
@@ -120,7 +122,8 @@ pub fn asked(alloc: Global, words: &[String]) -> Result<Option<Asked>, NoMemory>
     ensures asks { IfOk result (λ asked. asked ≡ asked_by words.now) }
     ensures within { IfOk result (λ asked. IfSome asked IsWithinBounds) }
 {
-    match parse(alloc, words)? {
+    let command = replay_command(alloc)?;
+    match parse(command, words)? {
         Some(matches) => asked_of(alloc, &matches),
         None => Ok(None),
     }

@@ -9,9 +9,9 @@ use Rattle.replay.proofs.Common.{usage_line, refuses, refuses_checkpoint, runs, 
 use Rattle.replay.proofs.Common.{wanted_by, wanted_from, wanted_rules, wanted_by_file, wanted_by_reading, IfRefuses, ReadsFile, RunsScript, IsUnfit, ReadFails}
 use Rattle.replay.proofs.Common.{MayRefuse}
 use Rattle.command_words.specs.Asked.{asked_by}
-use Rattle.script_run.specs.Run.{run as run_lines}
-use Rattle.script_run.proofs.Ahead.{run_ended, append_nothing}
-use Rattle.script_run.proofs.Stops.{none_given}
+use Rattle.script_run.specs.Run.{run as run_lines, step_in}
+use Rattle.line_run.proofs.Ahead.{run_ended, append_nothing}
+use Rattle.line_run.proofs.Stops.{none_given}
 use Rattle.replay.specs.Wanted.{wanted, wanted_by_name, wanted_by_number}
 use Rattle.replay.proofs.Reports.{front_by, front_none}
 
@@ -205,7 +205,7 @@ load_done gives fires counts number limit w first last left given faults before 
 -- nothing of the script was taken, and nothing was written
 stopped_at_once : (setting : RunSetting) (begin : RunState) (script : List ℕ) (left before : Option (List ℕ)) → left ≡ Some script → StoppedAtRead (run_lines setting begin) script left before before
 stopped_at_once setting begin script left before tells =
-    let none : run_lines setting begin [] ≡ at_end begin = run_ended setting begin in
+    let none : run_lines setting begin [] ≡ at_end begin = run_ended (step_in setting) begin in
     record {
       lines = [];
       piece = [];

@@ -52,9 +52,12 @@ pub use Rattle.rule_model.specs.declared.program.Program.{Program}
 pub use Rattle.rule_world.specs.Worlds.{World, empty_world}
 pub use Rattle.script_run.proofs.Joined.{first_behind, script_joined, whole_behind}
 pub use Rattle.script_run.specs.Firings.{Counts, Fires, Gives}
-pub use Rattle.script_run.specs.Parts.{run_on, first_part, run_part_at, progress_behind}
-pub use Rattle.script_run.specs.Run.{setting_of, whole_run, Outcome, RunState, RunSetting, at_end, first_state, state_in, then_run}
+pub use Rattle.script_run.specs.Parts.{run_on}
+pub use Rattle.line_run.specs.Parts.{first_part, run_part_at, progress_behind}
+pub use Rattle.script_run.specs.Run.{setting_of, whole_run, RunSetting, first_state}
+pub use Rattle.line_run.specs.Run.{Outcome, RunState, at_end, state_in, then_run}
 pub use Rattle.script_run.specs.Texts.{limit_text}
-pub use Rattle.script_run.specs.Unfinished.{StoppedAtRead, Long}
-pub use Rattle.script_run.specs.declared.turn.Ended.TheVariants.{Script, Limit}
+pub use Rattle.line_run.specs.Unfinished.{StoppedAtRead}
+pub use Rattle.script_run.specs.Unfinished.{Long}
+pub use Rattle.line_run.specs.declared.turn.Ended.TheVariants.{Script, Limit}
 pub use Rattle.subrules.specs.Faults.{obstacle}

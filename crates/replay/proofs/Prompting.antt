@@ -2,7 +2,7 @@
 use Rattle.replay.proofs.Common.{◌≡◌, ℕ, List, Option, refl, sym, subst, append, Run, Save, LifeTable, Program, AreLives, World, empty_world, Gives, Fires}
 use Rattle.replay.proofs.Common.{Counts}
 use Rattle.replay.proofs.Common.{run_on, RunState, setting_of, whole_run, first_behind, Beginning, First, Behind, BeginsIn, part_of, wanted_at}
-use Rattle.script_run.specs.Prompt.{whole_lines}
+use Rattle.line_run.specs.Prompt.{whole_lines}
 use Rattle.script_run.specs.Run.{run as run_lines}
 use Rattle.replay.specs.Report.{IsPrompt}
 use Rattle.replay.proofs.Tables.{by_table}

@@ -17,7 +17,7 @@ use Rattle.image_laws.proofs.Fit.{image_fits}
 use Rattle.rule_lives.specs.Keeping.{AreSafe}
 use Rattle.rule_lives.proofs.Safe.{safe_life}
 use Rattle.rule_world.specs.Programs.{IsRunnable}
-use Rattle.script_run.specs.Parts.{EndsLine}
+use Rattle.line_run.specs.Parts.{EndsLine}
 use Rattle.replay.specs.Behind.{IsSoundWorld, KeepWorlds, AreTaken, IsTakenAgain}
 use Rattle.replay.specs.Checkpoints.{checkpoint_of, image_limit}
 use Rattle.replay.proofs.GoingOn.{whole_sound, saved_so}

@@ -10,7 +10,7 @@ use Rattle.rule_model.specs.declared.life.LifeTable.{LifeTable}
 use Rattle.rule_model.specs.declared.program.Program.{Program}
 use Rattle.rule_world.specs.Lawful.{IsLawful}
 use Rattle.rule_world.specs.Worlds.{World, empty_world}
-use Rattle.script_run.specs.Parts.{first_part}
+use Rattle.line_run.specs.Parts.{first_part}
 use Rattle.replay.specs.declared.beginning.Beginning.{Beginning}
 use Rattle.replay.specs.declared.beginning.Beginning.TheVariants.{First, Behind}
 

@@ -14,8 +14,9 @@ use Rattle.rule_world.specs.Lawful.{IsLawful}
 use Rattle.rule_world.specs.Programs.{IsRunnable}
 use Rattle.rule_world.specs.Worlds.{World}
 use Rattle.script_run.specs.Firings.{Gives, Fires, Counts}
-use Rattle.script_run.specs.Parts.{EndsLine, first_part, run_part_at}
-use Rattle.script_run.specs.Run.{RunState, setting_of, whole_run}
+use Rattle.line_run.specs.Parts.{EndsLine, first_part, run_part_at}
+use Rattle.line_run.specs.Run.{RunState}
+use Rattle.script_run.specs.Run.{setting_of, whole_run}
 use Rattle.replay.specs.Checkpoints.{checkpoint_of, has_image}
 use Rattle.replay.specs.Report.{Report, Reports, IsSaved, run_status}
 use Rattle.replay.specs.Wanted.{Wanted, refuses_checkpoint, resumes, saves, saves_on}

@@ -5,16 +5,19 @@ use Rattle.fx_io.specs.Lines.{lines_of}
 use Rattle.rule_model.specs.declared.life.LifeTable.{LifeTable}
 use Rattle.rule_lives.specs.Keeping.{AreLives}
 use Rattle.gen_load.specs.Script.{script_text}
-use Rattle.script_run.specs.declared.fault.RunFault.{RunFault}
-use Rattle.script_run.specs.declared.fault.RunFault.TheVariants.{ReadFault, WriteFault, NoMemory, ScriptLong}
-use Rattle.script_run.specs.declared.turn.Ended.{Ended}
-use Rattle.script_run.specs.declared.turn.Ended.TheVariants.{Script, Limit}
+use Rattle.line_run.specs.declared.fault.RunFault.{RunFault}
+use Rattle.line_run.specs.declared.fault.RunFault.TheVariants.{ReadFault, WriteFault, NoMemory, ScriptLong}
+use Rattle.line_run.specs.declared.turn.Ended.{Ended}
+use Rattle.line_run.specs.declared.turn.Ended.TheVariants.{Script, Limit}
 use Rattle.script_run.specs.Firings.{Gives, Fires, Counts}
-use Rattle.script_run.specs.Parts.{first_part, run_part_at, run_on}
-use Rattle.script_run.specs.Prompt.{whole_lines}
-use Rattle.script_run.specs.Run.{Outcome, RunState, setting_of, whole_run}
+use Rattle.line_run.specs.Parts.{first_part, run_part_at}
+use Rattle.script_run.specs.Parts.{run_on}
+use Rattle.line_run.specs.Prompt.{whole_lines}
+use Rattle.line_run.specs.Run.{Outcome, RunState}
+use Rattle.script_run.specs.Run.{setting_of, whole_run}
 use Rattle.script_run.specs.Texts.{limit_text}
-use Rattle.script_run.specs.Unfinished.{Long, StoppedAtRead}
+use Rattle.script_run.specs.Unfinished.{Long}
+use Rattle.line_run.specs.Unfinished.{StoppedAtRead}
 use Rattle.checkpoint.specs.declared.image.Image.{Image}
 use Rattle.checkpoint.specs.declared.image.RunPart.{RunPart}
 use Rattle.checkpoint.specs.Bytes.{image_bytes, IsImage}

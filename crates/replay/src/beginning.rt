@@ -8,7 +8,7 @@ use std::alloc::Global;
 
 /// Where a run begins.
 #[derive(Drop)]
-pub(crate) enum Beginning {
+pub enum Beginning {
     /// In the empty world, of rules with this text. It is shown where the run is saved alone.
     First(Seq<u8>),
     /// In the world of an image.
@@ -17,7 +17,7 @@ pub(crate) enum Beginning {
 
 impl Beginning {
     /// What an image says of the run before it has gone on. It copies the text of the rules.
-    pub(crate) fn part(&self, alloc: Global) -> Result<RunPart, NoMemory>
+    pub fn part(&self, alloc: Global) -> Result<RunPart, NoMemory>
         ensures { IfOk result (λ part. part ≡ part_of self.now) }
     {
         match self {

@@ -20,11 +20,11 @@ use fx_io::Shelf;
 use std::alloc::Global;
 
 /// The most bytes that an image may have.
-pub(crate) const IMAGE_MAX: usize = 1_073_741_824;
+pub const IMAGE_MAX: usize = 1_073_741_824;
 
 /// Why there is no image to go on from.
 #[derive(Clone, Copy, Debug, PartialEq, Eq)]
-pub(crate) enum CheckpointFault {
+pub enum CheckpointFault {
     Refused(CheckpointCode),
     ReadFault,
     NoMemory,
@@ -38,9 +38,9 @@ impl From<NoMemory> for CheckpointFault {
     }
 }
 
-// The image of these bytes, of rules with this text.
+/// The image of these bytes, of rules with this text.
 #[tactic(auto, unfolding(crate::specs::Checkpoints::checkpoint_of))]
-fn image_of(alloc: Global, rules: &[u8], bytes: &[u8]) -> Result<Image, CheckpointFault>
+pub fn image_of(alloc: Global, rules: &[u8], bytes: &[u8]) -> Result<Image, CheckpointFault>
     ensures found { IfOk result (λ image. checkpoint_of rules.now bytes.now ≡ has_image image) }
     ensures refused { IfErr result (TellsCheckpointFault (checkpoint_of rules.now bytes.now)) }
     ensures read { IsErrOf result CheckpointFault.ReadFault → ⊥ }

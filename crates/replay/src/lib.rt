@@ -20,4 +20,13 @@ mod status;
 mod summing;
 mod top;
 
-pub use top::{replay, run_rules};
+pub use beginning::Beginning;
+pub use checkpoint_file::{CheckpointFault, IMAGE_MAX, image_of};
+pub use refusal::{Refusal, RefusalCode, whole_file};
+pub use refused_checkpoint::{CheckpointCode, refuse_checkpoint};
+pub use rule_file::{FileFault, Reading, read_rules, read_whole};
+pub use running::begun;
+pub use saving::can_go_on;
+pub use saying::{refuse, say};
+pub use status::status_of_fault;
+pub use top::{FILE_MAX, replay, run_rules};

@@ -21,8 +21,9 @@ use expiry_infer::lives;
 use fx_base::{NoMemory, Seq};
 use fx_io::{MemSink, PlainSource, Sink};
 use gen_load::{Generated, generate};
+use line_run::Ended;
 use rule_model::{LifeTable, Program};
-use script_run::{Ended, run};
+use script_run::run;
 use std::alloc::Global;
 
 /// Room for what a run over a load prints: for 1,000,000 firings of at most 28 bytes, 20,000 insertions and 60,000 faults, in bytes.

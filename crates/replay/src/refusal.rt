@@ -9,7 +9,7 @@ use subrules::ExpandCode;
 
 /// Why a rule file is refused.
 #[derive(Clone, Copy, Debug, PartialEq, Eq)]
-pub(crate) enum RefusalCode {
+pub enum RefusalCode {
     /// The shelf has no file of this name.
     Missing,
     /// The file has more than 1,048,576 bytes.
@@ -26,14 +26,14 @@ pub(crate) enum RefusalCode {
 
 /// Why a rule file is refused, and where. Items and lines are counted from 1; 0 stands for none of them.
 #[derive(Clone, Copy, Debug, PartialEq, Eq)]
-pub(crate) struct Refusal {
-    pub(crate) item: u64,
-    pub(crate) line: u64,
-    pub(crate) code: RefusalCode,
+pub struct Refusal {
+    pub item: u64,
+    pub line: u64,
+    pub code: RefusalCode,
 }
 
 /// The refusal of a file as a whole.
-pub(crate) fn whole_file(code: RefusalCode) -> Refusal
+pub fn whole_file(code: RefusalCode) -> Refusal
     ensures { result ≡ whole_file_of code }
 {
     Refusal {
@@ -68,7 +68,7 @@ fn push_code(text: &mut Vec<u8>, code: RefusalCode) -> Result<(), NoMemory>
 }
 
 /// Appends the line of a refused file.
-pub(crate) fn push_refusal(text: &mut Vec<u8>, refusal: Refusal) -> Result<(), NoMemory>
+pub fn push_refusal(text: &mut Vec<u8>, refusal: Refusal) -> Result<(), NoMemory>
     ensures { OnOk result (text.new.items ≡ text.old.items ++ refusal_text refusal) }
 {
     text.extend_from_slice(b"refused item ")?;

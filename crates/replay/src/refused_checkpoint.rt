@@ -9,7 +9,7 @@ use std::alloc::Global;
 
 /// Why a checkpoint is refused. The codes stand in the order in which they are tried.
 #[derive(Clone, Copy, Debug, PartialEq, Eq)]
-pub(crate) enum CheckpointCode {
+pub enum CheckpointCode {
     /// The shelf has no file of this name.
     Missing,
     /// The image has more than 1 GiB.
@@ -48,7 +48,7 @@ fn push_code(text: &mut Vec<u8>, code: CheckpointCode) -> Result<(), NoMemory>
 }
 
 /// Writes the line of a refused checkpoint.
-pub(crate) fn refuse_checkpoint<K: Sink>(alloc: Global, out: &mut K, code: CheckpointCode) -> u8
+pub fn refuse_checkpoint<K: Sink>(alloc: Global, out: &mut K, code: CheckpointCode) -> u8
     ensures said { result ≡ 9 → K.written out.new ≡ append (K.written out.old) (checkpoint_text code) }
     ensures front { 5 ≤ result → AppendsFront (K.written out.old) (K.written out.new) (checkpoint_text code) }
     ensures answers { (result ≡ 9) ⊎ ((6 ≤ result) × (result ≤ 7)) }

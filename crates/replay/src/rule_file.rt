@@ -28,7 +28,7 @@ use subrules::{ExpandFault, Expanded, expand};
 
 /// Why a file was not read.
 #[derive(Clone, Copy, Debug, PartialEq, Eq)]
-pub(crate) enum FileFault {
+pub enum FileFault {
     Missing,
     ReadFault,
     NoMemory,
@@ -71,7 +71,7 @@ fn read_piece<F: Shelf>(
 }
 
 /// Reads a file to its end, or so many bytes of it.
-pub(crate) fn read_whole<F: Shelf>(
+pub fn read_whole<F: Shelf>(
     alloc: Global,
     shelf: &mut F,
     name: &str,
@@ -105,7 +105,7 @@ pub(crate) fn read_whole<F: Shelf>(
 
 /// What a rule file is.
 #[derive(Drop)]
-pub(crate) enum Reading {
+pub enum Reading {
     Accepted(Program),
     Refused(Refusal),
 }
@@ -248,7 +248,7 @@ fn shown_text(alloc: Global, file: &Written, shows: bool) -> Result<Vec<u8>, NoM
 
 /// What the bytes of a rule file are, and the text of the rules of one that is accepted, where that is to be shown. They are read once.
 #[tactic(auto, unfolding(crate::specs::Checkpoints::rules_shown))]
-pub(crate) fn read_rules(
+pub fn read_rules(
     alloc: Global,
     bytes: &[u8],
     shows: bool,

@@ -18,8 +18,9 @@ use command_words::Mode;
 use engine::{Engine, ResumeFault};
 use expiry_infer::lives;
 use fx_io::{Sink, Source};
+use line_run::Progress;
 use rule_model::{LifeTable, Program};
-use script_run::{Progress, run_from};
+use script_run::run_from;
 use std::alloc::Global;
 
 // An engine in each world of the beginning.
@@ -47,7 +48,7 @@ fn engine_in<E: Engine>(
 
 /// An engine in each world of the beginning, and what an image says of the run before it has gone on. What an image holds goes into the
 /// engine.
-pub(crate) fn begun<E: Engine>(
+pub fn begun<E: Engine>(
     alloc: Global,
     program: Program,
     lives: LifeTable,

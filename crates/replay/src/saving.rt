@@ -28,15 +28,16 @@ use engine::{Engine, ResumeFault};
 use expiry_infer::lives;
 use fx_base::NoMemory;
 use fx_io::{Sink, Source};
+use line_run::Progress;
 use rule_model::{LifeTable, Program};
-use script_run::{Progress, push_limit, run_from};
+use script_run::{push_limit, run_from};
 use std::alloc::Global;
 
 /// The greatest number from which a run goes on.
 const NUMBER_MAX: u64 = 2_305_843_009_213_693_952;
 
-// Whether the numbers of an image let a run go on from it.
-fn can_go_on(image: &Image) -> bool
+/// Whether the numbers of an image let a run go on from it.
+pub fn can_go_on(image: &Image) -> bool
     ensures { result ≡ can_go_on image.now }
 {
     image.next_id <= NUMBER_MAX

@@ -8,7 +8,7 @@ use fx_io::{Sink, write_all};
 use std::alloc::Global;
 
 /// Writes lines and answers the status, or 6.
-pub(crate) fn say<K: Sink>(out: &mut K, lines: &[u8], status: u8) -> u8
+pub fn say<K: Sink>(out: &mut K, lines: &[u8], status: u8) -> u8
     requires { status ≤ 4 }
     ensures said { result ≤ 4 → (K.written out.new ≡ append (K.written out.old) lines.now) × (result ≡ status) }
     ensures front { 5 ≤ result → AppendsFront (K.written out.old) (K.written out.new) lines.now }
@@ -22,7 +22,7 @@ pub(crate) fn say<K: Sink>(out: &mut K, lines: &[u8], status: u8) -> u8
 }
 
 /// Writes the line of a refused file.
-pub(crate) fn refuse<K: Sink>(alloc: Global, out: &mut K, refusal: Refusal) -> u8
+pub fn refuse<K: Sink>(alloc: Global, out: &mut K, refusal: Refusal) -> u8
     ensures said { result ≤ 4 → (K.written out.new ≡ append (K.written out.old) (refusal_text refusal)) × (result ≡ 3) }
     ensures front { 5 ≤ result → AppendsFront (K.written out.old) (K.written out.new) (refusal_text refusal) }
     ensures answers { (result ≡ 3) ⊎ ((6 ≤ result) × (result ≤ 7)) }

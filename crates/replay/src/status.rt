@@ -1,10 +1,10 @@
 //! The statuses of the program.
 ghost use Rattle.std.specs.Prelude.{◌≡◌, ◌⊎◌, ◌≤◌};
-ghost use Rattle.script_run.specs.Turns.{ended_as};
+ghost use Rattle.line_run.specs.Turns.{ended_as};
 ghost use Rattle.replay.specs.Report.{run_status, fault_status};
 
 use engine::Engine;
-use script_run::{Ended, Progress, RunFault};
+use line_run::{Ended, Progress, RunFault};
 
 /// Of a run of which no call failed.
 pub(crate) fn status_of(ended: Ended) -> u8
@@ -29,7 +29,7 @@ pub(crate) fn status_found<E: Engine>(found: Option<(E, Progress)>) -> u8
 }
 
 /// Of a run that stopped.
-pub(crate) fn status_of_fault(fault: RunFault) -> u8
+pub fn status_of_fault(fault: RunFault) -> u8
     ensures { result ≡ fault_status fault }
 {
     match fault {

@@ -34,7 +34,7 @@ use rule_model::Program;
 use std::alloc::Global;
 
 /// The most bytes that a rule file may have.
-const FILE_MAX: usize = 1_048_576;
+pub const FILE_MAX: usize = 1_048_576;
 
 /// What is written where the words are refused.
 const USAGE: &[u8] =

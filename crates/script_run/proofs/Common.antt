@@ -16,10 +16,13 @@ pub use Rattle.fx_io.specs.declared.line.Line.TheVariants.{End, Whole, Long}
 pub use Rattle.rule_model.specs.declared.program.Program.{Program}
 pub use Rattle.rule_world.specs.Worlds.{World, empty_world}
 pub use Rattle.script_run.specs.Firings.{Fires, Firings, all_fired, firings, limit_met, none_left, one_less, onto_lines, then_fires, wants_one}
-pub use Rattle.script_run.specs.Run.{setting_of, RunSetting, state_in, LineEffect, Done, Outcome, RunState, at_end, at_limit, fire_step, goes_on, run}
-pub use Rattle.script_run.specs.Run.{state_after, step_in, stops, then_run, asked_step, command_step, fault_step, first_state, progress_after, whole_run}
+pub use Rattle.script_run.specs.Run.{setting_of, RunSetting, fire_step, run}
+pub use Rattle.line_run.specs.Run.{state_in, LineEffect, Done, Outcome, RunState, at_end, at_limit, goes_on}
+pub use Rattle.line_run.specs.Run.{state_after, stops, then_run, progress_after}
+pub use Rattle.script_run.specs.Run.{step_in, asked_step, command_step, fault_step, first_state, whole_run}
 pub use Rattle.script_run.specs.Texts.{has_fault, held_text, line_text, lines_text, cell_text, fault_text, held_line, is_fault, limit_text, quoted_byte}
-pub use Rattle.script_run.specs.Turns.{Does, EndsFirings, Flushes, HasAtMost, TakesScript}
-pub use Rattle.script_run.specs.declared.turn.Ended.{Ended}
-pub use Rattle.script_run.specs.declared.turn.Progress.{Progress}
-pub use Rattle.script_run.specs.declared.turn.Turn.TheVariants.{Goes, Stops}
+pub use Rattle.line_run.specs.Turns.{Does, Flushes, HasAtMost}
+pub use Rattle.script_run.specs.Turns.{EndsFirings, TakesScript}
+pub use Rattle.line_run.specs.declared.turn.Ended.{Ended}
+pub use Rattle.line_run.specs.declared.turn.Progress.{Progress}
+pub use Rattle.line_run.specs.declared.turn.Turn.TheVariants.{Goes, Stops}

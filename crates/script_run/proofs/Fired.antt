@@ -5,7 +5,7 @@ use Rattle.script_run.proofs.Common.{onto_lines, none_left, then_fires, wants_on
 use Rattle.script_run.proofs.Common.{limit_text, has_fault, is_fault}
 use Rattle.engine.specs.declared.lines.Fired.TheVariants.{No, Yes}
 use Rattle.engine.specs.Answers.{FiringAnswers}
-use Rattle.script_run.specs.declared.turn.Turn.{Turn}
+use Rattle.line_run.specs.declared.turn.Turn.{Turn}
 use Rattle.script_run.specs.Firings.{firings}
 
 -- either of two, by the first
@@ -64,7 +64,7 @@ next_remains setting number all most left n v before after bad f after' bad' r w
 -- no more is fired
 over_remains : (setting : RunSetting) (number : ℕ) (all : Firings) (most : Option ℕ) (left : ℕ) (v : World) (before after : List ℕ) (bad : Bool) (stands : World → Type 0)
     → Remains setting number all most left v before after bad → firings setting.fires setting.program most left v ≡ all_fired [] v left → stands v
-    → Does stands (fire_step setting number all) before after (Goes bad left)
+    → Does stands (fire_step setting.program setting.limit number all) before after (Goes bad left)
 over_remains setting number all most left v before after bad stands r e st =
     let is : all ≡ all_fired r.lines v left = r.all-is ∙ ap (onto_lines r.lines) e ∙ ap (λ z. all_fired z v left) (append-nil r.lines) in
     rw is (r.text, st, ap (λ b. Goes b left) r.faulty)
@@ -72,21 +72,21 @@ over_remains setting number all most left v before after bad stands r e st =
 -- the command wants no more
 pub enough_remains : (setting : RunSetting) (number : ℕ) (all : Firings) (most : Option ℕ) (left : ℕ) (v : World) (before after : List ℕ) (bad : Bool) (stands : World → Type 0)
     → Remains setting number all most left v before after bad → wants_one most ≡ false → stands v
-    → Does stands (fire_step setting number all) before after (Goes bad left)
+    → Does stands (fire_step setting.program setting.limit number all) before after (Goes bad left)
 enough_remains setting number all most left v before after bad stands r enough st =
     over_remains setting number all most left v before after bad stands r (fires_enough setting.fires setting.program most left v enough) st
 
 -- nothing is pending any more
 pub done_remains : (setting : RunSetting) (number : ℕ) (all : Firings) (most : Option ℕ) (left : ℕ) (v : World) (before after : List ℕ) (bad : Bool) (stands : World → Type 0)
     → Remains setting number all most left v before after bad → wants_one most ≡ true → setting.fires setting.program v ≡ None → stands v
-    → Does stands (fire_step setting number all) before after (Goes bad left)
+    → Does stands (fire_step setting.program setting.limit number all) before after (Goes bad left)
 done_remains setting number all most left v before after bad stands r wants e st =
     over_remains setting number all most left v before after bad stands r (fires_none setting.fires setting.program most left v wants e) st
 
 -- a match is pending, and no firing is left
 limit_remains : (setting : RunSetting) (number : ℕ) (all : Firings) (most : Option ℕ) (left : ℕ) (v : World) (before after after' : List ℕ) (bad : Bool) (f : List OutLine × World) (stands : World → Type 0)
     → Remains setting number all most left v before after bad → wants_one most ≡ true → left ≡ 0 → setting.fires setting.program v ≡ Some f → after' ≡ after ++ limit_text setting.limit
-    → Does stands (fire_step setting number all) before after' Stops
+    → Does stands (fire_step setting.program setting.limit number all) before after' Stops
 limit_remains setting number all most left v before after after' bad f stands r wants at e t =
     let is : all ≡ limit_met r.lines = r.all-is ∙ ap (onto_lines r.lines) (fires_over setting.fires setting.program most left v f wants at e) ∙ ap limit_met (append-nil r.lines) in
     rw is (t ∙ ap (λ z. z ++ limit_text setting.limit) r.text ∙ append_assoc before (lines_text setting.program number r.lines) (limit_text setting.limit), refl)
@@ -94,12 +94,12 @@ limit_remains setting number all most left v before after after' bad f stands r 
 -- the loop of firings has ended with none left, and the command wants one
 pub end_remains : (setting : RunSetting) (number : ℕ) (all : Firings) (most : Option ℕ) (left : ℕ) (v : World) (before after after' : List ℕ) (bad : Bool) (turn : Turn) (stands : World → Type 0)
     → Remains setting number all most left v before after bad → wants_one most ≡ true → left ≡ 0 → stands v → EndsFirings setting.limit (setting.fires setting.program v) bad after after' turn
-    → Does stands (fire_step setting number all) before after' turn
+    → Does stands (fire_step setting.program setting.limit number all) before after' turn
 end_remains setting number all most left v before after after' bad turn stands r wants at st h = here (setting.fires setting.program v) refl h
   where
-    here : (o : Option (List OutLine × World)) → setting.fires setting.program v ≡ o → EndsFirings setting.limit o bad after after' turn → Does stands (fire_step setting number all) before after' turn
+    here : (o : Option (List OutLine × World)) → setting.fires setting.program v ≡ o → EndsFirings setting.limit o bad after after' turn → Does stands (fire_step setting.program setting.limit number all) before after' turn
     here None e k =
-        let d : Does stands (fire_step setting number all) before after (Goes bad left) = done_remains setting number all most left v before after bad stands r wants e st in
+        let d : Does stands (fire_step setting.program setting.limit number all) before after (Goes bad left) = done_remains setting number all most left v before after bad stands r wants e st in
         rw (k.0, k.1, sym at) d
     here (Some f) e k = rw k.1 (limit_remains setting number all most left v before after after' bad f stands r wants at e k.0)
 

@@ -11,9 +11,11 @@ use Rattle.script_read.specs.Blank.{is_line_blank}
 use Rattle.script_read.specs.declared.asked.Command.{Command}
 use Rattle.script_read.specs.declared.asked.Command.TheVariants.{Change, Fire, Held}
 use Rattle.script_run.specs.Firings.{firings}
-use Rattle.script_run.specs.Parts.{EndsLine, first_part, run_part_at, progress_behind, run_on}
-use Rattle.script_run.specs.Run.{run, line_step}
-use Rattle.script_run.proofs.Ahead.{run_goes, run_stops, then_run-then_run}
+use Rattle.line_run.specs.Parts.{EndsLine, first_part, run_part_at, progress_behind}
+use Rattle.script_run.specs.Parts.{run_on}
+use Rattle.line_run.specs.Run.{run as run_lines}
+use Rattle.script_run.specs.Run.{run, line_step, at_most, closed, fire_by, met_step, told_step}
+use Rattle.line_run.proofs.Ahead.{run_goes, run_stops, then_run-then_run}
 
 abbrev comes_of : Outcome → Option RunState
 comes_of o = o.comes_to
@@ -30,17 +32,17 @@ pub no_more : (s t : RunState) → None ≡ Some t → ⊥
 no_more s t e = cc
 
 joined : (setting : RunSetting) (s t : RunState) (xs ys : List (List ℕ)) → (run setting s xs).comes_to ≡ Some t → Joins setting s t xs ys
-unfolding run
+unfolding run_lines
 joined setting s t [] ys e = ap (λ (u : RunState). run setting u ys) (same_Some s t e)
 joined setting s t (x ∷ xs) ys e = here (step_in setting s x) refl (λ u h. joined setting u t xs ys h)
   where
     here : (step : LineEffect) → step_in setting s x ≡ step → ((u : RunState) → (run setting u xs).comes_to ≡ Some t → Joins setting u t xs ys) → Joins setting s t (x ∷ xs) ys
     here (goes_on done) is rest =
-        let first = run_goes setting s x done is xs in
+        let first = run_goes (step_in setting) s x done is xs in
         let comes : (run setting (state_after s done) xs).comes_to ≡ Some t = sym (ap comes_of first) ∙ e in
-        run_goes setting s x done is (xs ++ ys) ∙ ap (then_run done.text) (rest (state_after s done) comes)
+        run_goes (step_in setting) s x done is (xs ++ ys) ∙ ap (then_run done.text) (rest (state_after s done) comes)
         ∙ then_run-then_run done.text (run setting (state_after s done) xs).bytes (run setting t ys) ∙ ap (λ (z : List ℕ). then_run z (run setting t ys)) (sym (ap bytes_of first))
-    here (stops text) is rest = absurd (no_more s t (sym (ap comes_of (run_stops setting s x text is xs)) ∙ e))
+    here (stops text) is rest = absurd (no_more s t (sym (ap comes_of (run_stops (step_in setting) s x text is xs)) ∙ e))
 
 -- ---- the firings that are left never rise
 
@@ -79,13 +81,28 @@ if_step : (n : ℕ) (flag : Bool) (a b : LineEffect) → StepWithin n a → Step
 if_step n true a b h k = h
 if_step n false a b h k = k
 
-fire_within : (setting : RunSetting) (number n : ℕ) (r : Firings) → FiresWithin n r → StepWithin n (fire_step setting number r)
+fire_within : (setting : RunSetting) (number n : ℕ) (r : Firings) → FiresWithin n r → StepWithin n (fire_step setting.program setting.limit number r)
 fire_within setting number n (all_fired lines w left) h = h
 fire_within setting number n (limit_met lines) h = tt
 
+met_within : (setting : RunSetting) (each number n : ℕ) (most : Option ℕ) (effect : LineEffect) → StepWithin n effect → StepWithin n (met_step setting each number most effect)
+met_within setting each number n most (goes_on done) h = h
+met_within setting each number n most (stops text) h = tt
+
+by_within : (setting : RunSetting) (live : Option ℕ) (number n : ℕ) (w : World) (most : Option ℕ) → StepWithin n (fire_by setting live number n w most)
+by_within setting None number n w most = fire_within setting number n (firings setting.fires setting.program most n w) (firings_within setting.fires setting.program most n w)
+by_within setting (Some each) number n w most =
+    let fired : Firings = firings setting.fires setting.program (Some (at_most each most)) n w in
+    met_within setting each number n most (fire_step setting.program setting.limit number fired)
+    (fire_within setting number n fired (firings_within setting.fires setting.program (Some (at_most each most)) n w))
+
+closed_within : (live : Option ℕ) (number n : ℕ) (effect : LineEffect) → StepWithin n effect → StepWithin n (closed live number effect)
+closed_within live number n (goes_on done) h = h
+closed_within live number n (stops text) h = tt
+
 command_within : (setting : RunSetting) (number n : ℕ) (w : World) (c : Command) → StepWithin n (command_step setting number n w c)
 command_within setting number n w (Change change) = omega arith
-command_within setting number n w (Fire most) = fire_within setting number n (firings setting.fires setting.program most n w) (firings_within setting.fires setting.program most n w)
+command_within setting number n w (Fire most) = by_within setting setting.live number n w most
 command_within setting number n w Held = omega arith
 
 asked_within : (setting : RunSetting) (number n : ℕ) (w : World) (a : Asked) → StepWithin n (asked_step setting number n w a)
@@ -96,18 +113,19 @@ asked_within setting number n w bad_command = omega arith
 step_within : (setting : RunSetting) (number n : ℕ) (w : World) (line : List ℕ) → StepWithin n (line_step setting number n w line)
 unfolding line_step
 step_within setting number n w line =
-    if_step n (nat_lt 65536 (length line)) _ _ (omega arith) (if_step n (is_line_blank line) _ _ (omega arith) (asked_within setting number n w (asked line)))
+    closed_within setting.live number n (told_step setting number n w line)
+    (if_step n (nat_lt 65536 (length line)) _ _ (omega arith) (if_step n (is_line_blank line) _ _ (omega arith) (asked_within setting number n w (asked line))))
 
 pub run_within : (setting : RunSetting) (s t : RunState) (xs : List (List ℕ)) → (run setting s xs).comes_to ≡ Some t → t.progress.left ≤ s.progress.left
-unfolding run
+unfolding run_lines
 run_within setting s t [] e = let is : s ≡ t = same_Some s t e in rw is (omega arith)
 run_within setting s t (x ∷ xs) e =
     here (step_in setting s x) refl (step_within setting (s.progress.lines + 1) s.progress.left s.world x) (λ u h. run_within setting u t xs h)
   where
     here : (step : LineEffect) → step_in setting s x ≡ step → StepWithin s.progress.left step → ((u : RunState) → (run setting u xs).comes_to ≡ Some t → t.progress.left ≤ u.progress.left)
         → t.progress.left ≤ s.progress.left
-    here (goes_on done) is within rest = omega (arith, within, rest (state_after s done) (sym (ap comes_of (run_goes setting s x done is xs)) ∙ e))
-    here (stops text) is within rest = absurd (no_more s t (sym (ap comes_of (run_stops setting s x text is xs)) ∙ e))
+    here (goes_on done) is within rest = omega (arith, within, rest (state_after s done) (sym (ap comes_of (run_goes (step_in setting) s x done is xs)) ∙ e))
+    here (stops text) is within rest = absurd (no_more s t (sym (ap comes_of (run_stops (step_in setting) s x text is xs)) ∙ e))
 
 -- ---- what an image says of a run is where it goes on
 

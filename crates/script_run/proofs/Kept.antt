@@ -9,8 +9,9 @@ use Rattle.script_read.specs.declared.asked.Change.{Change as ScriptChange}
 use Rattle.script_read.specs.declared.asked.Command.{Command}
 use Rattle.script_read.specs.declared.asked.Command.TheVariants.{Change, Fire, Held}
 use Rattle.script_run.specs.Firings.{firings}
-use Rattle.script_run.specs.Run.{run, line_step}
-use Rattle.script_run.proofs.Ahead.{run_goes, run_stops}
+use Rattle.line_run.specs.Run.{run as run_lines}
+use Rattle.script_run.specs.Run.{run, line_step, at_most, closed, fire_by, met_step, told_step}
+use Rattle.line_run.proofs.Ahead.{run_goes, run_stops}
 use Rattle.script_run.proofs.Joined.{no_more}
 
 module _ (setting : RunSetting) (Holds : World → Type 0)
@@ -52,13 +53,27 @@ module _ (setting : RunSetting) (Holds : World → Type 0)
   if_step true a b h k = h
   if_step false a b h k = k
 
-  fire_to : (number : ℕ) (r : Firings) → FiresTo r → StepsTo (fire_step setting number r)
+  fire_to : (number : ℕ) (r : Firings) → FiresTo r → StepsTo (fire_step setting.program setting.limit number r)
   fire_to number (all_fired lines w left) h = h
   fire_to number (limit_met lines) h = tt
 
+  met_to : (each number : ℕ) (most : Option ℕ) (effect : LineEffect) → StepsTo effect → StepsTo (met_step setting each number most effect)
+  met_to each number most (goes_on done) h = h
+  met_to each number most (stops text) h = tt
+
+  by_to : (live : Option ℕ) (number n : ℕ) (w : World) (most : Option ℕ) → Holds w → StepsTo (fire_by setting live number n w most)
+  by_to None number n w most h = fire_to number (firings setting.fires setting.program most n w) (firings_to most n w h)
+  by_to (Some each) number n w most h =
+      let fired : Firings = firings setting.fires setting.program (Some (at_most each most)) n w in
+      met_to each number most (fire_step setting.program setting.limit number fired) (fire_to number fired (firings_to (Some (at_most each most)) n w h))
+
+  closed_to : (live : Option ℕ) (number : ℕ) (effect : LineEffect) → StepsTo effect → StepsTo (closed live number effect)
+  closed_to live number (goes_on done) h = h
+  closed_to live number (stops text) h = tt
+
   command_to : (number n : ℕ) (w : World) (c : Command) → Holds w → StepsTo (command_step setting number n w c)
   command_to number n w (Change change) h = changes w change h
-  command_to number n w (Fire most) h = fire_to number (firings setting.fires setting.program most n w) (firings_to most n w h)
+  command_to number n w (Fire most) h = by_to setting.live number n w most h
   command_to number n w Held h = h
 
   asked_to : (number n : ℕ) (w : World) (a : Asked) → Holds w → StepsTo (asked_step setting number n w a)
@@ -68,14 +83,15 @@ module _ (setting : RunSetting) (Holds : World → Type 0)
 
   step_to : (number n : ℕ) (w : World) (line : List ℕ) → Holds w → StepsTo (line_step setting number n w line)
   unfolding line_step
-  step_to number n w line h = if_step (nat_lt 65536 (length line)) _ _ h (if_step (is_line_blank line) _ _ h (asked_to number n w (asked line) h))
+  step_to number n w line h =
+      closed_to setting.live number (told_step setting number n w line) (if_step (nat_lt 65536 (length line)) _ _ h (if_step (is_line_blank line) _ _ h (asked_to number n w (asked line) h)))
 
   pub run_keeps : (s t : RunState) (lines : List (List ℕ)) → Holds s.world → (run setting s lines).comes_to ≡ Some t → Holds t.world
-  unfolding run
+  unfolding run_lines
   run_keeps s t [] h e = let is : s ≡ t = same_Some s t e in rw (sym is) h
   run_keeps s t (x ∷ xs) h e = here (step_in setting s x) refl (step_to (s.progress.lines + 1) s.progress.left s.world x h) (λ u k f. run_keeps u t xs k f)
     where
       here : (step : LineEffect) → step_in setting s x ≡ step → StepsTo step
           → ((u : RunState) → Holds u.world → (run setting u xs).comes_to ≡ Some t → Holds t.world) → Holds t.world
-      here (goes_on done) is there rest = rest (state_after s done) there (sym (ap (λ (o : Outcome). o.comes_to) (run_goes setting s x done is xs)) ∙ e)
-      here (stops text) is there rest = absurd (no_more s t (sym (ap (λ (o : Outcome). o.comes_to) (run_stops setting s x text is xs)) ∙ e))
+      here (goes_on done) is there rest = rest (state_after s done) there (sym (ap (λ (o : Outcome). o.comes_to) (run_goes (step_in setting) s x done is xs)) ∙ e)
+      here (stops text) is there rest = absurd (no_more s t (sym (ap (λ (o : Outcome). o.comes_to) (run_stops (step_in setting) s x text is xs)) ∙ e))

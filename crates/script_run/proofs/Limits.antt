@@ -10,8 +10,9 @@ use Rattle.script_read.specs.declared.asked.Command.{Command}
 use Rattle.script_read.specs.declared.asked.Command.TheVariants.{Change, Fire, Held}
 use Rattle.script_run.specs.Firings.{firings}
 use Rattle.script_run.specs.Limits.{with_limit, IsSameRun}
-use Rattle.script_run.specs.Run.{run, line_step}
-use Rattle.script_run.proofs.Ahead.{run_goes, run_stops}
+use Rattle.line_run.specs.Run.{run as run_lines}
+use Rattle.script_run.specs.Run.{run, line_step, at_most, closed, end_text, fire_by, met_lines, met_step, told_step}
+use Rattle.line_run.proofs.Ahead.{run_goes, run_stops}
 use Rattle.script_run.proofs.Joined.{no_more, run_within}
 
 -- ---- firings, of which so many and so many were left before
@@ -91,17 +92,37 @@ module _ (setting : RunSetting) (limit : ℕ) where
   abbrev other : RunSetting
   other = with_limit limit setting
 
-  fire_same : (number m n : ℕ) (r q : Firings) → SameFirings m n r q → SameSteps m n (fire_step setting number r) (fire_step other number q)
+  fire_same : (number m n : ℕ) (r q : Firings) → SameFirings m n r q → SameSteps m n (fire_step setting.program setting.limit number r) (fire_step other.program other.limit number q)
   fire_same number m n (all_fired a v k) (all_fired b w l) h =
       (ap (λ (z : List OutLine). lines_text setting.program number z) h.0, h.1, ap has_fault h.0, h.2)
   fire_same number m n (all_fired a v k) (limit_met b) h = tt
   fire_same number m n (limit_met a) (all_fired b w l) h = tt
   fire_same number m n (limit_met a) (limit_met b) h = tt
 
+  met_same : (each number m n : ℕ) (most : Option ℕ) (a b : LineEffect) → SameSteps m n a b → SameSteps m n (met_step setting each number most a) (met_step other each number most b)
+  met_same each number m n most (goes_on a) (goes_on b) h =
+      (ap₂ (λ (text : List ℕ) (w : World). text ++ met_lines (setting.fires setting.program w) each number most) h.0 h.1, h.1, h.2, h.3)
+  met_same each number m n most (goes_on a) (stops text) h = tt
+  met_same each number m n most (stops text) (goes_on b) h = tt
+  met_same each number m n most (stops text) (stops more) h = tt
+
+  by_same : (live : Option ℕ) (number m n : ℕ) (w : World) (most : Option ℕ) → SameSteps m n (fire_by setting live number m w most) (fire_by other live number n w most)
+  by_same None number m n w most =
+      fire_same number m n (firings setting.fires setting.program most m w) (firings setting.fires setting.program most n w) (firings_same setting.fires setting.program most m n w)
+  by_same (Some each) number m n w most =
+      let few : Option ℕ = Some (at_most each most) in
+      met_same each number m n most (fire_step setting.program setting.limit number (firings setting.fires setting.program few m w)) (fire_step other.program other.limit number (firings setting.fires setting.program few n w))
+      (fire_same number m n (firings setting.fires setting.program few m w) (firings setting.fires setting.program few n w) (firings_same setting.fires setting.program few m n w))
+
+  closed_same : (live : Option ℕ) (number m n : ℕ) (a b : LineEffect) → SameSteps m n a b → SameSteps m n (closed live number a) (closed live number b)
+  closed_same live number m n (goes_on a) (goes_on b) h = (ap (λ (text : List ℕ). text ++ end_text live number) h.0, h.1, h.2, h.3)
+  closed_same live number m n (goes_on a) (stops text) h = tt
+  closed_same live number m n (stops text) (goes_on b) h = tt
+  closed_same live number m n (stops text) (stops more) h = tt
+
   command_same : (number m n : ℕ) (w : World) (c : Command) → SameSteps m n (command_step setting number m w c) (command_step other number n w c)
   command_same number m n w (Change change) = (refl, refl, refl, omega arith)
-  command_same number m n w (Fire most) =
-      fire_same number m n (firings setting.fires setting.program most m w) (firings setting.fires setting.program most n w) (firings_same setting.fires setting.program most m n w)
+  command_same number m n w (Fire most) = by_same setting.live number m n w most
   command_same number m n w Held = (refl, refl, refl, omega arith)
 
   asked_same : (number m n : ℕ) (w : World) (a : Asked) → SameSteps m n (asked_step setting number m w a) (asked_step other number n w a)
@@ -112,8 +133,9 @@ module _ (setting : RunSetting) (limit : ℕ) where
   step_same : (number m n : ℕ) (w : World) (line : List ℕ) → SameSteps m n (line_step setting number m w line) (line_step other number n w line)
   unfolding line_step
   step_same number m n w line =
-      if_steps m n (nat_lt 65536 (length line)) _ _ _ _ (refl, refl, refl, omega arith)
-      (if_steps m n (is_line_blank line) _ _ _ _ (refl, refl, refl, omega arith) (asked_same number m n w (asked line)))
+      closed_same setting.live number m n (told_step setting number m w line) (told_step other number n w line)
+      (if_steps m n (nat_lt 65536 (length line)) _ _ _ _ (refl, refl, refl, omega arith)
+      (if_steps m n (is_line_blank line) _ _ _ _ (refl, refl, refl, omega arith) (asked_same number m n w (asked line))))
 
   -- a state in which so many firings are left
   abbrev at_left : ℕ → Bool → World → ℕ → RunState
@@ -139,7 +161,7 @@ module _ (setting : RunSetting) (limit : ℕ) where
 
   runs_same : (lines : ℕ) (faulted : Bool) (w : World) (m n : ℕ) (xs : List (List ℕ))
       → SameEnds m n (run setting (at_left lines faulted w m) xs) (run other (at_left lines faulted w n) xs)
-  unfolding run
+  unfolding run_lines
   runs_same lines faulted w m n [] = at_ends lines faulted w m n
   runs_same lines faulted w m n (x ∷ xs) =
       here (step_in setting (at_left lines faulted w m) x) (step_in other (at_left lines faulted w n) x) refl refl (step_same (lines + 1) m n w x)
@@ -154,10 +176,10 @@ module _ (setting : RunSetting) (limit : ℕ) where
           let ends : SameEnds c.left d.left (run setting (state_after (at_left lines faulted w m) c) xs) (run other (state_after (at_left lines faulted w n) d) xs)
           = subst (λ (u : RunState). SameEnds c.left d.left (run setting (state_after (at_left lines faulted w m) c) xs) (run other u xs)) there
           (rest c.world (faulted || c.faulty) c.left d.left) in
-          rw (run_goes setting (at_left lines faulted w m) x c is xs, run_goes other (at_left lines faulted w n) x d also xs)
+          rw (run_goes (step_in setting) (at_left lines faulted w m) x c is xs, run_goes (step_in other) (at_left lines faulted w n) x d also xs)
           (behind m n c.left d.left c.text d.text (run setting (state_after (at_left lines faulted w m) c) xs) (run other (state_after (at_left lines faulted w n) d) xs) same.0 same.3 ends)
-      here (stops text) b is also same rest = λ s t e f. absurd (no_more s s (sym (ap comes_of (run_stops setting (at_left lines faulted w m) x text is xs)) ∙ e))
-      here (goes_on c) (stops text) is also same rest = λ s t e f. absurd (no_more s t (sym (ap comes_of (run_stops other (at_left lines faulted w n) x text also xs)) ∙ f))
+      here (stops text) b is also same rest = λ s t e f. absurd (no_more s s (sym (ap comes_of (run_stops (step_in setting) (at_left lines faulted w m) x text is xs)) ∙ e))
+      here (goes_on c) (stops text) is also same rest = λ s t e f. absurd (no_more s t (sym (ap comes_of (run_stops (step_in other) (at_left lines faulted w n) x text also xs)) ∙ f))
 
 made_is : (m n k l : ℕ) → m + l ≡ n + k → k ≤ m → l ≤ n → m - k ≡ n - l
 made_is m n k l sum low less = grind (arith, sum, low, less)

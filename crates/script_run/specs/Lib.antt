@@ -3,7 +3,6 @@ pub mod Firings
 pub mod Run
 pub mod Parts
 pub mod Unfinished
-pub mod Prompt
-pub mod Faults
 pub mod Turns
 pub mod Limits
+pub mod Live

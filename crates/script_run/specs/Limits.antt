@@ -1,6 +1,7 @@
 -- Runs that differ in their limit of firings alone.
 use Rattle.std.specs.Prelude.{◌≡◌, ◌-◌, ℕ}
-use Rattle.script_run.specs.Run.{RunSetting, RunState, Outcome}
+use Rattle.script_run.specs.Run.{RunSetting}
+use Rattle.line_run.specs.Run.{RunState, Outcome}
 
 -- the same run with another limit
 abbrev pub with_limit : ℕ → RunSetting → RunSetting

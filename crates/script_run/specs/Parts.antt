@@ -1,31 +1,11 @@
--- What an image says of a run, and the run that goes on behind it.
-use Rattle.std.specs.Prelude.{◌≡◌, ◌⊎◌, ◌+◌, ◌-◌, ◌++◌, ℕ, false, List, [], ◌∷◌}
+-- The run that goes on behind an image.
+use Rattle.std.specs.Prelude.{ℕ, List}
 use Rattle.checkpoint.specs.declared.image.RunPart.{RunPart}
 use Rattle.rule_world.specs.Worlds.{World}
-use Rattle.script_run.specs.declared.turn.Progress.{Progress}
-use Rattle.script_run.specs.Run.{RunSetting, Outcome, state_in, run}
-
--- of a run of rules with this text that has not begun
-abbrev pub first_part : List ℕ → RunPart
-first_part rules = record { rules = rules; lines = 0; firings = 0; faulty = false }
-
--- a limit is one of all firings, those before the image too
-abbrev pub progress_behind : ℕ → RunPart → Progress
-progress_behind limit part = record { lines = part.lines; left = limit - part.firings; faulted = part.faulty }
-
--- of a run that began behind a part and has come so far
-abbrev pub run_part_at : ℕ → RunPart → Progress → RunPart
-run_part_at limit first progress = record {
-  rules = first.rules;
-  lines = progress.lines;
-  firings = first.firings + ((limit - first.firings) - progress.left);
-  faulty = progress.faulted;
-}
+use Rattle.line_run.specs.Parts.{progress_behind}
+use Rattle.line_run.specs.Run.{Outcome, state_in}
+use Rattle.script_run.specs.Run.{RunSetting, run}
 
 -- the lines behind a part, in a world
 abbrev pub run_on : RunSetting → World → RunPart → List (List ℕ) → Outcome
 run_on setting w part = run setting (state_in w (progress_behind setting.limit part))
-
--- a script that is empty or ends with a line end: what stands behind it begins with a line of its own
-abbrev pub EndsLine : List ℕ → Type 0
-EndsLine script = (script ≡ []) ⊎ ((front : List ℕ) × (script ≡ front ++ 10 ∷ []))

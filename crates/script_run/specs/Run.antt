@@ -1,5 +1,5 @@
 -- The run of a script over a program by an engine of these meanings: what its lines print, and how it ends.
-use Rattle.std.specs.Prelude.{ℕ, ◌+◌, ◌||◌, ◌++◌, Bool, true, false, List, [], ◌∷◌, length, nat_lt, Option, Some, None, if◌then◌else◌}
+use Rattle.std.specs.Prelude.{ℕ, ◌+◌, ◌++◌, ◌&&◌, Bool, true, false, List, [], ◌∷◌, length, nat_lt, Option, Some, None, is_some, if◌then◌else◌}
 use Rattle.rule_model.specs.declared.life.LifeTable.{LifeTable}
 use Rattle.rule_model.specs.declared.program.Program.{Program}
 use Rattle.rule_world.specs.Worlds.{World, empty_world}
@@ -10,36 +10,28 @@ use Rattle.script_read.specs.Blank.{is_line_blank}
 use Rattle.engine.specs.declared.lines.OutLine.{OutLine}
 use Rattle.script_run.specs.declared.fault.LineCode.{LineCode}
 use Rattle.script_run.specs.declared.fault.LineCode.TheVariants.{LineLong, BadJson, BadCommand}
-use Rattle.script_run.specs.declared.turn.Progress.{Progress}
-use Rattle.script_run.specs.declared.turn.Ended.{Ended}
-use Rattle.script_run.specs.declared.turn.Ended.TheVariants.{Script, Limit}
-use Rattle.script_run.specs.Texts.{lines_text, fault_text, limit_text, has_fault, held_text}
+use Rattle.line_run.specs.Run.{LineEffect, goes_on, stops, Outcome, RunState, state_in, run as run_lines}
+use Rattle.script_run.specs.Texts.{lines_text, fault_text, limit_text, met_text, done_text, has_fault, held_text}
 use Rattle.script_run.specs.Firings.{Gives, Fires, Counts, Numbers, Firings, all_fired, limit_met, firings}
 
--- what does not change in a run: the meanings of changes and firings, the numbers of kept events, the limit of firings, and the program
+-- What does not change in a run: the meanings of changes and firings, the numbers of kept events, the limit of all firings, and the program.
+-- A live run has a limit for each fire command too, and closes each line of the script by a line of its own.
 pub record RunSetting : Type 0 where
   pub gives : Gives
   pub fires : Fires
   pub numbers : Numbers
   pub limit : ℕ
+  pub live : Option ℕ
   pub program : Program
 
 -- the setting of a run by these meanings, with a limit of firings, of a program with a table of the lives of its types
+abbrev pub setting_with : Option ℕ → Gives → Fires → Counts → ℕ → Program → LifeTable → RunSetting
+setting_with live gives fires counts limit p table =
+    record { gives = gives; fires = fires; numbers = counts p table; limit = limit; live = live; program = p }
+
+-- that of a recorded script
 abbrev pub setting_of : Gives → Fires → Counts → ℕ → Program → LifeTable → RunSetting
-setting_of gives fires counts limit p table = record { gives = gives; fires = fires; numbers = counts p table; limit = limit; program = p }
-
--- a line of the script after which the run goes on: what it prints, the world that it leaves, how many firings are left,
--- and whether it is a fault
-pub record Done : Type 0 where
-  pub text : List ℕ
-  pub world : World
-  pub left : ℕ
-  pub faulty : Bool
-
--- what a line does: the run goes on, or it ends at the limit of firings, and the line prints this
-pub data LineEffect : Type 0 where
-  goes_on : Done → LineEffect
-  stops : List ℕ → LineEffect
+setting_of = setting_with None
 
 -- ---- the effect of a line with this number, where so many firings are left, in a world
 
@@ -47,9 +39,35 @@ abbrev pub printed : Program → ℕ → ℕ → List OutLine → World → Line
 printed p number left lines w = goes_on (record { text = lines_text p number lines; world = w; left = left; faulty = has_fault lines })
 
 -- a fire command, by what its firings come to
-abbrev pub fire_step : RunSetting → ℕ → Firings → LineEffect
-fire_step setting number (all_fired lines w left) = printed setting.program number left lines w
-fire_step setting number (limit_met lines) = stops (lines_text setting.program number lines ++ limit_text setting.limit)
+abbrev pub fire_step : Program → ℕ → ℕ → Firings → LineEffect
+fire_step p limit number (all_fired lines w left) = printed p number left lines w
+fire_step p limit number (limit_met lines) = stops (lines_text p number lines ++ limit_text limit)
+
+-- at most so many of the firings that a command wants
+abbrev pub at_most : ℕ → Option ℕ → ℕ
+at_most each None = each
+at_most each (Some most) = if nat_lt each most then each else most
+
+-- whether a command wants more firings than so many
+abbrev pub wants_more : ℕ → Option ℕ → Bool
+wants_more each None = true
+wants_more each (Some most) = nat_lt each most
+
+-- the line of the limit for each command, where it was met: a command wanted more, and a match is pending still
+abbrev pub met_lines : Option (List OutLine × World) → ℕ → ℕ → Option ℕ → List ℕ
+met_lines next each number most = if wants_more each most && is_some next then met_text number each else []
+
+-- a fire command of a live run, by what those firings come to
+abbrev pub met_step : RunSetting → ℕ → ℕ → Option ℕ → LineEffect → LineEffect
+met_step setting each number most (goes_on done) =
+    goes_on (record done { text = done.text ++ met_lines (setting.fires setting.program done.world) each number most })
+met_step setting each number most (stops text) = stops text
+
+-- a fire command, of a live run as many of its firings as there may be for each
+abbrev pub fire_by : RunSetting → Option ℕ → ℕ → ℕ → World → Option ℕ → LineEffect
+fire_by setting None number left w most = fire_step setting.program setting.limit number (firings setting.fires setting.program most left w)
+fire_by setting (Some each) number left w most =
+    met_step setting each number most (fire_step setting.program setting.limit number (firings setting.fires setting.program (Some (at_most each most)) left w))
 
 -- the numbers of the kept events change nothing and are no fault
 abbrev pub held_step : RunSetting → ℕ → World → LineEffect
@@ -58,7 +76,7 @@ held_step setting left w = goes_on (record { text = held_text setting.program.ty
 abbrev pub command_step : RunSetting → ℕ → ℕ → World → Command → LineEffect
 command_step setting number left w (Change change) =
     printed setting.program number left (setting.gives setting.program w change).0 (setting.gives setting.program w change).1
-command_step setting number left w (Fire most) = fire_step setting number (firings setting.fires setting.program most left w)
+command_step setting number left w (Fire most) = fire_by setting setting.live number left w most
 command_step setting number left w Held = held_step setting left w
 
 -- a faulty line changes nothing
@@ -74,58 +92,35 @@ asked_step setting number left w bad_command = fault_step number left w BadComma
 abbrev pub blank_step : ℕ → World → LineEffect
 blank_step left w = goes_on (record { text = []; world = w; left = left; faulty = false })
 
--- a line of the script
-unfoldable pub line_step : RunSetting → ℕ → ℕ → World → List ℕ → LineEffect
-line_step setting number left w line =
+-- a line of the script, but for the line that closes it
+abbrev pub told_step : RunSetting → ℕ → ℕ → World → List ℕ → LineEffect
+told_step setting number left w line =
     if nat_lt 65536 (length line) then fault_step number left w LineLong
     else (if is_line_blank line then blank_step left w else asked_step setting number left w (asked line))
 
+-- what closes a line of a live run after which it goes on
+abbrev pub end_text : Option ℕ → ℕ → List ℕ
+end_text None number = []
+end_text (Some each) number = done_text number
+
+-- a line with its end
+abbrev pub closed : Option ℕ → ℕ → LineEffect → LineEffect
+closed live number (goes_on done) = goes_on (record done { text = done.text ++ end_text live number })
+closed live number (stops text) = stops text
+
+-- a line of the script
+unfoldable pub line_step : RunSetting → ℕ → ℕ → World → List ℕ → LineEffect
+line_step setting number left w line = closed setting.live number (told_step setting number left w line)
+
 -- ---- the run
-
--- where a run is between two lines: how far it has come, and its world
-pub record RunState : Type 0 where
-  pub progress : Progress
-  pub world : World
-
-abbrev pub state_in : World → Progress → RunState
-state_in w progress = record { progress = progress; world = w }
-
--- what a run prints, how it ends, and the state that it comes to at the end of its script
-pub record Outcome : Type 0 where
-  pub bytes : List ℕ
-  pub ended : Ended
-  pub comes_to : Option RunState
-
-abbrev pub then_run : List ℕ → Outcome → Outcome
-then_run text rest = record { bytes = text ++ rest.bytes; ended = rest.ended; comes_to = rest.comes_to }
-
--- the limit was met, and nothing more is done
-abbrev pub at_limit : Outcome
-at_limit = record { bytes = []; ended = Limit; comes_to = None }
-
--- no line is left
-abbrev pub at_end : RunState → Outcome
-at_end s = record { bytes = []; ended = Script s.progress.faulted; comes_to = Some s }
-
--- behind a line
-abbrev pub progress_after : Progress → Bool → ℕ → Progress
-progress_after progress faulty left = record { lines = progress.lines + 1; left = left; faulted = progress.faulted || faulty }
-
-abbrev pub state_after : RunState → Done → RunState
-state_after s done = state_in done.world (progress_after s.progress done.faulty done.left)
 
 -- a line of the script in a state: lines are counted from 1
 abbrev pub step_in : RunSetting → RunState → List ℕ → LineEffect
 step_in setting s = line_step setting (s.progress.lines + 1) s.progress.left s.world
 
-abbrev pub after_step : LineEffect → (Done → Outcome) → Outcome
-after_step (goes_on done) rest = then_run done.text (rest done)
-after_step (stops text) rest = then_run text at_limit
-
 -- the lines from a state on
-unfoldable pub run : RunSetting → RunState → List (List ℕ) → Outcome
-run setting s [] = at_end s
-run setting s (line ∷ lines) = after_step (step_in setting s line) (λ (done : Done). run setting (state_after s done) lines)
+abbrev pub run : RunSetting → RunState → List (List ℕ) → Outcome
+run setting = run_lines (step_in setting)
 
 -- before the first line: all firings are left, and the world is empty
 abbrev pub first_state : ℕ → RunState

@@ -50,6 +50,14 @@ fault_text number code = codes "fault " ++ decimal number ++ codes " " ++ code_t
 abbrev pub limit_text : ℕ → List ℕ
 limit_text limit = codes "limit " ++ decimal limit ++ 10 ∷ []
 
+-- the firings that a fire command of a live run may make were made in the line of this number, and a match is pending still
+abbrev pub met_text : ℕ → ℕ → List ℕ
+met_text number each = codes "limit " ++ decimal number ++ codes " " ++ decimal each ++ 10 ∷ []
+
+-- a live run has done the line of this number
+abbrev pub done_text : ℕ → List ℕ
+done_text number = codes "done " ++ decimal number ++ 10 ∷ []
+
 -- a line that a line of the script with this number gives
 unfoldable pub line_text : Program → ℕ → OutLine → List ℕ
 line_text p number (New id ty) = codes "new #" ++ decimal id.0 ++ codes " " ++ type_name (slice_get p.types ty.0) ++ 10 ∷ []

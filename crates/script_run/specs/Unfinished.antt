@@ -1,36 +1,8 @@
--- Runs that stop before the end of the script.
-use Rattle.std.specs.Prelude.{◌≡◌, ◌≢◌, ◌⊎◌, ◌<◌, ◌+◌, ◌^◌, ◌++◌, ℕ, List, [], ◌∷◌, length, Option, Some}
-use Rattle.std.specs.List.{flat_map}
-use Rattle.fx_io.specs.Outside.{append}
-use Rattle.fx_io.specs.Lines.{lines_of, HasNoEnd}
-use Rattle.script_run.specs.declared.turn.Ended.TheVariants.{Limit}
-use Rattle.script_run.specs.Run.{Outcome}
+-- Runs of scripts that are too long.
+use Rattle.std.specs.Prelude.{ℕ, ◌^◌, List}
+use Rattle.line_run.specs.Run.{Outcome}
+use Rattle.line_run.specs.Unfinished.{LongOver}
 
--- lines with their ends
-abbrev pub ended_lines : List (List ℕ) → List ℕ
-ended_lines lines = flat_map (λ (line : List ℕ). line ++ 10 ∷ []) lines
-
--- The run of a script that stopped at a read. Of the script these lines were taken with their ends, behind them a piece without a line end,
--- and the rest is left; or the lines are all that the script has. They did not meet the limit of firings, and what they print is what was
--- written.
-pub record StoppedAtRead (outcome : List (List ℕ) → Outcome) (script : List ℕ) (left before after : Option (List ℕ)) : Type 0 where
-  pub lines : List (List ℕ)
-  pub piece : List ℕ
-  pub rest : List ℕ
-  pub parts : lines_of script ≡ lines ++ lines_of (piece ++ rest)
-  pub ends : (script ≡ ended_lines lines ++ piece ++ rest) ⊎ (lines ≡ lines_of script)
-  pub no_end : HasNoEnd piece
-  pub is_left : left ≡ Some rest
-  pub not_met : (outcome lines).ended ≢ Limit
-  pub is_written : after ≡ append before (outcome lines).bytes
-
--- the run of a script of more than 1 GiB that did not meet the limit of firings in the lines taken with their ends: behind
--- these a piece without a line end was taken, with which they are more than 1 GiB, and the rest was left
-pub record Long (outcome : List (List ℕ) → Outcome) (script : List ℕ) : Type 0 where
-  pub lines : List (List ℕ)
-  pub piece : List ℕ
-  pub rest : List ℕ
-  pub parts : lines_of script ≡ lines ++ lines_of (piece ++ rest)
-  pub no_end : HasNoEnd piece
-  pub many : length rest + 2 ^ 30 < length script
-  pub not_met : (outcome lines).ended ≢ Limit
+-- the run of a script of more than 1 GiB that did not meet the limit of firings in the lines taken with their ends
+abbrev pub Long : (List (List ℕ) → Outcome) → List ℕ → Type 0
+Long = LongOver (2 ^ 30)

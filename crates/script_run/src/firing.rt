@@ -1,13 +1,14 @@
-ghost use Rattle.std.specs.Prelude.{◌≡◌, ◌+◌, ◌*◌, ◌<◌, ◌≤◌, ◌^◌, ◌||◌, true, ℕ, IfOk};
+ghost use Rattle.std.specs.Prelude.{◌≡◌, ◌+◌, ◌*◌, ◌<◌, ◌≤◌, ◌^◌, ◌++◌, ◌||◌, true, ℕ, Some, IfOk, OnOk};
 ghost use Rattle.rule_world.specs.Worlds.{World};
 ghost use Rattle.script_run.specs.Firings.{wants_one, one_less, firings};
-ghost use Rattle.script_run.specs.Run.{setting_of, fire_step};
-ghost use Rattle.script_run.specs.Turns.{Does, EndsFirings, Within};
+ghost use Rattle.script_run.specs.Run.{at_most, fire_by, fire_step, met_lines, setting_with, wants_more};
+ghost use Rattle.line_run.specs.Turns.{Does};
+ghost use Rattle.script_run.specs.Turns.{EndsFirings, Within};
 
-use crate::text::{push_limit, push_lines};
-use crate::turn::Turn;
+use crate::text::{push_limit, push_lines, push_met};
 use engine::{Engine, Fired};
 use fx_base::NoMemory;
+use line_run::Turn;
 use std::alloc::Global;
 
 // No firing is left: appends the line of the limit where a match is pending.
@@ -48,8 +49,8 @@ fn with_one_less(most: Option<u64>) -> Option<u64>
     }
 }
 
-/// Fires until nothing is pending, the command wants no more, or no firing is left, and appends the lines.
-pub(crate) fn fire_all<E: Engine>(
+// Fires until nothing is pending, the command wants no more, or no firing is left, and appends the lines.
+fn fire_all<E: Engine>(
     alloc: Global,
     engine: E,
     number: u64,
@@ -60,7 +61,7 @@ pub(crate) fn fire_all<E: Engine>(
 ) -> Result<(E, Turn), NoMemory>
     requires { E.tags engine + 16 * left < 2 ^ 62 }
     ensures done { IfOk result (λ r. (w : World) → E.stands engine w
-        → Does (E.stands r.0) (fire_step (setting_of E.gives E.fires E.counts limit (E.made_with engine) (E.table engine)) number (firings E.fires (E.made_with engine) most left w))
+        → Does (E.stands r.0) (fire_step (E.made_with engine) limit number (firings E.fires (E.made_with engine) most left w))
         text.old.items text.new.items r.1) }
     ensures program { IfOk result (λ r. E.made_with r.0 ≡ E.made_with engine) }
     ensures table { IfOk result (λ r. E.table r.0 ≡ E.table engine) }
@@ -91,4 +92,101 @@ pub(crate) fn fire_all<E: Engine>(
     }
     let turn = end_firings(alloc, &engine, limit, faulty, text)?;
     Ok((engine, turn))
+}
+
+// At most so many of the firings that a command wants.
+fn at_most(each: u64, most: Option<u64>) -> u64
+    ensures { result ≡ at_most each most }
+{
+    match most {
+        Some(most) if most <= each => most,
+        _ => each,
+    }
+}
+
+// Whether a command wants more firings than so many.
+fn wants_more(each: u64, most: Option<u64>) -> bool
+    ensures { result ≡ wants_more each most }
+{
+    match most {
+        Some(most) => each < most,
+        None => true,
+    }
+}
+
+/// A fire command in the line of this number, with the limits of its run: of all firings, and, of a live run, of each command.
+#[derive(Clone, Copy)]
+pub(crate) struct FireLine {
+    pub(crate) number: u64,
+    pub(crate) limit: u64,
+    pub(crate) live: Option<u64>,
+}
+
+// Appends the line of the limit for each command, where the command wants more and a match is pending still.
+fn tell_met<E: Engine>(
+    engine: &E,
+    each: u64,
+    number: u64,
+    most: Option<u64>,
+    text: &mut Vec<u8>,
+) -> Result<(), NoMemory>
+    ensures { OnOk result ((w : World) → E.stands engine.now w
+        → text.new.items ≡ text.old.items ++ met_lines (E.fires (E.made_with engine.now) w) each number most) }
+{
+    if wants_more(each, most) && engine.due() {
+        push_met(text, number, each)?;
+    }
+    Ok(())
+}
+
+// Fires in a live run, at most so many for the command, and appends the lines.
+fn fire_each<E: Engine>(
+    alloc: Global,
+    engine: E,
+    line: FireLine,
+    each: u64,
+    most: Option<u64>,
+    left: u64,
+    text: &mut Vec<u8>,
+) -> Result<(E, Turn), NoMemory>
+    requires { E.tags engine + 16 * left < 2 ^ 62 }
+    ensures done { IfOk result (λ r. (w : World) → E.stands engine w
+        → Does (E.stands r.0) (fire_by (setting_with line.live E.gives E.fires E.counts line.limit (E.made_with engine) (E.table engine)) (Some each) line.number left w most)
+        text.old.items text.new.items r.1) }
+    ensures program { IfOk result (λ r. E.made_with r.0 ≡ E.made_with engine) }
+    ensures table { IfOk result (λ r. E.table r.0 ≡ E.table engine) }
+    ensures tags { IfOk result (λ r. Within (E.tags engine + 16 * left + 16) (E.tags r.0) r.1) }
+{
+    let wanted = Some(at_most(each, most));
+    let (next, turn) = fire_all(alloc, engine, line.number, line.limit, wanted, left, text)?;
+    match turn {
+        Turn::Stops => Ok((next, turn)),
+        Turn::Goes(..) => {
+            tell_met(&next, each, line.number, most, text)?;
+            Ok((next, turn))
+        }
+    }
+}
+
+/// Fires as a fire command wants it, and appends the lines.
+pub(crate) fn fire<E: Engine>(
+    alloc: Global,
+    engine: E,
+    line: FireLine,
+    most: Option<u64>,
+    left: u64,
+    text: &mut Vec<u8>,
+) -> Result<(E, Turn), NoMemory>
+    requires { E.tags engine + 16 * left < 2 ^ 62 }
+    ensures done { IfOk result (λ r. (w : World) → E.stands engine w
+        → Does (E.stands r.0) (fire_by (setting_with line.live E.gives E.fires E.counts line.limit (E.made_with engine) (E.table engine)) line.live line.number left w most)
+        text.old.items text.new.items r.1) }
+    ensures program { IfOk result (λ r. E.made_with r.0 ≡ E.made_with engine) }
+    ensures table { IfOk result (λ r. E.table r.0 ≡ E.table engine) }
+    ensures tags { IfOk result (λ r. Within (E.tags engine + 16 * left + 16) (E.tags r.0) r.1) }
+{
+    match line.live {
+        None => fire_all(alloc, engine, line.number, line.limit, most, left, text),
+        Some(each) => fire_each(alloc, engine, line, each, most, left, text),
+    }
 }

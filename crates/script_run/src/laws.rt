@@ -1,12 +1,13 @@
 //! Laws of runs and scripts, each the contract of a function that does nothing.
 ghost use Rattle.std.specs.Prelude.{◌≡◌, ◌++◌, ℕ, List, Some};
-ghost use Rattle.fx_io.specs.Lines.{lines_of, HasNoEnd};
+ghost use Rattle.fx_io.specs.Lines.{lines_of};
 ghost use Rattle.checkpoint.specs.declared.image.RunPart.{RunPart};
 ghost use Rattle.rule_world.specs.Worlds.{World, empty_world};
 ghost use Rattle.script_run.specs.Limits.{with_limit, IsSameRun};
-ghost use Rattle.script_run.specs.Parts.{EndsLine, first_part, run_part_at, run_on};
-ghost use Rattle.script_run.specs.Prompt.{whole_lines};
-ghost use Rattle.script_run.specs.Run.{RunSetting, RunState, run, then_run, whole_run};
+ghost use Rattle.line_run.specs.Parts.{EndsLine, first_part, run_part_at};
+ghost use Rattle.line_run.specs.Run.{RunState, then_run};
+ghost use Rattle.script_run.specs.Parts.{run_on};
+ghost use Rattle.script_run.specs.Run.{RunSetting, whole_run};
 
 /// A script in two parts, of which the first is empty or ends with a line end and does not meet the limit of firings: what it prints is what
 /// the first part prints, and behind it what the second prints in the world that the first comes to, behind what an image says of the run
@@ -21,11 +22,6 @@ pub fn a_run_goes_on_behind_its_first_lines()
         → (run_on setting w first a).comes_to ≡ Some s → (run_on setting s.world (run_part_at setting.limit first s.progress) b).comes_to ≡ Some t
         → run_part_at setting.limit (run_part_at setting.limit first s.progress) t.progress ≡ run_part_at setting.limit first t.progress }
     ensures whole { (setting : RunSetting) (rules : List ℕ) (lines : List (List ℕ)) → whole_run setting lines ≡ run_on setting empty_world (first_part rules) lines }
-{}
-
-/// The lines that end in bytes are the lines of what comes before the last piece, which has no end.
-pub fn whole_lines_leave_a_last_piece_out()
-    ensures { (lines piece : List ℕ) → EndsLine lines → HasNoEnd piece → whole_lines (lines ++ piece) ≡ lines_of lines }
 {}
 
 /// What a script prints and comes to does not depend on the limit of firings, where that is not met.

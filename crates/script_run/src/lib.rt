@@ -1,18 +1,16 @@
 //! The run of a script over an engine: what each line does, the firings of a fire command up to the limit, and what is printed. It knows the
-//! engine by its trait alone, and the outside by a source of the script and a sink.
+//! engine by its trait alone; `line_run` hands it the lines.
 #![tactic(auto)]
 
 mod counting;
 mod fault;
 mod firing;
-mod gathered;
 pub mod laws;
+mod live;
 mod obeying;
 mod running;
 mod text;
-mod turn;
 
-pub use fault::RunFault;
+pub use live::{LIVE_MAX, run_live};
 pub use running::{run, run_from};
 pub use text::{name_of_rule, push_limit, push_number, push_quoted, push_signed};
-pub use turn::{Ended, Progress};

@@ -4,27 +4,24 @@ ghost use Rattle.fx_io.specs.Lines.{lines_of};
 ghost use Rattle.rule_lives.specs.Keeping.{IsSafeTable};
 ghost use Rattle.rule_world.specs.Programs.{IsRunnable};
 ghost use Rattle.rule_world.specs.Worlds.{World};
-ghost use Rattle.script_run.specs.Prompt.{heard, whole_lines, IsPromptRun};
-ghost use Rattle.script_run.specs.Run.{setting_of, state_in, run as run_lines, whole_run};
-ghost use Rattle.script_run.specs.Turns.{TakesScript, AtEnd, ReachesWorld, ended_as, as_ended};
-ghost use Rattle.script_run.specs.Unfinished.{Long, StoppedAtRead};
+ghost use Rattle.line_run.specs.Prompt.{heard, whole_lines, IsPromptRun};
+ghost use Rattle.line_run.specs.Run.{state_in};
+ghost use Rattle.line_run.specs.Turns.{AtEnd, ReachesWorld, ended_as, as_ended};
+ghost use Rattle.line_run.specs.Unfinished.{StoppedAtRead};
+ghost use Rattle.script_run.specs.Run.{setting_of, run as run_lines, whole_run};
+ghost use Rattle.script_run.specs.Turns.{TakesScript};
+ghost use Rattle.script_run.specs.Unfinished.{Long};
 
-use crate::fault::{RunFault, of_line_fault};
-use crate::gathered::{flush, hush};
-use crate::obeying::take_turn;
-use crate::turn::{Ended, Progress, Turn};
+use crate::obeying::Obeying;
 use engine::Engine;
-use fx_base::limits::LINE_MAX;
-use fx_io::{LineReader, Sink, Source, write_all};
+use fx_io::{Sink, Source};
+use line_run::{Ended, Progress, RunFault, run_lines};
 use rule_model::{LifeTable, Program};
 use script_read::Scratch;
 use std::alloc::Global;
 
 /// The most bytes that a script may have.
 const SCRIPT_MAX: u64 = 1_073_741_824;
-
-/// So many gathered bytes are written though the next line is at hand.
-const PIECE: usize = 65_536;
 
 /// Runs a script with an engine, from where the run has come so far, to its end or to the limit of firings. At the end of the script it
 /// hands back the engine and how far the run has come, so that it can go on; at the limit nothing. What lines print is gathered, and
@@ -74,34 +71,16 @@ pub fn run_from<E: Engine, S: Source<K>, K: Sink>(
     ensures script_counts { S.faults script.old ≤ S.faults script.new }
     ensures out_counts { K.faults out.old ≤ K.faults out.new }
 {
-    let mut reader = LineReader::new(alloc, LINE_MAX, SCRIPT_MAX)?;
-    let mut scratch = Scratch::new(alloc);
-    let mut text = Vec::new(alloc);
-    let mut engine = engine;
-    let mut at = at;
-    loop {
-        let wanted = !reader.is_ready() || text.len() >= PIECE;
-        flush(out, &mut text, wanted)?;
-        let line = match reader.next_line(script, out) {
-            Ok(line) => line,
-            Err(fault) => return Err(of_line_fault(fault)),
-        };
-        let (next, turn) = take_turn(alloc, engine, at, limit, line, &mut scratch, &mut text)?;
-        hush(&mut text, silent);
-        match turn {
-            None => {
-                write_all(out, &text)?;
-                return Ok(Some((next, at)));
-            }
-            Some(Turn::Stops) => {
-                write_all(out, &text)?;
-                return Ok(None);
-            }
-            Some(Turn::Goes(bad, left)) => {
-                engine = next;
-                at = at.next(bad, left);
-            }
-        }
+    let taker = Obeying {
+        engine,
+        limit,
+        live: None,
+        scratch: Scratch::new(alloc),
+    };
+    match run_lines(alloc, taker, at, SCRIPT_MAX, script, out, silent) {
+        Ok(Some((taker, at))) => Ok(Some((taker.engine, at))),
+        Ok(None) => Ok(None),
+        Err(fault) => Err(fault),
     }
 }
 

@@ -1,7 +1,7 @@
 ghost use Rattle.std.specs.Prelude.{◌≡◌, ◌++◌, ◌||◌, IfOk, OnOk, slice_get};
 ghost use Rattle.std.specs.Fmt.{decimal, signed_decimal};
 ghost use Rattle.std.specs.List.{flat_map};
-ghost use Rattle.script_run.specs.Texts.{type_name, rule_name, quoted_byte, cell_text, fault_text, limit_text, line_text, lines_text, is_fault, has_fault};
+ghost use Rattle.script_run.specs.Texts.{type_name, rule_name, quoted_byte, cell_text, done_text, fault_text, limit_text, met_text, line_text, lines_text, is_fault, has_fault};
 
 use crate::fault::LineCode;
 use engine::{Cell, OutLine};
@@ -105,6 +105,28 @@ pub fn push_limit(text: &mut Vec<u8>, limit: u64) -> Result<(), NoMemory>
 {
     text.extend_from_slice(b"limit ")?;
     push_number(text, limit)?;
+    text.push(b'\n')?;
+    Ok(())
+}
+
+/// Appends the line of the limit for each fire command, of the line of the script with this number.
+pub(crate) fn push_met(text: &mut Vec<u8>, number: u64, each: u64) -> Result<(), NoMemory>
+    ensures { OnOk result (text.new.items ≡ text.old.items ++ met_text number each) }
+{
+    text.extend_from_slice(b"limit ")?;
+    push_number(text, number)?;
+    text.extend_from_slice(b" ")?;
+    push_number(text, each)?;
+    text.push(b'\n')?;
+    Ok(())
+}
+
+/// Appends the line that closes a line of the script.
+pub(crate) fn push_done(text: &mut Vec<u8>, number: u64) -> Result<(), NoMemory>
+    ensures { OnOk result (text.new.items ≡ text.old.items ++ done_text number) }
+{
+    text.extend_from_slice(b"done ")?;
+    push_number(text, number)?;
     text.push(b'\n')?;
     Ok(())
 }

@@ -1,5 +1,9 @@
-//! The program `replay`: the top call with the engine `Session`. Its one contract is what the project promises of a run.
+//! The programs `replay` and `desk`: the top calls with the engine `Session`. The contract of each is what the project promises of its runs.
 #![tactic(auto)]
+
+mod desk_call;
+
+pub use desk_call::desk;
 
 ghost use Rattle.std.specs.Prelude.{◌≡◌, ◌⊎◌, ◌<◌, ◌≤◌, ◌^◌, [], List, ℕ, length, Some, None, IfSome};
 ghost use Rattle.fx_io.specs.Outside.{Rose, append, count_after};

@@ -1,11 +1,11 @@
 use Rattle.command_words.proofs.Common.{refl}
 use Rattle.clap.proofs.OnLiterals.{clap_on_literals}
 use Rattle.command_words.specs.Asked.{number_in_digits, limit_written, load_number_of, asked_rows, asked_words}
-use Rattle.command_words.specs.Command.{replay_app, matched}
+use Rattle.command_words.specs.Command.{replay_app, matched_by}
 use Rattle.command_words.proofs.laws.words_ask_for_what_they_say.Goals as goal
 
 pub returns : goal.returns
-unfolding clap_on_literals replay_app matched number_in_digits limit_written load_number_of asked_rows asked_words
+unfolding clap_on_literals replay_app matched_by number_in_digits limit_written load_number_of asked_rows asked_words
 returns c = record {
   defaults = refl;
   options = refl;

@@ -1,0 +1,29 @@
+-- An image that is put to a file.
+use Rattle.std.specs.Prelude.{◌≡◌, ◌≤◌, ℕ, Bool, true, List, length, Option, Some, None}
+use Rattle.fx_store.specs.Puts.{IsPut}
+use Rattle.checkpoint.specs.declared.image.Image.{Image}
+use Rattle.checkpoint.specs.Bytes.{image_bytes, IsImage}
+use Rattle.checkpoint.specs.declared.image.RunPart.{RunPart}
+use Rattle.image_laws.specs.Images.{IsImageOf}
+use Rattle.rule_model.specs.declared.life.LifeTable.{LifeTable}
+use Rattle.rule_model.specs.declared.program.Program.{Program}
+use Rattle.rule_world.specs.Worlds.{World}
+use Rattle.line_run.specs.declared.turn.Ended.TheVariants.{Script}
+use Rattle.replay.specs.Report.{run_status}
+use Rattle.replay.specs.Checkpoints.{can_go_on, image_limit}
+use Rattle.replay.specs.Wanted.{Files}
+
+-- the file of the name has the bytes of the image, which are read back as it; it is not too long, and a run can go on from its numbers
+abbrev pub Keeps : Image → Option Files → Option Files → List ℕ → Type 0
+Keeps image before after name =
+    IsImage image × (can_go_on image ≡ true) × (length (image_bytes image) ≤ image_limit) × IsPut before after name (image_bytes image)
+
+-- of a run that came to the end of its script
+abbrev pub status_of_part : Bool → ℕ
+status_of_part faulty = run_status (Script faulty)
+
+-- what is put where the name of an image is given, of an engine that stands for worlds
+abbrev pub IsPutFor : (World → Type 0) → Program → LifeTable → RunPart → Option Files → Option Files → Option (List ℕ) → Type 0
+IsPutFor stands p table run before after None = after ≡ before
+IsPutFor stands p table run before after (Some name) =
+    (image : Image) × (image.run ≡ run) × ((w : World) → stands w → IsImageOf p table w image) × Keeps image before after name

@@ -1,0 +1,4 @@
+pub mod Wanted
+pub mod Keeping
+pub mod Report
+pub mod Lives

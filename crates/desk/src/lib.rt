@@ -1,0 +1,11 @@
+//! The program `desk`: a live run over a rule file, without an end, from the image of an earlier one where there is one, and to the image from
+//! which the next goes on.
+//! It knows the outside by its traits alone, so that its answer is a matter of proof.
+#![tactic(auto)]
+
+mod keeping;
+mod live;
+mod serving;
+mod start;
+
+pub use serving::desk;

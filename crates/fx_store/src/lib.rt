@@ -1,0 +1,10 @@
+//! Files that are put whole in the place of others, as a live run puts its image.
+#![tactic(auto)]
+
+mod file_store;
+mod mem_store;
+mod store;
+
+pub use file_store::FileStore;
+pub use mem_store::MemStore;
+pub use store::{Store, StoreFault};

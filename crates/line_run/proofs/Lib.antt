@@ -1,0 +1,4 @@
+mod Common
+pub mod Ahead
+pub mod Stops
+pub mod Asking

@@ -1,0 +1,6 @@
+pub mod Run
+pub mod Parts
+pub mod Unfinished
+pub mod Prompt
+pub mod Faults
+pub mod Turns

@@ -1,0 +1,36 @@
+-- Runs that stop before the end of the script.
+use Rattle.std.specs.Prelude.{◌≡◌, ◌≢◌, ◌⊎◌, ◌<◌, ◌+◌, ◌++◌, ℕ, List, [], ◌∷◌, length, Option, Some}
+use Rattle.std.specs.List.{flat_map}
+use Rattle.fx_io.specs.Outside.{append}
+use Rattle.fx_io.specs.Lines.{lines_of, HasNoEnd}
+use Rattle.line_run.specs.declared.turn.Ended.TheVariants.{Limit}
+use Rattle.line_run.specs.Run.{Outcome}
+
+-- lines with their ends
+abbrev pub ended_lines : List (List ℕ) → List ℕ
+ended_lines lines = flat_map (λ (line : List ℕ). line ++ 10 ∷ []) lines
+
+-- The run of a script that stopped at a read. Of the script these lines were taken with their ends, behind them a piece without a line end,
+-- and the rest is left; or the lines are all that the script has. They did not meet the limit of firings, and what they print is what was
+-- written.
+pub record StoppedAtRead (outcome : List (List ℕ) → Outcome) (script : List ℕ) (left before after : Option (List ℕ)) : Type 0 where
+  pub lines : List (List ℕ)
+  pub piece : List ℕ
+  pub rest : List ℕ
+  pub parts : lines_of script ≡ lines ++ lines_of (piece ++ rest)
+  pub ends : (script ≡ ended_lines lines ++ piece ++ rest) ⊎ (lines ≡ lines_of script)
+  pub no_end : HasNoEnd piece
+  pub is_left : left ≡ Some rest
+  pub not_met : (outcome lines).ended ≢ Limit
+  pub is_written : after ≡ append before (outcome lines).bytes
+
+-- the run of a script of more bytes than a run may take, that did not meet the limit of firings in the lines taken with their ends: behind
+-- these a piece without a line end was taken, with which they are more than that, and the rest was left
+pub record LongOver (most : ℕ) (outcome : List (List ℕ) → Outcome) (script : List ℕ) : Type 0 where
+  pub lines : List (List ℕ)
+  pub piece : List ℕ
+  pub rest : List ℕ
+  pub parts : lines_of script ≡ lines ++ lines_of (piece ++ rest)
+  pub no_end : HasNoEnd piece
+  pub many : length rest + most < length script
+  pub not_met : (outcome lines).ended ≢ Limit

@@ -1,0 +1,31 @@
+ghost use Rattle.std.specs.Prelude.{◌≡◌, ◌≤◌, [], true, OnOk, OnErr};
+ghost use Rattle.fx_io.specs.Outside.{Rose, append, AppendsFront};
+ghost use Rattle.line_run.specs.Prompt.{said};
+ghost use Rattle.line_run.specs.Turns.{Flushes};
+
+use fx_io::{Failed, Sink, write_all};
+
+/// Writes the gathered bytes where this is wanted.
+pub(crate) fn flush<K: Sink>(out: &mut K, text: &mut Vec<u8>, wanted: bool) -> Result<(), Failed>
+    ensures ok { OnOk result (Flushes (K.written out.old) text.old.items (K.written out.new) text.new.items) }
+    ensures all { wanted ≡ true → OnOk result (text.new.items ≡ []) }
+    ensures err { OnErr result (AppendsFront (K.written out.old) (K.written out.new) text.old.items) }
+    ensures counts { K.faults out.old ≤ K.faults out.new }
+    ensures cause { OnErr result (Rose (K.faults out.old) (K.faults out.new)) }
+{
+    if !wanted {
+        return Ok(());
+    }
+    write_all(out, text)?;
+    text.clear();
+    Ok(())
+}
+
+/// Forgets what a line printed, where the run is silent.
+pub(crate) fn hush(text: &mut Vec<u8>, silent: bool)
+    ensures { text.new.items ≡ said silent text.old.items }
+{
+    if silent {
+        text.clear();
+    }
+}

@@ -1,5 +1,0 @@
-use Rattle.script_run.proofs.Asking.{whole_before}
-use Rattle.script_run.proofs.laws.whole_lines_leave_a_last_piece_out.Goals as goal
-
-pub returns : goal.returns
-returns c = whole_before
