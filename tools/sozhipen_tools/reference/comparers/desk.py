@@ -1,6 +1,7 @@
 """Holds a program `desk` against the reference, on random rule files and scripts.
 
-    tools/run reference.comparers.desk PROGRAM [--seeds A B] [--lives] [--folder FOLDER] [--keep-going] [--seconds N]
+    tools/run reference.comparers.desk PROGRAM [--seeds A B] [--lives | --share] [--folder FOLDER] [--keep-going]
+        [--seconds N]
 
 Among the lines of each script stand such as only a desk knows: facts, counts, and saves. The script is cut at random
 lines, and each part is a run of its own that goes on from the image of the one before. With `--text` a part is read
@@ -26,7 +27,7 @@ from typing import Iterator, Optional
 from ...pipes import pipe
 from ...words import Parser
 from ..desk import desk_at_start
-from ..generators.generate import Case, case_of, lives_case_of, write_case
+from ..generators.generate import Case, chosen_cases, write_case
 from ..images.resume import saved
 from ..meaning.desk import Save
 from ..meaning.program import Program
@@ -210,13 +211,14 @@ def main() -> int:
     parser.add_argument("program", metavar="PROGRAM", help="the program, a command")
     parser.add_argument("--seeds", type=int, nargs=2, default=(0, 100), metavar=("A", "B"), help="from A up to B - 1")
     parser.add_argument("--lives", action="store_true", help="files over events of finite lives")
+    parser.add_argument("--share", action="store_true", help="files whose rules share conditions")
     parser.add_argument("--folder", default="reference-failures", help="where the files of failing seeds are left")
     parser.add_argument("--keep-going", action="store_true", help="do not stop at the first difference")
     parser.add_argument("--seconds", type=float, default=60.0, help="the time that a run may take")
     asked = parser.parse_args()
     command, counts = absolute(asked.program), Counter[str]()
     for seed in range(*asked.seeds):
-        case = lives_case_of(seed) if asked.lives else case_of(seed)
+        case = chosen_cases(asked.lives, asked.share)(seed)
         both = [asked_of(case, seed, as_text) for as_text in (False, True)]
         told = [(a, said) for a in both if (said := compared(command, a, asked.seconds, counts))]
         counts["differed" if told else "agreed"] += 1
