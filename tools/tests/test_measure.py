@@ -14,8 +14,8 @@ from unittest import mock
 from support import evaluator
 
 from sozhipen_tools.bench import costs, measure, parts, rule_files
-from sozhipen_tools.bench.features import LOADS
 from sozhipen_tools.bench.loads import FIRE
+from sozhipen_tools.bench.sharing import LOADS
 
 # Loads that are to fire nothing, such as do not in 200 lines, and in how many lines some of these do.
 NEVER = {"bare", "blank", "clocks", "skewed", "pile", "retracted", "cascade", "expiring", "burst", "burst_life",
@@ -26,8 +26,8 @@ NEVER = {"bare", "blank", "clocks", "skewed", "pile", "retracted", "cascade", "e
 SELDOM = {"churn", "wide", "wide_one", "texts", "fields", "sums", "lengths", "forgetful", "forgetful_one", "rules_1",
           "rules_10", "rules_50", "rules_250", "beats", "fields2", "fields8", "fields16", "fields32", "joins_64",
           "joins_256", "coincides_by_key", "finishes_by_key", "finishedby_by_key", "metby_by_key", "starts_by_key",
-          "startedby_by_key", "startedby_alone"}
-LONGER = {"churn": 800, "wide": 400, "forgetful": 600, "beats": 900}
+          "startedby_by_key", "startedby_alone", "right_shared", "right_timed", "right_tallies", "ranges"}
+LONGER = {"churn": 800, "wide": 400, "forgetful": 600, "beats": 900, "ranges": 400}
 
 CLIPS = """grep -c . < "$(sed -n 's/^(load-facts "\\(.*\\)")$/\\1/p' "$2")" > counted
 while read -r facts; do for fact in $(seq "$facts"); do echo "fire $fact"; done; done < counted
