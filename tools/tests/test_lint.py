@@ -89,6 +89,15 @@ RULES = [
     ('rule r when $l : Long( $c : card ) not( Call( card == $c, this after $l ) ) not( Told( card == $c ) ) then '
      'insert( new Told( $c ) ); end',
      ["for-ever"]),
+    ('rule r when Long( card == "x" ) over window:length( 3 ) then end', ["for-ever"]),
+    ('rule r when accumulate( Long( $c : card ) over window:length( 3 ); $n : count( $c ) ) then end', ["for-ever"]),
+    ('rule r when Call( card == "x" ) over window:length( 3 ) then end', []),
+    ('rule r when $l : Long( $c : card ) Call( card == $c, this after[0s,9s] $l ) over window:length( 3 ) then end',
+     ["for-ever"]),
+    ('rule r when Long( $c : card ) over window:time( 9s ) Call( card == $c ) over window:length( 3 ) then end', []),
+    ('rule r when $c : Call() not( Long( this after[0s,9s] $c ) ) Draw() over window:length( 3 ) then end', []),
+    ('rule r when $c : Call() Draw() over window:length( 3 ) not( Long( this after[0s,9s] $c ) ) then end',
+     ["for-ever"]),
 ]
 
 # The lines of the examples that have a warning; each is so, and some are there to be shown.
