@@ -122,6 +122,13 @@ class Lint(unittest.TestCase):
             instead = [w.instead for w in warnings_of((TYPES + rule + other).encode()) if w.code == "for-ever"]
             self.assertEqual([text.startswith("`@reference` for `Card`") for text in instead], [told])
 
+    def test_a_window_of_length_needs_more_than_a_bound(self) -> None:
+        rule = "rule r when $l : Long( $c : card ) Call( card == $c{} ) over window:length( 3 ) then end"
+        for bound in ("", ", this after[0s,9s] $l"):
+            told = [w for w in warnings_of((TYPES + rule.format(bound)).encode()) if w.code == "for-ever"]
+            self.assertEqual([w.instead for w in told], ["a window of time here, or an @expires for the type"])
+            self.assertIn("condition 2 has a window of length", told[0].what)
+
     def test_an_entry_point_that_nobody_looks_into(self) -> None:
         rules = (b'declare Draw @role( event ) @expires( 1h ) end declare entry-point "ATM" end rule r when Draw() '
                  b'then end')
