@@ -144,6 +144,19 @@ class Answers(Case):
         told, status = self.lines("rules.drl", script="".join(map(written, script)))
         self.assertEqual((told[-2:], status), (['{"line":3,"retracted":1,"type":"Smoke"}', '{"done":3}'], 0))
 
+    def test_what_actions_answer(self) -> None:
+        self.write("declare Smoke @role( event ) room : long end declare Item price : long end "
+                   "rule twice salience 1 when $s : Smoke( $r : room ) then retract( $s ); retract( $s ); "
+                   "insert( new Item( $r + 1 ) ); end "
+                   "rule gone when $i : Item( price > 1 ) then retract( $i ); retract( $i ); end")
+        script = [{"do": "insert", "type": "Smoke", "fields": {"room": 7}}, {"do": "fire"}]
+        told, status = self.lines("rules.drl", script="".join(map(written, script)))
+        self.assertEqual((told[3:6], status), ([
+            '{"line":2,"retracted":1,"type":"Smoke"}', '{"line":2,"retracted":1,"type":"Smoke"}',
+            '{"fields":{"price":8},"line":2,"new":2,"type":"Item"}'], 1))
+        self.assertEqual(told[7:], ['{"line":2,"retracted":2,"type":"Item"}', '{"fault":"Absent","line":2}',
+                                    '{"done":2,"fired":2,"pending":false}'])
+
 
 # What is written to a desk, and what is there before more is written.
 PIECES = [(b'{"do":"held"}\n', b"done 1\n"),
