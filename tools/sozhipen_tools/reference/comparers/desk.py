@@ -4,10 +4,10 @@
         [--seconds N]
 
 Among the lines of each script stand such as only a desk knows: facts, counts, and saves. The script is cut at random
-lines, and each part is a run of its own that goes on from the image of the one before. With `--text` a part is read
-from a file; without it the program gets one line after the other, and not before it has closed the answer to the last
-one. Output, status and image of each part have to be those of the reference, byte for byte. The files of the first
-difference are left in the folder. The status is 0 where all was as it has to be, 1 where it was not.
+lines, and each part is a run of its own that goes on from the image of the one before. With `--text` the program gets a
+part at once; without it one line after the other, and not before it has closed the answer to the last one. Output,
+status and image of each part have to be those of the reference, byte for byte. The files of the first difference are
+left in the folder. The status is 0 where all was as it has to be, 1 where it was not.
 """
 
 from __future__ import annotations
