@@ -10,12 +10,15 @@ import subprocess
 import tempfile
 import unittest
 from pathlib import Path
-from typing import Any
+from typing import Any, Optional
 
 from support import TOP, evaluator
 
 from sozhipen_tools.pipes import pipe
 from sozhipen_tools.places import command_of
+from sozhipen_tools.reference.desk import desk_at_start
+from sozhipen_tools.reference.generators.generate import case_of, lives_case_of, shared_case_of
+from sozhipen_tools.reference.meaning.run import program_or_refusal, run, run_on
 
 DESK = command_of("reference.desk")
 ENDLESS = (TOP / "examples" / "endless.drl").read_text(encoding="utf-8")
@@ -156,6 +159,34 @@ class Answers(Case):
             '{"fields":{"price":8},"line":2,"new":2,"type":"Item"}'], 1))
         self.assertEqual(told[7:], ['{"line":2,"retracted":2,"type":"Item"}', '{"fault":"Absent","line":2}',
                                     '{"done":2,"fired":2,"pending":false}'])
+
+
+def line_of(members: dict[str, Any]) -> Optional[str]:
+    """The line of the program `replay` for what an object says, where it has one."""
+    if "new" in members:
+        return f"new #{members['new']} {members['type']}"
+    if "fault" in members:
+        return f"fault {members['line']} {members['fault']}"
+    if "held" in members:
+        return f"held {members['held']} {members['count']}"
+    return None
+
+
+class Random(unittest.TestCase):
+    def test_objects_and_text_say_what_a_run_prints(self) -> None:
+        for case in [make(seed) for seed in range(12) for make in (case_of, lives_case_of, shared_case_of)]:
+            program = program_or_refusal(case.rules)
+            if isinstance(program, str):
+                continue
+            printed = run(program, case.script, 100_000).lines
+            text, objects = (desk_at_start(program, 100_000, as_text, None, None) for as_text in (True, False))
+            for state in (text, objects):
+                run_on(state, case.script)
+            self.assertEqual([line for line in text.lines if not line.startswith("done ")], printed)
+            told = [line_of(members) or f'fire {len(members["facts"])} {len(members["results"])}'
+                    for members in map(json.loads, objects.lines) if line_of(members) or "fire" in members]
+            self.assertEqual(told, [f"fire {line.count(' #')} {line.count(' =')}" if line.startswith("fire ") else line
+                                    for line in printed])
 
 
 # What is written to a desk, and what is there before more is written.
