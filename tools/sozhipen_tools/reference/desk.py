@@ -1,5 +1,5 @@
-"""Behaves as the program `desk`: a script without an end, whose lines are answered, and closed, one before the next is
-read.
+"""Behaves as the program `desk`: reads a script without an end, and answers and closes each line before it reads the
+next.
 
     tools/run reference.desk [--limit N] [--image NAME] [--text] RULES
 
