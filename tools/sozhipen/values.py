@@ -15,7 +15,7 @@ from typing import Any, Optional
 
 from sozhipen_tools.reference.images.image import BadImage, Image, decode
 from sozhipen_tools.reference.images.show import show
-from sozhipen_tools.reference.meaning import lives, trees, worlds
+from sozhipen_tools.reference.meaning import firings, lives, trees, worlds
 from sozhipen_tools.reference.meaning.run import program_or_refusal
 from sozhipen_tools.reference.meaning.temporal import INFINITE
 
@@ -77,7 +77,7 @@ class Rules:
     def steps(self, rule: Any, names: Names) -> list:
         """The step of each action, None where an expression of it overflows."""
         row = worlds.Row((), names)
-        return [worlds.planned(action, row, self.world) for action in rule.actions]
+        return [firings.planned(action, row, self.world) for action in rule.actions]
 
     def span(self, fact: Fact, clock: int) -> tuple[int, int]:
         """The start and the end of an event that is inserted at this clock."""

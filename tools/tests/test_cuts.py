@@ -6,7 +6,8 @@ from dataclasses import replace
 from random import Random
 from typing import Optional
 
-from sozhipen_tools.reference.comparers.cuts import Answers, Asked, Script, by_reference, first_difference, scripts
+from sozhipen_tools.reference.comparers.cuts import (Answers, Asked, Script, by_reference, first_difference, scripts,
+                                                     shared_scripts)
 from sozhipen_tools.reference.comparers.modes import Answer
 from sozhipen_tools.reference.images.image import decode, encode
 
@@ -25,6 +26,11 @@ class Cuts(unittest.TestCase):
 
     def test_the_evaluator_goes_on(self) -> None:
         for script in scripts(4, 0):
+            self.assertIsNone(self.said(script, by_reference(script.program, script.limit)))
+
+    def test_files_whose_rules_share_conditions(self) -> None:
+        for script in shared_scripts(4, 0):
+            self.assertGreater(len(script.program.rules), 2)
             self.assertIsNone(self.said(script, by_reference(script.program, script.limit)))
 
     def test_forgotten_events_are_missed(self) -> None:

@@ -89,6 +89,15 @@ RULES = [
     ('rule r when $l : Long( $c : card ) not( Call( card == $c, this after $l ) ) not( Told( card == $c ) ) then '
      'insert( new Told( $c ) ); end',
      ["for-ever"]),
+    ('rule r when Long( card == "x" ) over window:length( 3 ) then end', ["for-ever"]),
+    ('rule r when accumulate( Long( $c : card ) over window:length( 3 ); $n : count( $c ) ) then end', ["for-ever"]),
+    ('rule r when Call( card == "x" ) over window:length( 3 ) then end', []),
+    ('rule r when $l : Long( $c : card ) Call( card == $c, this after[0s,9s] $l ) over window:length( 3 ) then end',
+     ["for-ever"]),
+    ('rule r when Long( $c : card ) over window:time( 9s ) Call( card == $c ) over window:length( 3 ) then end', []),
+    ('rule r when $c : Call() not( Long( this after[0s,9s] $c ) ) Draw() over window:length( 3 ) then end', []),
+    ('rule r when $c : Call() Draw() over window:length( 3 ) not( Long( this after[0s,9s] $c ) ) then end',
+     ["for-ever"]),
 ]
 
 # The lines of the examples that have a warning; each is so, and some are there to be shown.
@@ -112,6 +121,13 @@ class Lint(unittest.TestCase):
         for other, told in (("", True), ("rule s when $c : Card( count == 1 ) then retract( $c ); end", False)):
             instead = [w.instead for w in warnings_of((TYPES + rule + other).encode()) if w.code == "for-ever"]
             self.assertEqual([text.startswith("`@reference` for `Card`") for text in instead], [told])
+
+    def test_a_window_of_length_needs_more_than_a_bound(self) -> None:
+        rule = "rule r when $l : Long( $c : card ) Call( card == $c{} ) over window:length( 3 ) then end"
+        for bound in ("", ", this after[0s,9s] $l"):
+            told = [w for w in warnings_of((TYPES + rule.format(bound)).encode()) if w.code == "for-ever"]
+            self.assertEqual([w.instead for w in told], ["a window of time here, or an @expires for the type"])
+            self.assertIn("condition 2 has a window of length", told[0].what)
 
     def test_an_entry_point_that_nobody_looks_into(self) -> None:
         rules = (b'declare Draw @role( event ) @expires( 1h ) end declare entry-point "ATM" end rule r when Draw() '

@@ -2,7 +2,7 @@
 
 import unittest
 
-from sozhipen_tools.reference.generators.generate import case_of, lives_case_of
+from sozhipen_tools.reference.generators.generate import case_of, lives_case_of, shared_case_of
 from sozhipen_tools.reference.meaning import worlds
 from sozhipen_tools.reference.meaning.program import Program
 from sozhipen_tools.reference.meaning.run import Run, program_or_refusal
@@ -46,6 +46,10 @@ class Lookups(unittest.TestCase):
     def test_files_of_finite_lives(self) -> None:
         seen = sum(self.agree(case.rules, case.script) for case in map(lives_case_of, range(60)))
         self.assertGreater(seen, 200)
+
+    def test_files_whose_rules_share_conditions(self) -> None:
+        seen = sum(self.agree(case.rules, case.script) for case in map(shared_case_of, range(20)))
+        self.assertGreater(seen, 1000)
 
     def test_another_fact_of_the_same_number(self) -> None:
         """From one world two ways: the facts that they insert have the same tag, and are two."""

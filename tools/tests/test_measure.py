@@ -13,21 +13,21 @@ from unittest import mock
 
 from support import evaluator
 
-from sozhipen_tools.bench import costs, measure, parts, rule_files
-from sozhipen_tools.bench.features import LOADS
+from sozhipen_tools.bench import costs, measure, parts, rule_files, unproved
 from sozhipen_tools.bench.loads import FIRE
+from sozhipen_tools.bench.sharing import LOADS
 
 # Loads that are to fire nothing, such as do not in 200 lines, and in how many lines some of these do.
 NEVER = {"bare", "blank", "clocks", "skewed", "pile", "retracted", "cascade", "expiring", "burst", "burst_life",
          "strangers", "strangers_one", "many_nots", "many_nots_one", "kept_two", "kept_six", "kept_join_two",
          "kept_join_six", "kept_not_two", "kept_not_six", "kept_event_two", "kept_event_six", "kept_event_join_six",
          "kept_event_sum_six", "joined_stream", "long_texts", "not_of_one_key", "hour_count", "hour_sum", "hour_min",
-         "hour_max", "hour_average", "length_10", "length_10000"}
+         "hour_max", "hour_average", "length_10", "length_10000", "length_min"}
 SELDOM = {"churn", "wide", "wide_one", "texts", "fields", "sums", "lengths", "forgetful", "forgetful_one", "rules_1",
           "rules_10", "rules_50", "rules_250", "beats", "fields2", "fields8", "fields16", "fields32", "joins_64",
           "joins_256", "coincides_by_key", "finishes_by_key", "finishedby_by_key", "metby_by_key", "starts_by_key",
-          "startedby_by_key", "startedby_alone"}
-LONGER = {"churn": 800, "wide": 400, "forgetful": 600, "beats": 900}
+          "startedby_by_key", "startedby_alone", "right_shared", "right_timed", "right_tallies", "ranges"}
+LONGER = {"churn": 800, "wide": 400, "forgetful": 600, "beats": 900, "ranges": 400}
 
 CLIPS = """grep -c . < "$(sed -n 's/^(load-facts "\\(.*\\)")$/\\1/p' "$2")" > counted
 while read -r facts; do for fact in $(seq "$facts"); do echo "fire $fact"; done; done < counted
@@ -238,6 +238,16 @@ class Costs(Case):
         profile = parts.profile_of(line.strip() for part in text.splitlines() for line in part.split("|"))
         self.assertEqual(parts.by_crate(profile, {"session", "agenda"}),
                          {"session": 10 + 15 + 9, "agenda": 5 + 5 + 3, "": 7})
+
+    def test_a_module_without_its_checks(self) -> None:
+        kept = ["define i64 @f(i64 %0) #0 {\n", '  call void @llvm.memset.p0.i64(ptr %0, i8 0, i64 8, i1 false)\n',
+                '  call void @"rattle-llvm-checks::Unreachable"()\n', "  unreachable\n", "}\n"]
+        dropped = ["  call void @llvm.memset.p0.i64(ptr %0, i8 -86, i64 8, i1 false)\n", "  call void @llvm.trap()\n",
+                   '  call void @"rattle-llvm-checks::Overflow"(i64 3)\n']
+        attributes = 'attributes #0 = { nounwind%s%s"target-cpu"="x86-64" }\n'
+        told = list(unproved.without_checks([*kept[:2], *dropped, *kept[2:],
+                                             attributes % (" sanitize_address", ' "frame-pointer"="all" ')]))
+        self.assertEqual(told, [*kept, attributes % ("", " ")])
 
     def test_whole_rule_files_have_at_most_a_mebibyte(self) -> None:
         for name, (number, text) in rule_files.FILES.items():

@@ -15,7 +15,7 @@ from sozhipen_tools.places import command_of
 
 UNKNOWN = "--no-such-word"
 # They answer such a word as the program does: by its usage line.
-AS_THE_PROGRAM = ("reference.live", "reference.replay")
+AS_THE_PROGRAM = ("reference.desk", "reference.live", "reference.replay")
 # Seconds of the processor, which are about those of the clock where nothing else runs.
 MOST_SECONDS = 1.0
 

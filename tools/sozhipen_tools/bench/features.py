@@ -80,6 +80,25 @@ made_by(subtypes_of, {number: (f"subtypes_{number}",
 
 
 @load
+def subtypes_deep(n: int, rng: Random) -> Load:
+    """A rule on a type, and facts of eight types four steps below it: what a step more costs, beside `subtypes_8`."""
+    number, steps = 8, range(4)
+
+    def chain(i: int) -> str:
+        return "".join(f"declare S{i}{step} extends {f'S{i}{step - 1}' if step else 'U'} f{step} : long end\n"
+                       for step in steps)
+    rules = types(K="k", U="k") + many(number, chain) + rule("x", "K( $k : k ) U( k == $k )")
+
+    def script() -> Iterator[str]:
+        keys = max(1, n // 10)
+        yield from (insert("K", k=i) for i in range(keys))
+        for _ in range(n - keys - 1):
+            yield insert(f"S{rng.randrange(number)}3", k=rng.randrange(1000), **{f"f{step}": 1 for step in steps})
+        yield FIRE
+    return Load(rules, script())
+
+
+@load
 def one_of(n: int, rng: Random) -> Load:
     """One pattern with `in` of eight values."""
     def script() -> Iterator[str]:
@@ -397,6 +416,12 @@ made_by(hour_of, {function: (f"hour_{function}", f"The {function} over a window 
 made_by(length_of, {length: (f"length_{length}", f"The sum of the last {length} readings, which stay when they have "
                              "left the window.")
                     for length in (10, 10_000)})
+
+
+@load
+def length_min(n: int, rng: Random) -> Load:
+    """The least of the last 10,000 readings: beside `length_10000`, what the order of values costs."""
+    return readings("length( 10000 )", "min", n, rng, 0)
 
 
 # ---- tables

@@ -1,4 +1,5 @@
-"""Measures a program that is called as `replay` is, over the loads of bench.loads, bench.desks and bench.features.
+"""Measures a program that is called as `replay` is, over the loads of bench.loads, bench.desks, bench.features and
+bench.sharing.
 
     tools/run bench.measure --list
     tools/run bench.measure --replay PROGRAM [--runs N] [--clips] [--json] [--callgrind] [--latency] [--lines]
@@ -45,7 +46,7 @@ from typing import NamedTuple, Optional
 
 from ..pipes import pipe
 from ..words import Parser
-from .features import LOADS  # those of loads and of desks too
+from .sharing import LOADS  # those of loads, desks and features too
 
 SEED = 7
 FIRINGS = "1000000"

@@ -11,12 +11,12 @@ from ..reference.certificates.certify import certify, table_of
 from ..reference.certificates.confirm import (Part, Table, asked, confirm, edges_of_part, is_good_part, part_line,
                                               part_of_line, tail_of_part)
 from ..reference.meaning import temporal
+from ..reference.meaning.answers import quoted
 from ..reference.meaning.lives import place_of_variable
 from ..reference.meaning.program import DEFAULT, Program
 from ..reference.meaning.run import program_or_refusal
 from ..reference.meaning.temporal import A_END, A_START, B_END, B_START, Edge
 from ..reference.meaning.trees import Condition, Existing, Negated, Plain, Rule, Temporal, TimeWindow
-from ..reference.meaning.worlds import quoted
 from ..rulefile.kept import span
 from ..rulefile.tolerant import read_tolerantly
 

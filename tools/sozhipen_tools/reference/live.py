@@ -13,8 +13,8 @@ from typing import Iterable
 
 from .images.resume import Refused
 from .meaning.program import Program
-from .meaning.run import Run, program_or_refusal
-from .replay import Asked, BadWords, WriteFailed, asked, put, rule_file, run_at_start
+from .meaning.run import Run
+from .replay import Asked, BadWords, WriteFailed, asked, program_of_file, put, put_lines, run_at_start
 
 USAGE = "usage: replay [--limit N] [--resume NAME] RULES"
 
@@ -31,16 +31,14 @@ def scripted(program: Program, a: Asked, lines: Iterable[bytes]) -> int:
 
 def answered(state: Run, lines: Iterable[bytes]) -> int:
     """Answers each line before the next one is taken; the status of the run."""
-    faulty = state.is_faulty
     for line in lines:
         state.number += 1
         state.line(state.number, line.removesuffix(b"\n"))
-        faulty = faulty or any(it.startswith("fault ") for it in state.lines)
-        put("".join(it + "\n" for it in state.lines))
+        put_lines(state.lines)
         state.lines.clear()
         if state.ended:
-            return 4
-    return 1 if faulty else 0
+            break
+    return state.status
 
 
 def live(words: list[str]) -> int:
@@ -51,12 +49,7 @@ def live(words: list[str]) -> int:
     if a is None or a.mode != "run" or a.rules is None:
         put(f"{USAGE}\n")
         return 2
-    try:
-        program = program_or_refusal(rule_file(a.rules))
-    except FileNotFoundError:
-        program = "refused item 0 line 0 Missing"
-    except OSError:
-        return 5
+    program = program_of_file(a.rules)
     if isinstance(program, str):
         put(program + "\n")
         return 3

@@ -12,7 +12,7 @@ import os
 import re
 import sys
 from dataclasses import dataclass
-from typing import Callable, Optional, Union
+from typing import Callable, Optional, Sequence, Union
 
 from .certificates.certify import proof_lines
 from .generators import generate
@@ -48,8 +48,9 @@ class Asked:
     gen: Optional[int]
 
 
-def options_and_rules(words: list[str]) -> tuple[dict[str, str], list[str]]:
-    """The words by `--name value`, `--name=value` and others, as one simple command reads them."""
+def options_and_rules(words: list[str], named: Sequence[str] = OPTIONS,
+                      flags: Sequence[str] = ()) -> tuple[dict[str, str], list[str]]:
+    """The words by `--name value`, `--name=value` and others, as one simple command reads them; a flag has no value."""
     options: dict[str, str] = {}
     rules: list[str] = []
     rest = list(words)
@@ -62,9 +63,9 @@ def options_and_rules(words: list[str]) -> tuple[dict[str, str], list[str]]:
             rules.append(word)
             continue
         name, equals, value = word[2:].partition("=") if word.startswith("--") else (word, "", "")
-        if name not in OPTIONS or name in options:
+        if name in options or name not in flags and name not in named or name in flags and equals:
             raise BadWords
-        if not equals:
+        if name not in flags and not equals:
             if not rest or (rest[0].startswith("-") and rest[0] != "-"):
                 raise BadWords
             value = rest.pop(0)
@@ -124,8 +125,16 @@ def file_bytes(name: str, most: int) -> bytes:
         os.close(fd)
 
 
-def rule_file(name: str) -> bytes:
-    return file_bytes(name, FILE_END + 1)
+def image_file(name: str) -> bytes:
+    return file_bytes(name, IMAGE_END + 1)
+
+
+def program_of_file(name: str) -> Union[Program, str]:
+    """The program of a rule file, or the line of its refusal."""
+    try:
+        return program_or_refusal(file_bytes(name, FILE_END + 1))
+    except FileNotFoundError:
+        return "refused item 0 line 0 Missing"
 
 
 def generated_run(n: int, limit: int) -> tuple[str, int]:
@@ -143,7 +152,7 @@ def run_at_start(program: Program, a: Asked) -> Run:
     if a.image is None:
         return Run(World(program), a.limit, a.limit, [])
     try:
-        data = file_bytes(a.image, IMAGE_END + 1)
+        data = image_file(a.image)
     except FileNotFoundError:
         raise Refused("Missing") from None
     return resumed(data, program, a.limit)
@@ -186,7 +195,7 @@ def replay(words: list[str]) -> int:
         put(text)
         return status
     try:
-        program = program_or_refusal(rule_file(a.rules or ""))
+        program = program_of_file(a.rules or "")
         if isinstance(program, str):
             put_lines([program])
             return 3
@@ -194,9 +203,6 @@ def replay(words: list[str]) -> int:
             return scripted(program, a)
         put(mode_text(program, a.mode))
         return 0
-    except FileNotFoundError:
-        put_lines(["refused item 0 line 0 Missing"])
-        return 3
     except OSError:
         return 5
 

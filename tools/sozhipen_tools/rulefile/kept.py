@@ -14,11 +14,12 @@ from ..reference.meaning.trees import LengthWindow, Rule, TimeWindow
 @dataclass(frozen=True)
 class Reason:
     """A condition of a rule, by their places, that asks for the whole life of a type; why, in words; the plain type
-    that it is for."""
+    that it is for; whether a window of length is, so that a bound would not help."""
     rule: int
     condition: int
     why: str
     plain: Optional[str] = None
+    by_length: bool = False
 
 
 def span(milliseconds: Union[int, float]) -> str:
@@ -30,22 +31,23 @@ def span(milliseconds: Union[int, float]) -> str:
     return text or "0s"
 
 
-def why_for_ever(rule: Rule, program: Program, i: int) -> tuple[str, Optional[str]]:
-    """What makes the life of a pattern infinite, and the plain type that does."""
+def why_for_ever(rule: Rule, program: Program, i: int) -> tuple[str, Optional[str], bool]:
+    """What makes the life of a pattern infinite, the plain type that does, and whether a window of length does."""
     condition = rule.conditions[i]
     if isinstance(condition.source.window, LengthWindow):
         return ("an event leaves a window of length only when others come, and the type is kept as a whole, also what "
-                "has left it"), None
+                "has left it"), None, True
     for j in (j for j in lives.places_run_over(rule, program.types, i) if j != i):
         other = rule.conditions[j].source
         if not lives.is_event(rule.conditions[j], program.types):
             return (f"condition {j + 1} is of the plain type `{other.type}`, of which a fact may come or change at any "
-                    "time", other.type)
-        if lives.reach(rule, program.types, i, j) == INFINITE:
-            return f"no temporal test bounds how long after it `{other.type}` of condition {j + 1} may start", None
+                    "time", other.type, False)
         if isinstance(other.window, LengthWindow):
-            return (f"condition {j + 1} has a window of length, which an event leaves only when others come"), None
-    return "its own entry point or window has no bound", None
+            return f"condition {j + 1} has a window of length, which an event leaves only when others come", None, True
+        if lives.reach(rule, program.types, i, j) == INFINITE:
+            return (f"no temporal test bounds how long after it `{other.type}` of condition {j + 1} may start", None,
+                    False)
+    return "its own entry point or window has no bound", None, False
 
 
 def why_so_long(rule: Rule, program: Program, i: int, life: Union[int, float]) -> str:
@@ -70,7 +72,7 @@ def reasons(program: Program, name: str) -> list[Reason]:
         for i, condition in enumerate(rule.conditions):
             if condition.source.type == name and lives.life_of_pattern(rule, program, i) == life:
                 why = (why_for_ever(rule, program, i) if life == INFINITE
-                       else (why_so_long(rule, program, i, life), None))
+                       else (why_so_long(rule, program, i, life), None, False))
                 found.append(Reason(k, i, *why))
     return found
 

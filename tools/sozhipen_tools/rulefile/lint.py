@@ -569,7 +569,8 @@ def kept_for_ever(desk: Desk) -> Iterator[Complaint]:
                      if is_fixed(desk, reason.plain) else "")
             yield warning("for-ever", item.tokens_of(source)[0],
                           f"events of `{info.name}` are kept for ever, since {reason.why}",
-                          table + "a window of time here, a bound, or an @expires for the type")
+                          table + f"a window of time here{', ' if reason.by_length else ', a bound, '}or an @expires "
+                          "for the type")
 
 
 def is_fixed(desk: Desk, type_name: Optional[str]) -> bool:

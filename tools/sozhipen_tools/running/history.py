@@ -8,11 +8,13 @@ from typing import Optional, Union
 
 from ..reference.images.laden import LadenWorld
 from ..reference.images.resume import resumed
+from ..reference.meaning.answers import fire_line
+from ..reference.meaning.firings import planned
 from ..reference.meaning.program import Program
 from ..reference.meaning.run import Run
 from ..reference.meaning.script import BadCommand, BadJson, Command, FireLine, command_of, is_blank, lines_of
 from ..reference.meaning.trees import Value
-from ..reference.meaning.worlds import Fact, Match, World, after_step, fire_line, first_pending, planned, step_fault
+from ..reference.meaning.worlds import Fact, Match, World, after_step, first_pending, step_fault
 
 LIMIT = 100_000
 # The line of what an image has: one before it, and which is not known.

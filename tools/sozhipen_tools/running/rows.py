@@ -8,13 +8,14 @@ from dataclasses import dataclass
 from typing import Iterator, Optional, Union
 
 from ..reference.meaning import temporal
+from ..reference.meaning.answers import fire_line, quoted
 from ..reference.meaning.program import DEFAULT
 from ..reference.meaning.tokens import Token
 from ..reference.meaning.trees import (AnyOf, Condition, Existing, Folded, Literal, Negated, Plain, Rule, Source,
                                        Temporal, TimeWindow, operands_of)
-from ..reference.meaning.worlds import (RELATIONS, Fact, Row, World, bound_by, candidates, comparison_holds, fire_line,
-                                        firing_key, fold, is_mature, is_present, longer_rows, passes, pending, present,
-                                        quoted, test_holds, times_named, times_of, value_of)
+from ..reference.meaning.worlds import (RELATIONS, Fact, Row, World, bound_by, candidates, comparison_holds, firing_key,
+                                        fold, is_mature, is_present, longer_rows, passes, pending, present, test_holds,
+                                        times_named, times_of, value_of)
 from ..rulefile.forms import with_article
 from ..rulefile.lint import Desk
 from ..rulefile.tolerant import ReadItem

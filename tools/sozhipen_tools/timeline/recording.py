@@ -11,14 +11,16 @@ import re
 from dataclasses import dataclass, field, replace
 from typing import NoReturn, Optional
 
+from ..reference.meaning.answers import quoted
+from ..reference.meaning.firings import planned
 from ..reference.meaning.program import DEFAULT, Program
 from ..reference.meaning.run import Fault as LineFault, asked_step, program_or_refusal
 from ..reference.meaning.script import BadCommand, BadJson, Command, FireLine, HeldLine, command_of, is_blank, lines_of
 from ..reference.meaning.temporal import INFINITE, NEVER, greatest_start
 from ..reference.meaning.trees import Condition, Existing, Negated, Plain, Rule, Value
 from ..reference.meaning.worlds import (EMPTY_ROW, Fact, Insertion, Modification, Promise, Retraction, Row, Step, World,
-                                        bound_by, candidates, changed, fact_with, folded, is_mature, passes, planned,
-                                        quoted, step_fault, times_of)
+                                        bound_by, candidates, changed, fact_with, folded, is_mature, passes, step_fault,
+                                        times_of)
 
 FIRE_LINE = re.compile(r'fire ("(?:[^"\\]|\\.)*")((?: #[0-9]+| =-?[0-9]+)*)')
 CELL = re.compile(r"([#=])(-?[0-9]+)")

@@ -12,11 +12,11 @@ import re
 from dataclasses import dataclass
 from typing import Optional
 
+from ..meaning.answers import quoted
 from ..meaning.lives import network_edges
 from ..meaning.program import DEFAULT, Program
 from ..meaning.temporal import Edge
 from ..meaning.trees import LengthWindow, Plain, Rule, TimeWindow
-from ..meaning.worlds import quoted
 
 
 @dataclass(frozen=True)

@@ -1,14 +1,15 @@
 """Holds the built program against the reference, on random rule files and scripts.
 
-    tools/run reference.comparers.compare --seeds A B [--replay PROGRAM] [--folder FOLDER] [--keep-going] [--lives]
-        [--modes]
+    tools/run reference.comparers.compare --seeds A B [--replay PROGRAM] [--folder FOLDER] [--keep-going]
+        [--lives | --share] [--modes]
 
 With --modes the program is also asked for its other modes: check and lives, the image of a run that is cut, the run
 that goes on from it, an image that is spoilt, and certificates, which are confirmed. With --lives the files are over
-events of finite lives, which end within the scripts. For each seed from A up to B - 1 the program runs on the seed's
-file and script, and its bytes and status are compared with those of the reference. The first difference is printed with
-its seed, and the files of that seed, with both outputs, are left in the folder. The last lines say how many seeds
-agreed and what was seen. The status is 0 where all agreed, 1 where one did not.
+events of finite lives, which end within the scripts; with --share the rules of a file share conditions. For each seed
+from A up to B - 1 the program runs on the seed's file and script, and its bytes and status are compared with those of
+the reference. The first difference is printed with its seed, and the files of that seed, with both outputs, are left in
+the folder. The last lines say how many seeds agreed and what was seen. The status is 0 where all agreed, 1 where one
+did not.
 """
 
 from __future__ import annotations
@@ -25,7 +26,7 @@ from typing import Optional
 
 from ...places import BUILT
 from ...words import Parser
-from ..generators.generate import Case, case_of, lives_case_of, write_case
+from ..generators.generate import Case, chosen_cases, write_case
 from ..meaning.keeping import has_forgotten
 from ..meaning.run import outcome, report_of
 from .modes import questions
@@ -124,6 +125,7 @@ def main() -> int:
     parser.add_argument("--keep-going", action="store_true", help="do not stop at the first difference")
     parser.add_argument("--modes", action="store_true", help="ask for the other modes too")
     parser.add_argument("--lives", action="store_true", help="files over events of finite lives")
+    parser.add_argument("--share", action="store_true", help="files whose rules share conditions")
     asked = parser.parse_args()
     command = absolute(asked.replay)
     if shutil.which(command[0]) is None:
@@ -131,7 +133,7 @@ def main() -> int:
     counts: Counter = Counter()
     agreed = differed = 0
     for seed in range(*asked.seeds):
-        case = lives_case_of(seed) if asked.lives else case_of(seed)
+        case = chosen_cases(asked.lives, asked.share)(seed)
         found = outcome(case.rules, case.script, case.limit or 100_000)
         wanted = report_of(found)
         count_lines(counts, wanted[0])

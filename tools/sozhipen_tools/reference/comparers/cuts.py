@@ -2,7 +2,7 @@
 without a break.
 
     tools/run reference.comparers.cuts [--scripts N] [--from SEED] [--replay PROGRAM] [--folder FOLDER] [--keep-going]
-        [--threefold]
+        [--threefold] [--share]
 
 Each script is cut once behind each of its lines, and some more times behind three lines at once, where the runs between
 go on from an image and save one. Every image has to be that of the run without a break behind the same line, byte for
@@ -10,9 +10,10 @@ byte; the last part has to print what that run prints behind the cut, and to end
 the limit, its last line and the status 4 are the answer.
 
 In half of the scripts events that are forgotten still block a `not`, or stand in an accumulate, where some cut is; the
-seeds are taken in their order until both halves are full. Without --replay the evaluator goes on from its own images,
-and each run is also tried without what rows count of forgotten events: how many differ then is told. The files of the
-first difference are left in the folder. The status is 0 where all was as it has to be, 1 where it was not.
+seeds are taken in their order until both halves are full. With --share the rules of a file share conditions, and all
+seeds are taken. Without --replay the evaluator goes on from its own images, and each run is also tried without what
+rows count of forgotten events: how many differ then is told. The files of the first difference are left in the folder.
+The status is 0 where all was as it has to be, 1 where it was not.
 """
 
 from __future__ import annotations
@@ -23,11 +24,12 @@ import sys
 import tempfile
 from collections import Counter
 from dataclasses import dataclass, replace
+from itertools import count as numbers, islice
 from random import Random
 from typing import Callable, Iterator, Optional
 
 from ...words import Parser
-from ..generators.generate import Case, case_of, lives_case_of, write_case
+from ..generators.generate import Case, case_of, lives_case_of, shared_case_of, write_case
 from ..images.image import Image, decode, encode
 from ..images.resume import Refused, resumed
 from ..images.saving import fits
@@ -197,9 +199,13 @@ class Script:
         return self.case.limit or LIMIT
 
 
-def script_of(seed: int) -> Optional[Script]:
-    """Two of three seeds are of finite lives; of a file that is refused there is none."""
-    case = case_of(seed) if seed % 3 == 0 else lives_case_of(seed)
+def mixed_case_of(seed: int) -> Case:
+    """Two of three seeds are of finite lives."""
+    return case_of(seed) if seed % 3 == 0 else lives_case_of(seed)
+
+
+def script_of(seed: int, case: Case) -> Optional[Script]:
+    """Of a file that is refused there is none."""
     program = program_or_refusal(case.rules)
     counts: Counter[str] = Counter()
     if isinstance(program, str):
@@ -209,12 +215,17 @@ def script_of(seed: int) -> Optional[Script]:
     return Script(seed, case, program, whole, counts)
 
 
+def shared_scripts(count: int, first: int) -> Iterator[Script]:
+    """So many scripts of files whose rules share conditions."""
+    return islice(filter(None, (script_of(seed, shared_case_of(seed)) for seed in numbers(first))), count)
+
+
 def scripts(count: int, first: int) -> Iterator[Script]:
     """So many scripts, in half of which forgotten events still block or stand somewhere."""
     left = {True: count - count // 2, False: count // 2}
     seed = first
     while any(left.values()):
-        script = script_of(seed)
+        script = script_of(seed, mixed_case_of(seed))
         seed += 1
         if script is None:
             continue
@@ -250,9 +261,10 @@ def main() -> int:
                         help="where the files of the first difference are left")
     parser.add_argument("--keep-going", action="store_true", help="do not stop at the first difference")
     parser.add_argument("--threefold", action="store_true", help="cut each script at three lines at once alone")
+    parser.add_argument("--share", action="store_true", help="files whose rules share conditions")
     asked = parser.parse_args()
     counts: Counter = Counter()
-    for script in scripts(asked.scripts, asked.first):
+    for script in (shared_scripts if asked.share else scripts)(asked.scripts, asked.first):
         lines = lines_of(script.case.script)
         with tempfile.TemporaryDirectory(prefix="cuts-") as room:
             answer = (by_program(absolute(asked.replay), script.case, room) if asked.replay

@@ -11,7 +11,7 @@ from __future__ import annotations
 import os
 from dataclasses import dataclass
 from random import Random
-from typing import Optional
+from typing import Callable, Optional
 
 from ...words import Parser
 from ..meaning.checks import check
@@ -21,6 +21,7 @@ from .random_alternatives import with_choices
 from .random_lives import lives_case
 from .random_rules import FileMaker
 from .random_script import ScriptMaker
+from .random_shared import shared_case
 from .writer import Writer
 
 BUDGET = 150
@@ -67,6 +68,17 @@ def case_of(seed: int) -> Case:
 def lives_case_of(seed: int) -> Case:
     """The case of a seed among those of finite lives."""
     return Case(*lives_case(Random(f"lives/{SERIES}/{seed}")), 200)
+
+
+def shared_case_of(seed: int) -> Case:
+    """The case of a seed among those whose rules share conditions."""
+    rng = Random(f"shared/{SERIES}/{seed}")
+    return Case(*shared_case(rng), rng.choice([None] * 6 + [5, 30]))
+
+
+def chosen_cases(lives: bool, share: bool) -> Callable[[int], Case]:
+    """The cases of these sorts: where neither is asked for, those of all sorts."""
+    return shared_case_of if share else lives_case_of if lives else case_of
 
 
 # ---- the large run of `--gen N`

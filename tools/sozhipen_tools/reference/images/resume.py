@@ -18,7 +18,7 @@ class Refused(Exception):
 def saved(state: Run) -> bytes:
     """The bytes of the image of a run, or Refused."""
     image = image_of(state.world, RunPart(show(state.world.program.written), state.number, state.firings,
-                                          state.is_faulty))
+                                          state.faulty))
     data = encode(image)
     if len(data) > IMAGE_END:
         raise Refused("TooLong")

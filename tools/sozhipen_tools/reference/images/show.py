@@ -9,12 +9,12 @@ from __future__ import annotations
 
 from typing import Callable, Iterable, Optional
 
+from ..meaning.answers import quoted
 from ..meaning.trees import (Action, Alternatives, Annotation, Attribute, Binary, Bind, Body, Compare, Comparison,
                              Condition, Dialect, EntryDeclaration, Expires, Expr, FieldOf, Folded, Import, Insert, Item,
                              Literal, Modify, Negate, Negated, Operand, Own, Package, Part, Plain, Reference, Role,
                              Salience, Source, Temporal, Timestamp, TimeWindow, TypeDeclaration, Value, Variable,
                              Window)
-from ..meaning.worlds import quoted
 
 Tokens = list[str]
 

@@ -7,6 +7,7 @@ from collections import Counter
 from functools import lru_cache
 from typing import Union
 
+from .answers import Held
 from .lives import life_of_type
 from .program import Program
 from .temporal import INFINITE
@@ -36,10 +37,10 @@ def kept_events(w: World) -> list[Fact]:
     return [f for f in kept_facts(w) if w.program.types[f.type].event]
 
 
-def held_lines(w: World) -> list[str]:
+def held(w: World) -> list[Held]:
     """For each event type in file order how many of its events are kept."""
     kept = Counter(f.type for f in kept_events(w))
-    return [f"held {t.name} {kept[t.name]}" for t in w.program.types.values() if t.event]
+    return [Held(t.name, kept[t.name]) for t in w.program.types.values() if t.event]
 
 
 def has_forgotten(w: World) -> bool:

@@ -5,15 +5,17 @@ from __future__ import annotations
 from dataclasses import dataclass
 from typing import Optional, Union
 
+from .answers import Answer, Faulted, LimitOfRun, text_of
 from .checks import check
-from .keeping import held_lines
+from .firings import done, firing
+from .keeping import held
 from .program import DEFAULT, Program
 from .reader import Refused, read_file
 from .script import (LINE_END, AdvanceLine, AtLine, BadCommand, BadJson, BeginLine, Command, FireLine, HeldLine,
                      InsertLine, ModifyLine, PromiseLine, RetractLine, command_of, is_blank, lines_of)
 from .trees import kind_of_value
 from .worlds import (Begin, ClockMove, Insertion, Modification, Promise, Retraction, Step, World, absence_fault,
-                     after_step, firing, first_pending, step_fault, step_lines)
+                     first_pending, step_fault)
 
 TEXT_END = 4096
 
@@ -101,7 +103,7 @@ def asked_step(command: Command, w: World) -> Step:
 @dataclass
 class Run:
     """Where a run stands: the world, the firings that are left, what was printed, whether the limit ended it; the lines
-    taken, the firings made, and whether a line before those printed was faulty."""
+    taken, the firings made, and whether one of these lines was faulty."""
     world: World
     left: int
     limit: int
@@ -111,6 +113,14 @@ class Run:
     firings: int = 0
     faulty: bool = False
 
+    def tell(self, number: int, *answers: Answer) -> None:
+        """Prints what a line answers."""
+        self.faulty = self.faulty or any(isinstance(it, Faulted) for it in answers)
+        self.lines += [line for line in (self.written(it, number) for it in answers) if line is not None]
+
+    def written(self, answer: Answer, number: int) -> Optional[str]:
+        return text_of(answer, number)
+
     def line(self, number: int, line: bytes) -> None:
         """What one line of the script does."""
         try:
@@ -118,49 +128,51 @@ class Run:
                 raise Fault("LineLong")
             if is_blank(line):
                 return
-            self.command(number, command_of(line))
+            self.obey(number, line)
         except BadJson:
-            self.lines.append(f"fault {number} BadJson")
+            self.tell(number, Faulted("BadJson"))
         except BadCommand:
-            self.lines.append(f"fault {number} BadCommand")
+            self.tell(number, Faulted("BadCommand"))
         except Fault as fault:
-            self.lines.append(f"fault {number} {fault.args[0]}")
+            self.tell(number, Faulted(fault.args[0]))
+
+    def obey(self, number: int, line: bytes) -> None:
+        """Does what a line asks for, or raises its fault."""
+        self.command(number, command_of(line))
 
     def command(self, number: int, command: Command) -> None:
         if isinstance(command, FireLine):
             self.fire(number, command.most)
         elif isinstance(command, HeldLine):
-            self.lines += held_lines(self.world)
+            self.tell(number, *held(self.world))
         else:
             step = asked_step(command, self.world)
             if fault := step_fault(step, self.world):
                 raise Fault(fault)
-            self.lines += step_lines(step, self.world)
-            self.world = after_step(step, self.world)
+            answers, self.world = done(step, self.world)
+            self.tell(number, *answers)
 
     def fire(self, number: int, most: Optional[int]) -> None:
-        """Fires until nothing is pending or the command has no firing left; a pending match at the limit ends the
-        run."""
-        done = 0
-        while most is None or done < most:
+        """Fires until nothing is pending or the command has no firing left, or none is left at all."""
+        made = 0
+        while most is None or made < most:
             first = first_pending(self.world)
             if first is None:
                 return
             if self.left == 0:
-                self.lines.append(f"limit {self.limit}")
-                self.ended = True
-                return
-            lines, self.world = firing(first, self.world, number)
-            self.lines += lines
-            self.left, self.firings, done = self.left - 1, self.firings + 1, done + 1
+                return self.meet_limit(number)
+            answers, self.world = firing(first, self.world)
+            self.tell(number, *answers)
+            self.left, self.firings, made = self.left - 1, self.firings + 1, made + 1
 
-    @property
-    def is_faulty(self) -> bool:
-        return self.faulty or any(line.startswith("fault ") for line in self.lines)
+    def meet_limit(self, number: int) -> None:
+        """A pending match at the limit ends the run."""
+        self.tell(number, LimitOfRun(self.limit))
+        self.ended = True
 
     @property
     def status(self) -> int:
-        return 4 if self.ended else 1 if self.is_faulty else 0
+        return 4 if self.ended else 1 if self.faulty else 0
 
 
 def run_on(state: Run, script: bytes) -> Run:

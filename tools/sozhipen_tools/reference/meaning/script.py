@@ -239,6 +239,25 @@ class HeldLine:
 Command = Union[InsertLine, ModifyLine, RetractLine, AdvanceLine, AtLine, PromiseLine, BeginLine, FireLine, HeldLine]
 
 
+@dataclass(frozen=True)
+class SaveLine:
+    pass
+
+
+@dataclass(frozen=True)
+class FactsLine:
+    """`type` is None where the member is missing: then of all types."""
+    type: Optional[str]
+
+
+@dataclass(frozen=True)
+class CountsLine:
+    pass
+
+
+DeskCommand = Union[Command, SaveLine, FactsLine, CountsLine]
+
+
 def is_whole(value: Any, low: int, high: int) -> bool:
     """A whole number within these bounds (a truth value is none)."""
     return type(value) is int and low <= value <= high
@@ -250,28 +269,42 @@ MEMBERS = {"type": lambda v: isinstance(v, str), "entry": lambda v: isinstance(v
            "max": lambda v: is_whole(v, 0, TIME_END), "from": lambda v: is_whole(v, INT_LOW, INT_HIGH)}
 
 # By the word behind `do` the members that must stand, and those that may.
-FORMS: dict[str, tuple[set[str], set[str]]] = {"insert": ({"type", "fields"}, {"entry"}),
-                                               "modify": ({"type", "id", "fields"}, set()),
-                                               "retract": ({"type", "id"}, set()), "advance": ({"by"}, set()),
-                                               "at": ({"ms"}, set()), "fire": (set(), {"max"}), "held": (set(), set()),
-                                               "promise": ({"from"}, {"entry"}), "begin": (set(), set())}
+Forms = dict[str, tuple[set[str], set[str]]]
+FORMS: Forms = {"insert": ({"type", "fields"}, {"entry"}), "modify": ({"type", "id", "fields"}, set()),
+                "retract": ({"type", "id"}, set()), "advance": ({"by"}, set()), "at": ({"ms"}, set()),
+                "fire": (set(), {"max"}), "held": (set(), set()), "promise": ({"from"}, {"entry"}),
+                "begin": (set(), set())}
+
+# Those that only a desk knows.
+DESK_FORMS: Forms = {"save": (set(), set()), "facts": (set(), {"type"}), "counts": (set(), set())}
 
 
-def command_of(line: bytes) -> Command:
-    """The command that a line asks for, BadJson, or BadCommand where its reading is none of the forms."""
+def form_of(line: bytes, forms: Forms) -> tuple[str, dict[str, Any]]:
+    """The word behind `do` and the other members of a line, BadJson, or BadCommand where its reading is none of these
+    forms."""
     reading = json_of(line)
     if not isinstance(reading, dict):
         raise BadCommand
     members = dict(reading)
     word = members.pop("do", None)
-    if not isinstance(word, str) or word not in FORMS:
+    if not isinstance(word, str) or word not in forms:
         raise BadCommand
-    needed, allowed = FORMS[word]
+    needed, allowed = forms[word]
     names = set(members)
     if not needed <= names <= needed | allowed:
         raise BadCommand
     if not all(MEMBERS[name](value) for name, value in members.items()):
         raise BadCommand
+    return word, members
+
+
+def command_of(line: bytes) -> Command:
+    """The command that a line asks for, BadJson, or BadCommand where its reading is none of the forms."""
+    return command_with(*form_of(line, FORMS))
+
+
+def command_with(word: str, members: dict[str, Any]) -> Command:
+    """The command of a form."""
     if word == "insert":
         return InsertLine(members["type"], members.get("entry"), members["fields"])
     if word == "modify":
@@ -287,6 +320,16 @@ def command_of(line: bytes) -> Command:
     if word == "begin":
         return BeginLine()
     return FireLine(members.get("max")) if word == "fire" else HeldLine()
+
+
+def desk_command_of(line: bytes) -> DeskCommand:
+    """The same of a line to a desk."""
+    word, members = form_of(line, {**FORMS, **DESK_FORMS})
+    if word == "save":
+        return SaveLine()
+    if word == "facts":
+        return FactsLine(members.get("type"))
+    return CountsLine() if word == "counts" else command_with(word, members)
 
 
 def lines_of(script: bytes) -> list[bytes]:

@@ -1,4 +1,4 @@
-"""What an accepted rule file means: worlds, rows, matches, the order of firing, steps and firings.
+"""What an accepted rule file means: worlds, rows, matches, the order of firing, and steps.
 
 A world keeps every fact that was inserted and not retracted; rows and matches are taken from the whole list in each
 world, by looking candidates up (lookup) and taking over what came of the same facts before. The conditions, the
@@ -18,9 +18,8 @@ from . import temporal
 from .lookup import NO_FACTS, Group, Groups, LastTaken, Memory, Wanted, equalities
 from .program import DEFAULT, Program, salience_of
 from .temporal import INFINITE, NEVER
-from .trees import (Action, AnyOf, Binary, Compare, Comparison, Condition, Existing, Expr, FieldOf, Folded, Insert,
-                    LengthWindow, Literal, Modify, Negate, Negated, Operand, Own, Plain, Rule, Source, TimeWindow,
-                    Value, Variable)
+from .trees import (AnyOf, Compare, Comparison, Condition, Existing, Expr, FieldOf, Folded, LengthWindow, Literal,
+                    Negated, Operand, Own, Plain, Rule, Source, TimeWindow, Value, Variable)
 
 INT_LOW, INT_HIGH = -(2**63), 2**63 - 1
 TIME_END = 2**53
@@ -537,76 +536,3 @@ def after_step(step: Step, w: World) -> World:
     """The world behind a step without a fault: of the fired matches those stay marked that are matches still."""
     next_world = changed(step, w)
     return next_world.with_fired(w.fired & {m.key for m in next_world.matches})
-
-
-def step_lines(step: Step, w: World) -> list[str]:
-    """What a step without a fault prints."""
-    return [f"new #{w.next_id} {step.type}"] if isinstance(step, Insertion) else []
-
-
-# ---- actions and firings
-
-
-class Overflow(Exception):
-    """The value of an expression or of a part of it lies outside 64 bits."""
-
-
-def number_of(n: int) -> int:
-    if not INT_LOW <= n <= INT_HIGH:
-        raise Overflow
-    return n
-
-
-def expression_value(e: Expr, names: Names) -> Any:
-    """The value over whole numbers, or Overflow."""
-    if isinstance(e, Negate):
-        return number_of(-expression_value(e.inner, names))
-    if isinstance(e, Binary):
-        left, right = expression_value(e.left, names), expression_value(e.right, names)
-        return number_of(left + right if e.sign == "+" else left - right if e.sign == "-" else left * right)
-    return value_of(e, names, None)
-
-
-def planned(action: Action, row: Row, w: World) -> Optional[Step]:
-    """The step of an action with the values of the row, None where one of its expressions overflows."""
-    try:
-        if isinstance(action, Insert):
-            values = [expression_value(e, row.names) for e in action.values]
-            return Insertion(action.type, DEFAULT, dict(zip(w.program.types[action.type].fields, values)))
-        f = row.names[action.variable]
-        if isinstance(action, Modify):
-            return Modification(f.id, f.type, {name: expression_value(e, row.names) for name, e in action.sets})
-        return Retraction(f.id, f.type)
-    except Overflow:
-        return None
-
-
-def fire_line(m: Match, w: World) -> str:
-    cells = "".join(f" #{c.id}" if isinstance(c, Fact) else f" ={c}" for c in m.row.cells)
-    return f"fire {quoted(w.program.title(m.rule))}{cells}"
-
-
-def quoted(text: str) -> str:
-    """A text literal: backslash, quote, newline, tab and carriage return by their escapes."""
-    for raw, escape in (("\\", "\\\\"), ('"', '\\"'), ("\n", "\\n"), ("\t", "\\t"), ("\r", "\\r")):
-        text = text.replace(raw, escape)
-    return f'"{text}"'
-
-
-def firing(m: Match, w: World, line: int) -> tuple[list[str], World]:
-    """Marks the match as fired, prints it, and does its rule's actions in order, each as a step of the world at that
-    moment.
-
-    All expressions have the values of the row as the firing began. A faulty action prints its fault with the line of
-    the fire command and changes nothing."""
-    lines = [fire_line(m, w)]
-    steps = [planned(action, m.row, w) for action in w.program.rules[m.rule].actions]
-    w = w.with_fired(w.fired | {m.key})
-    for step in steps:
-        fault = "Overflow" if step is None else step_fault(step, w)
-        if step is None or fault is not None:
-            lines.append(f"fault {line} {fault}")
-        else:
-            lines += step_lines(step, w)
-            w = after_step(step, w)
-    return lines, w
