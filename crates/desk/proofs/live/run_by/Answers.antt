@@ -1,4 +1,7 @@
 use Rattle.std.proofs.Common.{◌∙◌, Err, ap, option_map}
+use Rattle.checkpoint.specs.declared.image.RunPart.{RunPart}
+use Rattle.line_run.specs.Parts.{run_part_at}
+use Rattle.script_run.specs.Live.{most_firings}
 use Rattle.replay.specs.Report.{fault_status}
 use Rattle.desk.specs.Lives.{live_of}
 use Rattle.desk.proofs.Living.{ended, fault_within, stopped, unfit}
@@ -20,7 +23,7 @@ returns-in-Ok-Some-clause-live g c =
     let put = rw (program ∙ begun.program, table ∙ begun.table) at c.end.ensures.ended in
     ended g.E.Engine.stands g.E.Engine.gives g.E.Engine.fires g.E.Engine.counts it c.args.lives (g.K.Sink.written c.args.out.now) (g.K.Sink.written c.run_live.new.out) (g.K.Sink.written c.end.new.out)
     (g.T.Store.files c.args.store.now) (g.T.Store.files c.end.new.store) (g.E.Engine.stands c.in-Ok.begun.0) c.in-Ok-Some.engine c.in-Ok-Some.at c.part.result
-    (g.S.Source.left c.args.script.now) done.0 c.end.result done.1 begun.stands begun.fits done.2 (c.part.ensures ∙ ap _ begun.part)
+    (g.S.Source.left c.args.script.now) done.0 c.end.result done.1 begun.stands begun.fits done.2 (c.part.ensures ∙ ap (λ (first : RunPart). run_part_at most_firings first c.in-Ok-Some.at) begun.part)
     put c.end.ensures.refused c.end.ensures.stays c.end.ensures.front c.end.ensures.answers
 
 pub returns-in-Err-clause-live : goal.returns-in-Err-clause-live
