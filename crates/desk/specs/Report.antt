@@ -56,11 +56,11 @@ IsRefused it table outcome before after = (code : CheckpointCode) × (text : Lis
     ⊎ ((w : World) → BeginsIn it.program table it.beginning w → text ≡ (outcome w).bytes))
 
 -- what a desk does where a live run is wanted, by a table of lives of its program and by its status
-record LivesBy (gives : Gives) (fires : Fires) (counts : Counts) (it : Live) (table : LifeTable) (script : List ℕ) (before after : Option (List ℕ)) (files files' : Option Files) (status : ℕ) : Type 0 where
+pub record LivesBy (gives : Gives) (fires : Fires) (counts : Counts) (it : Live) (table : LifeTable) (script : List ℕ) (before after : Option (List ℕ)) (files files' : Option Files) (status : ℕ) : Type 0 where
   pub done : status ≤ 1 → CanBegin it.program table it.beginning
       × ((w : World) → BeginsIn it.program table it.beginning w → IsDone it table (live_run gives fires counts it table w (lines_of script)) before after files files' status)
   -- a front of what the lines print, and of the line by which the image is refused to which the run came
-  pub front : 5 ≤ status → status ≤ 8 → (code : CheckpointCode) × ((w : World) → BeginsIn it.program table it.beginning w
+  pub front : 5 ≤ status → status ≤ 8 → (code : CheckpointCode) × (CanBegin it.program table it.beginning → (w : World) → BeginsIn it.program table it.beginning w
       → AppendsFront before after ((live_run gives fires counts it table w (lines_of script)).bytes ++ checkpoint_text code))
   pub refused : status ≡ 9 → IsRefused it table (λ w. live_run gives fires counts it table w (lines_of script)) before after
   -- all firings that a live run may make were made

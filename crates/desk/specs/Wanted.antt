@@ -9,9 +9,10 @@ use Rattle.replay.specs.declared.beginning.Beginning.TheVariants.{First, Behind}
 use Rattle.replay.specs.declared.refusal.Refusal.{Refusal}
 use Rattle.replay.specs.declared.refusal.RefusalCode.TheVariants.{Missing}
 use Rattle.replay.specs.declared.refused_checkpoint.CheckpointCode.{CheckpointCode}
+use Rattle.replay.specs.declared.refused_checkpoint.CheckpointCode.TheVariants as code
 use Rattle.replay.specs.declared.rule_file.Reading.{Reading}
 use Rattle.replay.specs.declared.rule_file.Reading.TheVariants.{Accepted, Refused}
-use Rattle.replay.specs.Checkpoints.{Checkpoint, has_image, is_refused, checkpoint_of, rules_shown}
+use Rattle.replay.specs.Checkpoints.{Checkpoint, has_image, is_refused, checkpoint_in, rules_shown}
 use Rattle.replay.specs.Refusals.{reading, whole_file}
 use Rattle.replay.specs.Wanted.{Files}
 
@@ -22,19 +23,19 @@ pub data Start : Type 0 where
   -- the image is refused
   cannot_begin : CheckpointCode → Start
 
-abbrev pub start_at : Checkpoint → Start
-start_at (has_image image) = begins (Behind image)
-start_at (is_refused code) = cannot_begin code
-
--- in the empty world, where there is no file of the image yet
-abbrev pub start_in : List ℕ → Option (List ℕ) → Start
-start_in rules None = begins (First rules)
-start_in rules (Some bytes) = start_at (checkpoint_of rules bytes)
+-- with what the file of an image is to rules with this text: in the empty world, where it is not there yet
+abbrev pub start_in : List ℕ → Checkpoint → Start
+start_in rules (has_image image) = begins (Behind image)
+start_in rules (is_refused code.Missing) = begins (First rules)
+start_in rules (is_refused code.TooLong) = cannot_begin code.TooLong
+start_in rules (is_refused code.BadImage) = cannot_begin code.BadImage
+start_in rules (is_refused code.OtherRules) = cannot_begin code.OtherRules
+start_in rules (is_refused code.Unfit) = cannot_begin code.Unfit
 
 -- of rules with this text, with the name of an image where one is given
 abbrev pub start : List ℕ → Option (List ℕ) → Files → Start
 start rules None files = begins (First rules)
-start rules (Some name) files = start_in rules (files name)
+start rules (Some name) files = start_in rules (checkpoint_in rules (files name))
 
 -- ---- what is wanted
 

@@ -1,6 +1,6 @@
 //! The image of the state to which a live run came.
 ghost use Rattle.std.specs.Prelude.{◌≡◌, ◌⊎◌, ◌≤◌, option_map};
-ghost use Rattle.checkpoint.specs.Bytes.{image_bytes};
+ghost use Rattle.checkpoint.specs.Bytes.{image_bytes, IsImage};
 ghost use Rattle.checkpoint.specs.declared.image.Image.{Image as ImageData};
 ghost use Rattle.fx_io.specs.Outside.{append, AppendsFront};
 ghost use Rattle.image_laws.specs.Images.{IsImageOf};
@@ -17,6 +17,7 @@ use replay::{CheckpointCode, IMAGE_MAX, can_go_on, refuse_checkpoint};
 use std::alloc::Global;
 
 // Puts the bytes of an image to the file of this name, or writes why it is refused.
+#[tactic(auto, unfolding(replay::specs::Checkpoints::image_limit))]
 fn put_bytes<T: Store, K: Sink>(
     alloc: Global,
     image: &Image,
@@ -25,7 +26,8 @@ fn put_bytes<T: Store, K: Sink>(
     store: &mut T,
     out: &mut K,
 ) -> u8
-    requires { bytes.now ≡ image_bytes image.now }
+    requires bytes { bytes.now ≡ image_bytes image.now }
+    requires is_image { IsImage image.now }
     ensures put { result ≡ 0 → Keeps image.now (T.files store.old) (T.files store.new) name.now × (K.written out.new ≡ K.written out.old) }
     ensures refused { result ≡ 9 → (code : CodeData) × (K.written out.new ≡ append (K.written out.old) (checkpoint_text code)) }
     ensures stays { 8 ≤ result → T.files store.new ≡ T.files store.old }

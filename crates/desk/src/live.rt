@@ -9,7 +9,6 @@ ghost use Rattle.desk.specs.Wanted.{runs};
 use crate::keeping::end;
 use engine::{Engine, ResumeFault};
 use expiry_infer::lives;
-use fx_base::Text;
 use fx_io::{Sink, Source};
 use fx_store::Store;
 use line_run::Progress;
@@ -18,29 +17,20 @@ use rule_model::{LifeTable, Program};
 use script_run::{LIVE_MAX, run_live};
 use std::alloc::Global;
 
-/// A live run: its program, where it begins, the most firings of each fire command, and the name of its image.
+/// A live run: its program, where it begins, and the most firings of each fire command.
 #[derive(Drop)]
 pub(crate) struct Live {
     pub(crate) program: Program,
     pub(crate) beginning: Beginning,
     pub(crate) each: u64,
-    pub(crate) image: Option<Text>,
 }
 
-fn lent(name: &Option<Text>) -> Option<&str>
-    ensures { option_map (λ it. it.now) result ≡ name.now }
-{
-    match name {
-        Some(name) => Some(name.as_str()),
-        None => None,
-    }
-}
-
-// Runs it by the table of its program's lives.
+// Runs it by the table of its program's lives, with the name of its image where one is given.
 fn run_by<E: Engine, T: Store, S: Source<K>, K: Sink>(
     alloc: Global,
     live: Live,
     lives: LifeTable,
+    image: Option<&str>,
     store: &mut T,
     script: &mut S,
     out: &mut K,
@@ -48,9 +38,9 @@ fn run_by<E: Engine, T: Store, S: Source<K>, K: Sink>(
     requires runnable { IsRunnable live.program }
     requires lives { AreLives live.program lives }
     requires table { IsSafeTable live.program lives }
-    requires prompt { (bytes : List ℕ) (now : K)
-        → IsPrompt E.gives E.fires E.counts (runs (live_of live)) bytes (K.written out.old) (K.written now) → S.may_ask script.old bytes now }
-    ensures live { IfSome (S.left script.old) (λ bytes. LivesBy E.gives E.fires E.counts (live_of live) lives bytes
+    requires prompt { let it = live_of live (option_map (λ name. name.now) image) in (bytes : List ℕ) (now : K)
+        → IsPrompt E.gives E.fires E.counts (runs it) bytes (K.written out.old) (K.written now) → S.may_ask script.old bytes now }
+    ensures live { IfSome (S.left script.old) (λ bytes. LivesBy E.gives E.fires E.counts (live_of live (option_map (λ name. name.now) image.entry)) lives bytes
         (K.written out.old) (K.written out.new) (T.files store.old) (T.files store.new) result) }
     ensures answers { (result ≤ 1) ⊎ ((5 ≤ result) × (result ≤ 9)) ⊎ (result ≡ 11) }
 {
@@ -58,7 +48,6 @@ fn run_by<E: Engine, T: Store, S: Source<K>, K: Sink>(
         program,
         beginning,
         each,
-        image,
     } = live;
     let begun = match begun::<E>(alloc, program, lives, beginning) {
         Ok(begun) => begun,
@@ -69,31 +58,31 @@ fn run_by<E: Engine, T: Store, S: Source<K>, K: Sink>(
     let at = Progress::behind(&part, LIVE_MAX);
     match run_live::<E, S, K>(alloc, engine, at, each, script, out) {
         Ok(Some((engine, at))) => {
-            let run = at.part(part, LIVE_MAX);
-            end::<E, T, K>(alloc, engine, run, lent(&image), store, out)
+            end::<E, T, K>(alloc, engine, at.part(part, LIVE_MAX), image, store, out)
         }
         Ok(None) => 11,
         Err(fault) => status_of_fault(fault),
     }
 }
 
-/// Runs it, by the lives that are inferred of its program's types.
+/// Runs it, by the lives that are inferred of its program's types, with the name of its image where one is given.
 pub(crate) fn run<E: Engine, T: Store, S: Source<K>, K: Sink>(
     alloc: Global,
     live: Live,
+    image: Option<&str>,
     store: &mut T,
     script: &mut S,
     out: &mut K,
 ) -> u8
     requires runnable { IsRunnable live.program }
-    requires prompt { (bytes : List ℕ) (now : K)
-        → IsPrompt E.gives E.fires E.counts (runs (live_of live)) bytes (K.written out.old) (K.written now) → S.may_ask script.old bytes now }
-    ensures served { IfSome (S.left script.old) (λ bytes. IsServed E.gives E.fires E.counts (runs (live_of live)) bytes
+    requires prompt { let it = live_of live (option_map (λ name. name.now) image) in (bytes : List ℕ) (now : K)
+        → IsPrompt E.gives E.fires E.counts (runs it) bytes (K.written out.old) (K.written now) → S.may_ask script.old bytes now }
+    ensures served { IfSome (S.left script.old) (λ bytes. IsServed E.gives E.fires E.counts (runs (live_of live (option_map (λ name. name.now) image.entry))) bytes
         (K.written out.old) (K.written out.new) (T.files store.old) (T.files store.new) result) }
     ensures answers { (result ≤ 1) ⊎ ((5 ≤ result) × (result ≤ 9)) ⊎ (result ≡ 11) }
 {
     match lives(alloc, &live.program) {
-        Ok(lives) => run_by::<E, T, S, K>(alloc, live, lives, store, script, out),
+        Ok(lives) => run_by::<E, T, S, K>(alloc, live, lives, image, store, script, out),
         Err(_) => 7,
     }
 }

@@ -1,14 +1,15 @@
-ghost use Rattle.std.specs.Prelude.{◌≡◌, ◌⊎◌, ◌≤◌, ℕ, List, Some, None, IfSome};
+ghost use Rattle.std.specs.Prelude.{◌≡◌, ◌⊎◌, ◌≤◌, ℕ, List, Some, None, IfSome, option_map};
 ghost use Rattle.fx_io.specs.Outside.{append};
 ghost use Rattle.command_words.specs.Desk.{HasLimit, desk_by};
 ghost use Rattle.replay.specs.Wanted.{Files};
 ghost use Rattle.desk.specs.Report.{IsPrompt, IsServed, usage};
 ghost use Rattle.desk.specs.Wanted.{wanted, wanted_by};
 
-use crate::live::{Live, lent, run};
+use crate::live::{Live, run};
 use crate::start::start;
 use command_words::{DeskAsked, desk_asked};
 use engine::Engine;
+use fx_base::Text;
 use fx_io::{Shelf, Sink, Source};
 use fx_store::Store;
 use replay::{
@@ -20,20 +21,29 @@ use std::alloc::Global;
 /// What is written where the words are refused.
 const USAGE: &[u8] = b"usage: desk [--limit N] [--image NAME] --text RULES\n";
 
+fn lent(name: &Option<Text>) -> Option<&str>
+    ensures { option_map (λ it. it.now) result ≡ name.now }
+{
+    match name {
+        Some(name) => Some(name.as_str()),
+        None => None,
+    }
+}
+
 // Does what the words ask for.
 fn serve<E: Engine, F: Shelf, T: Store, S: Source<K>, K: Sink>(
     alloc: Global,
-    asked: DeskAsked,
+    asked: &DeskAsked,
     shelf: &mut F,
     store: &mut T,
     script: &mut S,
     out: &mut K,
 ) -> u8
     requires prompt { (bytes : List ℕ) (now : K)
-        → ((files : Files) → F.files shelf.old ≡ Some files → IsPrompt E.gives E.fires E.counts (wanted_by (Some asked) files) bytes (K.written out.old) (K.written now))
+        → ((files : Files) → F.files shelf.old ≡ Some files → IsPrompt E.gives E.fires E.counts (wanted_by (Some asked.now) files) bytes (K.written out.old) (K.written now))
         → S.may_ask script.old bytes now }
     ensures served { (files : Files) (bytes : List ℕ) → F.files shelf.old ≡ Some files → S.left script.old ≡ Some bytes
-        → IsServed E.gives E.fires E.counts (wanted_by (Some asked) files) bytes (K.written out.old) (K.written out.new) (T.files store.old) (T.files store.new) result }
+        → IsServed E.gives E.fires E.counts (wanted_by (Some asked.now) files) bytes (K.written out.old) (K.written out.new) (T.files store.old) (T.files store.new) result }
     ensures answers { (result ≤ 1) ⊎ (result ≡ 3) ⊎ ((5 ≤ result) × (result ≤ 9)) ⊎ (result ≡ 11) }
 {
     let file = match read_whole(alloc, shelf, asked.rules.as_str(), FILE_MAX + 1) {
@@ -56,14 +66,12 @@ fn serve<E: Engine, F: Shelf, T: Store, S: Source<K>, K: Sink>(
         Err(CheckpointFault::ReadFault) => return 5,
         Err(CheckpointFault::NoMemory) => return 7,
     };
-    let DeskAsked { each, image, .. } = asked;
     let live = Live {
         program,
         beginning,
-        each,
-        image,
+        each: asked.each,
     };
-    run::<E, T, S, K>(alloc, live, store, script, out)
+    run::<E, T, S, K>(alloc, live, lent(&asked.image), store, script, out)
 }
 
 /// Does all that the program `desk` does for the words behind its own name, with an engine of this type, and answers the status.
@@ -97,7 +105,7 @@ pub fn desk<E: Engine, F: Shelf, T: Store, S: Source<K>, K: Sink>(
     ensures answers { (result ≤ 3) ⊎ ((5 ≤ result) × (result ≤ 9)) ⊎ (result ≡ 11) }
 {
     match desk_asked(alloc, words) {
-        Ok(Some(asked)) => serve::<E, F, T, S, K>(alloc, asked, shelf, store, script, out),
+        Ok(Some(asked)) => serve::<E, F, T, S, K>(alloc, &asked, shelf, store, script, out),
         Ok(None) => say(out, USAGE, 2),
         Err(_) => 7,
     }

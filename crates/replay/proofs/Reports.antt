@@ -82,7 +82,7 @@ unfolding parsed parsed_by rules_shown
 rules_by false file e = ap rules_shown (take_all (file_limit + 1) file (short_file file_limit (length file) e))
 rules_by true file e = rw (long_taken file_limit file e, e) refl
 
-rules_in_read : (o : Option (List ℕ)) (read : List ℕ) → (o ≢ None) → IfSome o (λ file. read ≡ take (file_limit + 1) file) → wanted_rules o ≡ rules_shown read
+pub rules_in_read : (o : Option (List ℕ)) (read : List ℕ) → (o ≢ None) → IfSome o (λ file. read ≡ take (file_limit + 1) file) → wanted_rules o ≡ rules_shown read
 rules_in_read None read found h = absurd (found refl)
 rules_in_read (Some file) read found h = sym (ap rules_shown h ∙ rules_by (nat_lt file_limit (length file)) file refl)
 

@@ -38,9 +38,9 @@ impl From<NoMemory> for CheckpointFault {
     }
 }
 
-/// The image of these bytes, of rules with this text.
+// The image of these bytes, of rules with this text.
 #[tactic(auto, unfolding(crate::specs::Checkpoints::checkpoint_of))]
-pub fn image_of(alloc: Global, rules: &[u8], bytes: &[u8]) -> Result<Image, CheckpointFault>
+fn image_of(alloc: Global, rules: &[u8], bytes: &[u8]) -> Result<Image, CheckpointFault>
     ensures found { IfOk result (λ image. checkpoint_of rules.now bytes.now ≡ has_image image) }
     ensures refused { IfErr result (TellsCheckpointFault (checkpoint_of rules.now bytes.now)) }
     ensures read { IsErrOf result CheckpointFault.ReadFault → ⊥ }
@@ -61,8 +61,8 @@ pub fn image_of(alloc: Global, rules: &[u8], bytes: &[u8]) -> Result<Image, Chec
     }
 }
 
-// The image in the file of this name, of rules with this text.
-fn read_image<F: Shelf>(
+/// The image in the file of this name, of rules with this text.
+pub fn read_image<F: Shelf>(
     alloc: Global,
     shelf: &mut F,
     name: &str,

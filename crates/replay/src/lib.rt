@@ -21,7 +21,7 @@ mod summing;
 mod top;
 
 pub use beginning::Beginning;
-pub use checkpoint_file::{CheckpointFault, IMAGE_MAX, image_of};
+pub use checkpoint_file::{CheckpointFault, IMAGE_MAX, read_image};
 pub use refusal::{Refusal, RefusalCode, whole_file};
 pub use refused_checkpoint::{CheckpointCode, refuse_checkpoint};
 pub use rule_file::{FileFault, Reading, read_rules, read_whole};

@@ -1,0 +1,5 @@
+pub mod Starts
+pub mod Fronts
+pub mod Living
+pub mod Wanting
+pub mod Said
