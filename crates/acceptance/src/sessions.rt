@@ -11,7 +11,7 @@ use std::test::Fail;
 
 /// A session over these rules, which are accepted.
 fn opened(alloc: Global, rules: &str) -> Result<Session, NoMemory>
-    ensures { IfOk result (λ s. s.state.next_tag ≡ 1) }
+    ensures { IfOk result (λ s. s.state.value.next_tag ≡ 1) }
 {
     match program(alloc, rules) {
         Some(program) => {
