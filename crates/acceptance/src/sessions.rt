@@ -1,6 +1,7 @@
 ghost use Rattle.std.specs.Prelude.{◌≡◌, IfOk};
 
 use crate::programs::program;
+use checkpoint::{RunPart, encode};
 use expiry_infer::lives as inferred;
 use fx_base::{NoMemory, Seq, Text};
 use rule_model::LifeTable;
@@ -11,7 +12,7 @@ use std::test::Fail;
 
 /// A session over these rules, which are accepted.
 fn opened(alloc: Global, rules: &str) -> Result<Session, NoMemory>
-    ensures { IfOk result (λ s. s.state.next_tag ≡ 1) }
+    ensures { IfOk result (λ s. s.state.value.next_tag ≡ 1) }
 {
     match program(alloc, rules) {
         Some(program) => {
@@ -51,6 +52,29 @@ fn an_engine_has_a_clock(rt: HostRuntime) -> Result<(), Fail> {
     let (session, lines) = session.apply(rt.alloc(), &Change::Advance(5))?;
     assert!(rt; lines.as_slice().is_empty() && !session.due());
     assert_eq!(rt; session.clock(), 5);
+    Ok(())
+}
+
+/// What an image says of a run that has just begun.
+fn first_part(alloc: Global) -> RunPart {
+    RunPart {
+        rules: Seq::from_vec(Vec::new(alloc)),
+        lines: 0,
+        firings: 0,
+        faulty: false,
+    }
+}
+
+#[test]
+fn an_engine_tells_what_it_would_save(rt: HostRuntime) -> Result<(), Fail> {
+    let alloc = rt.alloc();
+    let session = opened(alloc, ITEM)?;
+    let (session, _) = session.apply(alloc, &item(alloc, 11)?)?;
+    assert_eq!(rt; session.tags_given(), 1);
+    let image = session.image(alloc, first_part(alloc))?;
+    let told = encode(alloc, &image)?;
+    let saved = session.save(alloc, first_part(alloc))?;
+    assert!(rt; told.as_slice() == encode(alloc, &saved)?.as_slice());
     Ok(())
 }
 

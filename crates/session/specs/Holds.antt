@@ -16,10 +16,10 @@ use Rattle.session.specs.Sessions.{SessionStands}
 -- Of each world for which a session stands its store has exactly what is kept, by the table that it was made with.
 abbrev pub HoldsWhatIsKept : Type 0
 HoldsWhatIsKept = (s : Session) (w : World) → Runs s.setting → SessionStands s w → (f : Fact)
-    → (map.get s.state.facts f.tag.0 ≡ Some f) ↔ IsKept s.setting.program s.setting.lives w f
+    → (map.get s.state.value.facts f.tag.0 ≡ Some f) ↔ IsKept s.setting.program s.setting.lives w f
 
 -- An event whose type has a finite life and which is past it is held only while a match names it that is still to fire.
 abbrev pub OldEventsAreNamed : Type 0
 OldEventsAreNamed = (s : Session) (w : World) → Runs s.setting → SessionStands s w → (f : Fact)
     → (n : ℤ) → slice_get s.setting.lives.lives f.ty.0 ≡ Some (Finite n) → (f.times.end +ℤ n) <ℤ w.clock
-    → map.get s.state.facts f.tag.0 ≡ Some f → (m : Match) × (has_match (pending s.setting.program w) m ≡ true) × In (name_of f) m.row.facts
+    → map.get s.state.value.facts f.tag.0 ≡ Some f → (m : Match) × (has_match (pending s.setting.program w) m ≡ true) × In (name_of f) m.row.facts

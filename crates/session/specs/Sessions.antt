@@ -4,4 +4,4 @@ use Rattle.session.specs.declared.session.Session.{Session}
 use Rattle.session_laws.specs.Standing.{Standing}
 
 abbrev pub SessionStands : Session → World → Type 0
-SessionStands s w = Standing s.setting s.memory.value s.state w
+SessionStands s w = Standing s.setting s.memory.value s.state.value w

@@ -2,6 +2,7 @@ ghost use Rattle.std.specs.Prelude.{◌≡◌, ◌≤◌, ◌^◌, length, IfOk}
 ghost use Rattle.rule_model.specs.Types.{event_types as types_of_events};
 ghost use Rattle.session_laws.specs.Counts.{AreCounts};
 
+use crate::state::State;
 use fact_store::FactStore;
 use fx_base::{NoMemory, TypeId};
 use rule_model::TypeInfo;
@@ -21,12 +22,8 @@ pub(crate) fn event_types(alloc: Global, types: &[TypeInfo]) -> Result<Vec<TypeI
     Ok(found)
 }
 
-/// For each type how many ids have a fact of it.
-pub(crate) fn counts_of(
-    alloc: Global,
-    facts: &FactStore,
-    types: &[TypeId],
-) -> Result<Vec<u64>, NoMemory>
+// For each type how many ids have a fact of it.
+fn counts_of(alloc: Global, facts: &FactStore, types: &[TypeId]) -> Result<Vec<u64>, NoMemory>
     ensures { IfOk result (λ counts. AreCounts facts.now types.now counts.items) }
 {
     let mut counts = Vec::with_capacity(alloc, types.len())?;
@@ -34,4 +31,13 @@ pub(crate) fn counts_of(
         counts.push(facts.held_of(*ty))?;
     }
     Ok(counts)
+}
+
+impl State {
+    /// For each of these types how many ids have a fact of it.
+    pub(crate) fn counts(&self, alloc: Global, types: &[TypeId]) -> Result<Vec<u64>, NoMemory>
+        ensures { IfOk result (λ counts. AreCounts self.now.facts types.now counts.items) }
+    {
+        counts_of(alloc, &self.facts, types)
+    }
 }

@@ -116,11 +116,12 @@ fn restored(alloc: Global, setting: &Setting, image: Image) -> Result<(State, Me
     Ok((state, Memory { net, retention }))
 }
 
-// This memory in a box.
-fn boxed(alloc: Global, memory: Memory) -> Result<Box<Memory>, NoMemory>
-    ensures { IfOk result (λ b. b.value ≡ memory) }
+// This state and this memory in boxes.
+fn boxed(alloc: Global, state: State, memory: Memory) -> Result<(Box<State>, Box<Memory>), NoMemory>
+    ensures state { IfOk result (λ r. r.0.value ≡ state) }
+    ensures memory { IfOk result (λ r. r.1.value ≡ memory) }
 {
-    Ok(Box::new(alloc, memory)?)
+    Ok((Box::new(alloc, state)?, Box::new(alloc, memory)?))
 }
 
 // A copy of a fact.
@@ -237,7 +238,7 @@ impl Session {
     {
         let entries = self.setting.setting().program.entries.as_slice().len();
         let Session { state, memory, .. } = self;
-        state.saved(alloc, run, entries, &memory.net)
+        Box::into_inner(state).saved(alloc, run, entries, &memory.net)
     }
 
     /// The same image. The session stays as it is; it copies the kept facts too.
@@ -263,7 +264,7 @@ impl Session {
         ensures stands { IfOk result (λ s. (w : World) → IsLawful program w → IsImageOf program lives w image → SessionStands s w) }
         ensures program { IfOk result (λ s. s.setting.program ≡ program) }
         ensures table { IfOk result (λ s. s.setting.lives ≡ lives) }
-        ensures next { IfOk result (λ s. s.state.next_tag ≡ image.next_tag) }
+        ensures next { IfOk result (λ s. s.state.value.next_tag ≡ image.next_tag) }
         ensures fits { OnOk result (Fits program lives image) }
         ensures unfit { IsErrOf result ResumeFault.Unfit → Fits program lives image → ⊥ }
     {
@@ -274,7 +275,7 @@ impl Session {
         }
         let setting = Running::new(alloc, Setting { program, lives })?;
         let (state, memory) = restored(alloc, setting.setting(), image)?;
-        let memory = boxed(alloc, memory)?;
+        let (state, memory) = boxed(alloc, state, memory)?;
         Ok(Session {
             setting,
             state,

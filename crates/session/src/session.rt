@@ -2,7 +2,7 @@ ghost use Rattle.std.specs.Prelude.{◌≡◌, ◌+◌, ◌-◌, ◌≤◌, ◌^
 ghost use Rattle.rule_model.specs.Matches.{saliences};
 ghost use Rattle.session_laws.specs.Standing.{IsSound};
 
-use crate::counting::{counts_of, event_types};
+use crate::counting::event_types;
 use crate::refreshing::refresh;
 use crate::running::Running;
 use crate::state::State;
@@ -35,9 +35,9 @@ pub(crate) fn saliences_of(alloc: Global, rules: &[Rule]) -> Result<Vec<i64>, No
 #[derive(Drop)]
 pub struct Session {
     pub(crate) setting: Running,
-    pub(crate) state: State,
+    pub(crate) state: Box<State>,
     pub(crate) memory: Box<Memory>,
-    ghost sound: { ∥ IsSound setting.program memory.value state ∥₁ },
+    ghost sound: { ∥ IsSound setting.program memory.value state.value ∥₁ },
 }
 
 impl Session {
@@ -58,13 +58,14 @@ impl Session {
         ensures stands { IfOk result (λ s. SessionStands s empty_world) }
         ensures program { IfOk result (λ s. s.setting.program ≡ program) }
         ensures table { IfOk result (λ s. s.setting.lives ≡ lives) }
-        ensures next { IfOk result (λ s. s.state.next_tag ≡ 1) }
+        ensures next { IfOk result (λ s. s.state.value.next_tag ≡ 1) }
     {
         let saliences = saliences_of(alloc, program.rules.as_slice())?;
         let (net, first) = Rete::build(alloc, &program)?;
         let mut agenda = Agenda::new(alloc, &saliences)?;
         refresh(alloc, &mut agenda, first)?;
-        let state = State::new(alloc, agenda);
+        let kept = State::new(alloc, agenda);
+        let state = Box::new(alloc, kept)?;
         let retention = Retention::new(alloc);
         let setting = Running::new(alloc, Setting { program, lives })?;
         let memory = Box::new(alloc, Memory { net, retention })?;
@@ -77,13 +78,13 @@ impl Session {
 
     /// The lines of a change, or its fault, which leaves the world as it is.
     pub fn apply(self, alloc: Global, change: &Change) -> Result<(Session, Lines), NoMemory>
-        requires { self.state.next_tag ≤ 2 ^ 62 }
+        requires { self.state.value.next_tag ≤ 2 ^ 62 }
         ensures lines { IfOk result (λ r. (w : World) → SessionStands self w → r.1 ≡ (gives self.setting.program w change.now).0) }
         ensures next { IfOk result (λ r. (w : World) → SessionStands self w → SessionStands r.0 (gives self.setting.program w change.now).1) }
         ensures known { IfOk result (λ r. are_known self.setting.program r.1 ≡ true) }
         ensures program { IfOk result (λ r. r.0.setting.program ≡ self.setting.program) }
         ensures table { IfOk result (λ r. r.0.setting.lives ≡ self.setting.lives) }
-        ensures tags { IfOk result (λ r. r.0.state.next_tag ≤ self.state.next_tag + 1) }
+        ensures tags { IfOk result (λ r. r.0.state.value.next_tag ≤ self.state.value.next_tag + 1) }
     {
         let Session {
             setting,
@@ -92,8 +93,9 @@ impl Session {
         } = self;
         let mut lines = Vec::new(alloc);
         let inside = setting.setting();
-        let asked = asked_step(alloc, &inside.program, &state, change)?;
-        state.apply(alloc, inside, &mut *memory, asked, &mut lines)?;
+        let kept = &mut *state;
+        let asked = asked_step(alloc, &inside.program, &*kept, change)?;
+        kept.apply(alloc, inside, &mut *memory, asked, &mut lines)?;
         Ok((
             Session {
                 setting,
@@ -107,12 +109,12 @@ impl Session {
     /// The lines of one firing and of its actions, whose values are those of the world before it; `No` exactly where nothing is
     /// pending.
     pub fn fire_one(self, alloc: Global) -> Result<(Session, Fired), NoMemory>
-        requires { self.state.next_tag ≤ 2 ^ 62 }
+        requires { self.state.value.next_tag ≤ 2 ^ 62 }
         ensures answers { IfOk result (λ r. (w : World) → SessionStands self w → FiringAnswers (fires self.setting.program w) r.1 w (SessionStands r.0)) }
         ensures known { IfOk result (λ r. is_known_firing self.setting.program r.1 ≡ true) }
         ensures program { IfOk result (λ r. r.0.setting.program ≡ self.setting.program) }
         ensures table { IfOk result (λ r. r.0.setting.lives ≡ self.setting.lives) }
-        ensures tags { IfOk result (λ r. r.0.state.next_tag ≤ self.state.next_tag + 16) }
+        ensures tags { IfOk result (λ r. r.0.state.value.next_tag ≤ self.state.value.next_tag + 16) }
     {
         let Session {
             setting,
@@ -123,7 +125,8 @@ impl Session {
         match state.plan(alloc, &inside.program)? {
             Some(plan) => {
                 let mut lines = Vec::new(alloc);
-                state.fire(alloc, inside, &mut *memory, plan, &mut lines)?;
+                let kept = &mut *state;
+                kept.fire(alloc, inside, &mut *memory, plan, &mut lines)?;
                 Ok((
                     Session {
                         setting,
@@ -160,7 +163,7 @@ impl Session {
 
     /// How many tags were given. Takes no memory.
     pub fn tags_given(&self) -> u64
-        ensures { result ≡ self.now.state.next_tag - 1 }
+        ensures { result ≡ self.now.state.value.next_tag - 1 }
     {
         self.state.tags_given()
     }
@@ -174,7 +177,7 @@ impl Session {
     {
         let inside = self.setting.setting();
         let types = event_types(alloc, inside.program.types.as_slice())?;
-        counts_of(alloc, &self.state.facts, types.as_slice())
+        self.state.counts(alloc, types.as_slice())
     }
 
     /// The program that the session was made with. Takes no memory.
@@ -196,7 +199,7 @@ impl Engine for Session {
 
     ghost table = { λ s. s.setting.lives };
 
-    ghost tags = { λ s. s.state.next_tag - 1 };
+    ghost tags = { λ s. s.state.value.next_tag - 1 };
 
     ghost gives = { session_gives };
 

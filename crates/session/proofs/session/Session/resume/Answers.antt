@@ -1,4 +1,5 @@
-use Rattle.session.proofs.Common.{◌≡◌, ◌∙◌, true, false, Err, ap, sym, subst, rules, merely, IsImageOf, FitsByRows, Memory, Setting, IsRestored, residual_unfit}
+use Rattle.session.proofs.Common.{◌≡◌, ◌∙◌, true, false, Err, ap, sym, subst, rules, merely, IsImageOf, FitsByRows, Contents, Memory, Setting, IsRestored}
+use Rattle.session.proofs.Common.{residual_unfit}
 use Rattle.rule_world.specs.Lawful.{IsLawful}
 use Rattle.laden_rows.specs.Laden.{AreOwners}
 use Rattle.session.proofs.session.Session.resume.Goals as goal
@@ -24,10 +25,11 @@ invariant_of-result c =
     let image = c.args.image in
     let o = c.in_ok-plain.ensures.owners in
     let is : c.setting-2.result.now ≡ record { program = c.args.program; lives = c.args.lives } = c.setting-2.ensures.same ∙ c.in_ok-setting.ensures in
-    let r : IsRestored c.in_ok-setting.setting image o.0 c.in_ok-memory.memory.value c.in_ok-state.state =
-    subst (λ (n : Memory). IsRestored c.in_ok-setting.setting image o.0 n c.in_ok-state.state) (sym c.in_ok-memory.ensures)
+    let r : IsRestored c.in_ok-setting.setting image o.0 c.in_ok-state-2.memory.value c.in_ok-state-2.state.value =
+    subst (λ (k : Contents). IsRestored c.in_ok-setting.setting image o.0 c.in_ok-state-2.memory.value k) (sym c.in_ok-state-2.ensures.state)
+    (subst (λ (n : Memory). IsRestored c.in_ok-setting.setting image o.0 n c.in_ok-state.state) (sym c.in_ok-state-2.ensures.memory)
     (subst (λ (x : Setting). IsRestored x image o.0 c.in_ok-state.memory c.in_ok-state.state) c.setting-2.ensures.same
-    (c.in_ok-state.ensures.restored o.0 (subst (λ (x : Setting). AreOwners x.program o.0) (sym is) o.1))) in
+    (c.in_ok-state.ensures.restored o.0 (subst (λ (x : Setting). AreOwners x.program o.0) (sym is) o.1)))) in
     record { sound = merely r.sound }
 
 pub returns-clause-stands : goal.returns-clause-stands
@@ -35,17 +37,18 @@ returns-clause-stands c w lawful of_world =
     let image = c.args.image in
     let o = c.in_ok-plain.ensures.owners in
     let is : c.setting-2.result.now ≡ record { program = c.args.program; lives = c.args.lives } = c.setting-2.ensures.same ∙ c.in_ok-setting.ensures in
-    let r : IsRestored c.in_ok-setting.setting image o.0 c.in_ok-memory.memory.value c.in_ok-state.state =
-    subst (λ (n : Memory). IsRestored c.in_ok-setting.setting image o.0 n c.in_ok-state.state) (sym c.in_ok-memory.ensures)
+    let r : IsRestored c.in_ok-setting.setting image o.0 c.in_ok-state-2.memory.value c.in_ok-state-2.state.value =
+    subst (λ (k : Contents). IsRestored c.in_ok-setting.setting image o.0 c.in_ok-state-2.memory.value k) (sym c.in_ok-state-2.ensures.state)
+    (subst (λ (n : Memory). IsRestored c.in_ok-setting.setting image o.0 n c.in_ok-state.state) (sym c.in_ok-state-2.ensures.memory)
     (subst (λ (x : Setting). IsRestored x image o.0 c.in_ok-state.memory c.in_ok-state.state) c.setting-2.ensures.same
-    (c.in_ok-state.ensures.restored o.0 (subst (λ (x : Setting). AreOwners x.program o.0) (sym is) o.1))) in
+    (c.in_ok-state.ensures.restored o.0 (subst (λ (x : Setting). AreOwners x.program o.0) (sym is) o.1)))) in
     r.stands w (subst (λ (x : Setting). IsLawful x.program w) (sym c.in_ok-setting.ensures) lawful) (subst (λ (x : Setting). IsImageOf x.program x.lives w image) (sym c.in_ok-setting.ensures) of_world)
 
 pub returns-clause-next : goal.returns-clause-next
 returns-clause-next c =
     let o = c.in_ok-plain.ensures.owners in
     let is : c.setting-2.result.now ≡ record { program = c.args.program; lives = c.args.lives } = c.setting-2.ensures.same ∙ c.in_ok-setting.ensures in
-    (c.in_ok-state.ensures.restored o.0 (subst (λ (x : Setting). AreOwners x.program o.0) (sym is) o.1)).next
+    ap (λ (k : Contents). k.next_tag) c.in_ok-state-2.ensures.state ∙ (c.in_ok-state.ensures.restored o.0 (subst (λ (x : Setting). AreOwners x.program o.0) (sym is) o.1)).next
 
 pub returns-clause-fits : goal.returns-clause-fits
 returns-clause-fits c =
