@@ -45,7 +45,8 @@ FILES: dict[str, tuple[int, Callable[[int], str]]] = {
     "exists": (70_000, lambda n: conditions("exists( A() ) ", n)),
     "nots": (90_000, lambda n: conditions("not( A() ) ", n)),
     "chain": (16_000, lambda n: types(T0="x") + many(n - 1, lambda i: f"declare T{i + 1} extends T{i} end\n")),
-    "alternatives": (6_000, lambda n: types(A="x") + types(B="x") + many(n, lambda i: rule(f"r{i}", 8 * "( A() or B() ) "))),
+    "alternatives": (6_000, lambda n: types(A="x", B="x")
+                     + many(n, lambda i: rule(f"r{i}", 8 * "( A() or B() ) "))),
     "subtypes": (4_000, lambda n: types(U="x") + many(255, lambda i: f"declare T{i} extends U end\n")
                  + many(n, lambda i: rule(f"r{i}", "U()"))),
 }
