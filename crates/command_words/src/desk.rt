@@ -1,5 +1,5 @@
 ghost use Rattle.std.specs.Prelude.{◌≡◌, option_map, IfOk, IfSome};
-ghost use Rattle.clap.specs.Words.{found_of, first_of, rows_of};
+ghost use Rattle.clap.specs.Words.{found_of, rows_of};
 ghost use Rattle.command_words.specs.Desk.{HasLimit, asks_desk, desk_by, desk_rows, is_set};
 
 use crate::command::{desk_command, parse};
@@ -64,7 +64,12 @@ fn asked_of(alloc: Global, matches: &ArgMatches) -> Result<Option<DeskAsked>, No
         return Ok(None);
     }
     let each = limit_of(given_or(matches, "limit", LIMIT_DEFAULT));
-    asks(alloc, each, given(matches, "image"), given(matches, "rules"))
+    asks(
+        alloc,
+        each,
+        given(matches, "image"),
+        given(matches, "rules"),
+    )
 }
 
 /// What the words behind the own name of the program `desk` ask for, or nothing where they are refused.

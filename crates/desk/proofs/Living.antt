@@ -1,5 +1,5 @@
 -- What a live run does, from what its parts do.
-use Rattle.std.proofs.Common.{◌≡◌, ◌⊎◌, inl, inr, ◌≤◌, ◌++◌, ℕ, List, [], Option, Some, None, refl, sym, ap, ◌∙◌, arith}
+use Rattle.std.proofs.Common.{◌≡◌, ◌⊎◌, inl, inr, ◌≤◌, ℕ, List, [], Option, Some, None, refl, ap, ◌∙◌, arith}
 use Rattle.std.specs.Prelude.{IfSome}
 use Rattle.fx_io.specs.Outside.{append, AppendsFront}
 use Rattle.fx_io.specs.Lines.{lines_of}
@@ -11,7 +11,7 @@ use Rattle.line_run.specs.declared.fault.RunFault.{RunFault}
 use Rattle.line_run.specs.declared.fault.RunFault.TheVariants.{ReadFault, WriteFault, NoMemory, ScriptLong}
 use Rattle.line_run.specs.declared.turn.Progress.{Progress}
 use Rattle.line_run.specs.Parts.{run_part_at}
-use Rattle.line_run.specs.Run.{Outcome, RunState}
+use Rattle.line_run.specs.Run.{RunState}
 use Rattle.line_run.specs.Turns.{ReachesWorld, ended_as}
 use Rattle.script_run.specs.Firings.{Gives, Fires, Counts}
 use Rattle.script_run.specs.Live.{most_firings}
@@ -22,7 +22,7 @@ use Rattle.replay.specs.Checkpoints.{checkpoint_text}
 use Rattle.replay.specs.Report.{fault_status, run_status}
 use Rattle.replay.specs.Wanted.{Files}
 use Rattle.desk.specs.Keeping.{IsPutFor, status_of_part}
-use Rattle.desk.specs.Report.{IsDone, IsKept, IsRefused, LivesBy, live_run}
+use Rattle.desk.specs.Report.{IsKept, LivesBy, live_run}
 use Rattle.desk.specs.Wanted.{Live}
 use Rattle.desk.proofs.Fronts.{front_before, front_behind}
 
@@ -80,16 +80,22 @@ pub ended : {T : Type 0} (stands : T → World → Type 0) (gives : Gives) (fire
     → IfSome told (λ bytes. LivesBy gives fires counts it table bytes before after files files' status)
 ended stands gives fires counts it table before middle after files files' first engine at run None text status is begins can ran run-is put refused stays front answers = tt
 ended stands gives fires counts it table before middle after files files' first engine at run (Some bytes) text status is begins can ran run-is put refused stays front answers = record {
-  done = λ low. (can, λ w b.
-      let o = ran w (begins w b) in
-      let p = put low in
-      let fault : run.faulty ≡ at.faulted = ap (λ (r : RunPart). r.faulty) run-is in (
-        p.1 ∙ is ∙ ap (append before) o.0,
-        p.0 ∙ ap status_of_part fault ∙ ap run_status o.1,
-        kept_of stands it table files files' engine run at run-is _ o.2 p.2,
-      ));
-  front = λ low high. let f = front low high in (f.0, λ can w b.
-      front_behind before middle after _ (checkpoint_text f.0) (is ∙ ap (append before) (ran w (begins w b)).0) f.1);
+  done = λ low. (
+    can,
+    λ w b.
+        let o = ran w (begins w b) in
+        let p = put low in
+        let fault : run.faulty ≡ at.faulted = ap (λ (r : RunPart). r.faulty) run-is in (
+          p.1 ∙ is ∙ ap (append before) o.0,
+          p.0 ∙ ap status_of_part fault ∙ ap run_status o.1,
+          kept_of stands it table files files' engine run at run-is _ o.2 p.2,
+        ),
+  );
+  front = λ low high. let f = front low high in (
+    f.0,
+    λ can w b.
+        front_behind before middle after _ (checkpoint_text f.0) (is ∙ ap (append before) (ran w (begins w b)).0) f.1,
+  );
   refused = λ nine. let r = refused nine in
       (r.0, text, r.1 ∙ ap (λ (z : Option (List ℕ)). append z (checkpoint_text r.0)) is ∙ append-append before text (checkpoint_text r.0), inr (λ w b. (ran w (begins w b)).0));
   used_up = λ e. absurd (grind (arith, e, answers));

@@ -1,5 +1,5 @@
 -- What is said where no run is wanted, or none begins.
-use Rattle.std.proofs.Common.{◌≡◌, ◌⊎◌, inl, inr, ◌≤◌, ℕ, List, [], Option, refl, sym, arith}
+use Rattle.std.proofs.Common.{◌≡◌, ◌⊎◌, inl, inr, ◌≤◌, ℕ, List, Option, refl, sym, arith}
 use Rattle.fx_io.specs.Outside.{append, AppendsFront}
 use Rattle.line_run.proofs.Ahead.{append_nothing}
 use Rattle.script_run.specs.Firings.{Gives, Fires, Counts}

@@ -12,7 +12,7 @@ use Rattle.replay.specs.Checkpoints.{rules_shown}
 use Rattle.replay.specs.Refusals.{IsRefusedReading, reading, whole_file}
 use Rattle.replay.specs.Wanted.{Files}
 use Rattle.replay.proofs.Reports.{rules_in_read, within_taken}
-use Rattle.desk.specs.Wanted.{Start, start, refuses, wanted_by, wanted_by_file, wanted_by_reading, wanted_from}
+use Rattle.desk.specs.Wanted.{start, refuses, wanted_by, wanted_by_file, wanted_by_reading, wanted_from}
 
 pub missing_file : (asked : DeskAsked) (told : Option Files) (files : Files) → told ≡ Some files → IsMissing told asked.rules → wanted_by (Some asked) files ≡ refuses (whole_file Missing)
 missing_file asked told files e gone = let none : files asked.rules ≡ None = rw e at gone in ap (wanted_by_file asked files) none

@@ -1,6 +1,6 @@
-ghost use Rattle.std.specs.Prelude.{◌≡◌, ◌⊎◌, ◌≤◌, ℕ, List, Some, None, IfSome, option_map};
+ghost use Rattle.std.specs.Prelude.{◌≡◌, ◌⊎◌, ◌≤◌, ℕ, List, Some, None, option_map};
 ghost use Rattle.fx_io.specs.Outside.{append};
-ghost use Rattle.command_words.specs.Desk.{HasLimit, desk_by};
+ghost use Rattle.command_words.specs.Desk.{desk_by};
 ghost use Rattle.replay.specs.Wanted.{Files};
 ghost use Rattle.desk.specs.Report.{IsPrompt, IsServed, usage};
 ghost use Rattle.desk.specs.Wanted.{wanted, wanted_by};

@@ -1,4 +1,4 @@
-ghost use Rattle.std.specs.Prelude.{◌≡◌, ◌<◌, ◌≤◌, ℕ, List, Option, OnOk, OnErr, IsErrOf};
+ghost use Rattle.std.specs.Prelude.{◌<◌, ◌≤◌, ℕ, List, Option, OnOk, OnErr, IsErrOf};
 ghost use Rattle.fx_io.specs.Outside.{Rose};
 ghost use Rattle.fx_store.specs.Puts.{IsPut, IsOldOrNew};
 

@@ -1,5 +1,5 @@
 -- What the loop over the lines does in a turn.
-use Rattle.std.specs.Prelude.{◌≡◌, ◌≢◌, ◌<◌, ◌≤◌, ◌+◌, ℕ, ◌++◌, Bool, List, [], length, take, drop, Option, Some, None, Result, Ok, Err, IfSome}
+use Rattle.std.specs.Prelude.{◌≡◌, ◌<◌, ◌≤◌, ◌+◌, ℕ, ◌++◌, List, [], length, take, drop, Option, Some, None, Result, Ok, Err, IfSome}
 use Rattle.fx_io.specs.Outside.{append}
 use Rattle.fx_io.specs.Lines.{with_line}
 use Rattle.fx_io.specs.declared.line.Line.{Line}

@@ -1,5 +1,5 @@
 ghost use Rattle.std.specs.Prelude.{◌≡◌, ◌≤◌, [], true, OnOk, OnErr};
-ghost use Rattle.fx_io.specs.Outside.{Rose, append, AppendsFront};
+ghost use Rattle.fx_io.specs.Outside.{Rose, AppendsFront};
 ghost use Rattle.line_run.specs.Prompt.{said};
 ghost use Rattle.line_run.specs.Turns.{Flushes};
 

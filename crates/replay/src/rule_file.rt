@@ -248,11 +248,7 @@ fn shown_text(alloc: Global, file: &Written, shows: bool) -> Result<Vec<u8>, NoM
 
 /// What the bytes of a rule file are, and the text of the rules of one that is accepted, where that is to be shown. They are read once.
 #[tactic(auto, unfolding(crate::specs::Checkpoints::rules_shown))]
-pub fn read_rules(
-    alloc: Global,
-    bytes: &[u8],
-    shows: bool,
-) -> Result<(Reading, Vec<u8>), NoMemory>
+pub fn read_rules(alloc: Global, bytes: &[u8], shows: bool) -> Result<(Reading, Vec<u8>), NoMemory>
     ensures reading { IfOk result (λ read. read.0 ≡ reading bytes.now) }
     ensures sound { IfOk result (λ read. IsSoundReading read.0) }
     ensures text { shows ≡ true → IfOk result (λ read. (IsRefusedReading read.0 → ⊥) → read.1.items ≡ rules_shown bytes.now) }

@@ -1,5 +1,5 @@
 -- The step of a line, by what the line is, and the line that closes it.
-use Rattle.script_run.proofs.Common.{◌≡◌, ℕ, ◌<◌, ◌++◌, true, List, [], ◌∷◌, length, Option, Some, None, refl, sym, ap, ◌∙◌, append_assoc, subst, World, Goes, Stops, fault_text}
+use Rattle.script_run.proofs.Common.{◌≡◌, ℕ, ◌<◌, ◌++◌, true, List, length, Option, refl, sym, ap, ◌∙◌, append_assoc, subst, World, Goes, Stops, fault_text}
 use Rattle.script_run.proofs.Common.{RunSetting, LineEffect, goes_on, stops, fault_step, Does}
 use Rattle.std.proofs.lemmas.Bool.{lt-ltb}
 use Rattle.line_run.specs.declared.turn.Turn.{Turn}

@@ -1,5 +1,5 @@
 -- The run of a script over a program by an engine of these meanings: what its lines print, and how it ends.
-use Rattle.std.specs.Prelude.{ℕ, ◌+◌, ◌++◌, ◌&&◌, Bool, true, false, List, [], ◌∷◌, length, nat_lt, Option, Some, None, is_some, if◌then◌else◌}
+use Rattle.std.specs.Prelude.{ℕ, ◌+◌, ◌++◌, ◌&&◌, Bool, true, false, List, [], length, nat_lt, Option, Some, None, is_some, if◌then◌else◌}
 use Rattle.rule_model.specs.declared.life.LifeTable.{LifeTable}
 use Rattle.rule_model.specs.declared.program.Program.{Program}
 use Rattle.rule_world.specs.Worlds.{World, empty_world}

@@ -1,4 +1,4 @@
-ghost use Rattle.std.specs.Prelude.{◌≡◌, ◌+◌, ◌*◌, ◌<◌, ◌≤◌, ◌^◌, ℕ, List, Option, length, IfOk, OnOk};
+ghost use Rattle.std.specs.Prelude.{◌≡◌, ◌+◌, ◌*◌, ◌<◌, ◌≤◌, ◌^◌, Option, length, IfOk, OnOk};
 ghost use Rattle.rule_world.specs.Worlds.{World};
 ghost use Rattle.line_run.specs.Turns.{Does};
 ghost use Rattle.script_run.specs.Run.{command_step, printed, setting_with, step_in, told_step};

@@ -1,4 +1,4 @@
-ghost use Rattle.std.specs.Prelude.{◌≡◌, ◌+◌, ◌*◌, ◌<◌, ◌≤◌, ◌^◌, [], length, List, ℕ, true, IfOk, IfSome, OnErr, IsErrOf};
+ghost use Rattle.std.specs.Prelude.{◌≡◌, ◌+◌, ◌<◌, ◌≤◌, ◌^◌, [], length, List, ℕ, true, IfOk, IfSome, OnErr, IsErrOf};
 ghost use Rattle.fx_io.specs.Outside.{Rose, append, AppendsFront, count_after};
 ghost use Rattle.fx_io.specs.Lines.{lines_of};
 ghost use Rattle.rule_lives.specs.Keeping.{IsSafeTable};

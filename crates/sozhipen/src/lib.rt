@@ -3,8 +3,6 @@
 
 mod desk_call;
 
-pub use desk_call::desk;
-
 ghost use Rattle.std.specs.Prelude.{◌≡◌, ◌⊎◌, ◌<◌, ◌≤◌, ◌^◌, [], List, ℕ, length, Some, None, IfSome};
 ghost use Rattle.fx_io.specs.Outside.{Rose, append, count_after};
 ghost use Rattle.command_words.specs.declared.asking.Asked.{Asked};
@@ -17,6 +15,7 @@ ghost use Rattle.replay.specs.Wanted.{Files, wanted, IfRefuses, ReadsFile, RunsS
 ghost use Rattle.session_laws.specs.Counts.{held_counts};
 ghost use Rattle.session_laws.specs.Gives.{gives, fires};
 
+pub use desk_call::desk;
 use fx_io::{Shelf, Sink, Source};
 use replay::replay;
 use session::Session;

@@ -1,4 +1,4 @@
-use Rattle.command_words.proofs.Common.{◌≡◌, ◌∙◌, true, false, map, string_bytes, sym, ap, inl, inr, kind_of, matches_of, ErrorKind}
+use Rattle.command_words.proofs.Common.{◌≡◌, ◌∙◌, true, false, map, string_bytes, sym, ap, inl, inr, kind_of, ErrorKind}
 use denote.Enum.Bare.{sameb}
 use Rattle.clap.specs.Words.{app_of}
 use Rattle.clap.specs.contracts.error.kind.ErrorKind.{the_type}

@@ -1,8 +1,8 @@
-use Rattle.std.proofs.Common.{◌≡◌, ◌∙◌, Some, None, Option, ap, sym, subst, arith}
+use Rattle.std.proofs.Common.{Some, None, Option, subst, arith}
 use Rattle.command_words.specs.declared.desk.DeskAsked.{DeskAsked}
 use Rattle.desk.specs.Report.{IsPrompt, IsServed, usage}
-use Rattle.desk.specs.Wanted.{Wanted, wanted, wanted_by}
-use Rattle.desk.proofs.Said.{said, unbegun}
+use Rattle.desk.specs.Wanted.{wanted, wanted_by}
+use Rattle.desk.proofs.Said.{said}
 use Rattle.desk.proofs.serving.desk.Goals as goal
 
 pub serve-requires : goal.serve-requires

@@ -1,10 +1,10 @@
-use Rattle.std.proofs.Common.{◌≡◌, ◌∙◌, ℕ, List, Some, Err, Option, option_map, refl, ap, sym, subst, arith}
+use Rattle.std.proofs.Common.{◌≡◌, ◌∙◌, ℕ, List, Err, Option, refl, ap, sym, subst, arith}
 use Rattle.drl_parse.specs.Parsed.{file_limit}
 use Rattle.replay.specs.declared.rule_file.Reading.TheVariants.{Accepted, Refused}
-use Rattle.replay.specs.Checkpoints.{checkpoint_text, rules_shown}
-use Rattle.replay.specs.Refusals.{IsRefusedReading, reading, refusal_text}
+use Rattle.replay.specs.Checkpoints.{checkpoint_text}
+use Rattle.replay.specs.Refusals.{reading, refusal_text}
 use Rattle.desk.specs.Report.{IsPrompt, IsServed}
-use Rattle.desk.specs.Wanted.{Wanted, refuses, refuses_image, runs, start, wanted_from}
+use Rattle.desk.specs.Wanted.{Wanted, refuses, runs, start, wanted_from}
 use Rattle.desk.proofs.Said.{said, unbegun}
 use Rattle.desk.proofs.Wanting.{accepted, missing_file, read_file}
 use Rattle.desk.proofs.serving.serve.Goals as goal
@@ -63,11 +63,11 @@ run-requires-clause-prompt g c bytes now h =
     let p = c.in-Accepted.program in
     let is : reading read ≡ Accepted p = ap reading (sym c.deref.ensures.value) ∙ sym c.in-Ok-read_rules.ensures.reading ∙ c.in-Accepted.is in
     c.requires.prompt bytes now (λ files told.
-        let from = rw c.lent.ensures at (c.in-Ok-start.ensures.found files (c.read_whole.ensures.files ∙ told)) in
-        subst (λ (w : Wanted). IsPrompt g.E.Engine.gives g.E.Engine.fires g.E.Engine.counts w bytes (g.K.Sink.written c.args.out.now) (g.K.Sink.written now))
-        (sym (accepted asked _ files read c.in-Ok-read_rules.read.1.items c.in-Ok-read_rules.read.0 _ p told (rw c.as_str.ensures at c.in-Ok.ensures.found) (rw c.as_str.ensures at c.in-Ok.ensures.bytes) is
-        c.in-Accepted.is (c.in-Ok-read_rules.ensures.text refl) c.deref.ensures.value ∙ ap (wanted_from asked p) from
-        ∙ ap (λ (image : Option (List ℕ)). runs (record { each = asked.each; image = image; beginning = c.in-Ok-start.beginning; program = p })) (sym c.lent-2.ensures))) h)
+    let from = rw c.lent.ensures at (c.in-Ok-start.ensures.found files (c.read_whole.ensures.files ∙ told)) in
+    subst (λ (w : Wanted). IsPrompt g.E.Engine.gives g.E.Engine.fires g.E.Engine.counts w bytes (g.K.Sink.written c.args.out.now) (g.K.Sink.written now))
+    (sym (accepted asked _ files read c.in-Ok-read_rules.read.1.items c.in-Ok-read_rules.read.0 _ p told (rw c.as_str.ensures at c.in-Ok.ensures.found) (rw c.as_str.ensures at c.in-Ok.ensures.bytes) is
+    c.in-Accepted.is (c.in-Ok-read_rules.ensures.text refl) c.deref.ensures.value ∙ ap (wanted_from asked p) from
+    ∙ ap (λ (image : Option (List ℕ)). runs (record { each = asked.each; image = image; beginning = c.in-Ok-start.beginning; program = p })) (sym c.lent-2.ensures))) h)
 
 pub returns-clause-served : goal.returns-clause-served
 unfolding file_limit

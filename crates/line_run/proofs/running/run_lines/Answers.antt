@@ -294,12 +294,11 @@ take-requires-clause-short g c = has_at_most 65536 c.in-Ok.line _ _ (rw c.loop-t
 pub take-requires-clause-ready : goal.take-requires-clause-ready
 take-requires-clause-ready g c =
     let inv = c.loop-text.invariant in
-    let goes_on = rw inv.total_max at c.in-Ok.ensures.goes_on in
-    (
+    let goes_on = rw inv.total_max at c.in-Ok.ensures.goes_on in (
       to_come c.args.most c.loop-text.reader.taken c.loop-text.reader.kept,
       some_to_come c.in-Ok.line _ _ goes_on
-      (λ e. last_to_come c.args.most c.loop-text.reader.taken c.next_line.new.self.taken c.loop-text.reader.kept c.next_line.ensures.taken
-      (rw inv.total_max at (c.next_line.ensures.ended (c.in-Ok.is ∙ ap Ok e)))),
+          (λ e. last_to_come c.args.most c.loop-text.reader.taken c.next_line.new.self.taken c.loop-text.reader.kept c.next_line.ensures.taken
+          (rw inv.total_max at (c.next_line.ensures.ended (c.in-Ok.is ∙ ap Ok e)))),
       inv.ready,
     )
 

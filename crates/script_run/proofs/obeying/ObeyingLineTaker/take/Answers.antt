@@ -1,5 +1,5 @@
-use Rattle.script_run.proofs.Common.{◌+◌, RunSetting}
-use Rattle.script_run.specs.Run.{setting_with, told_step}
+use Rattle.script_run.proofs.Common.{◌+◌}
+use Rattle.script_run.specs.Run.{setting_with}
 use Rattle.script_run.proofs.Steps.{closes, long_step}
 use Rattle.script_run.proofs.obeying.ObeyingLineTaker.take.Goals as goal
 
