@@ -1,13 +1,14 @@
 """Holds a program `desk` against the reference, on random rule files and scripts.
 
-    tools/run reference.comparers.desk PROGRAM [--seeds A B] [--lives | --share] [--folder FOLDER] [--keep-going]
-        [--seconds N]
+    tools/run reference.comparers.desk PROGRAM [--seeds A B] [--lives | --share] [--text] [--folder FOLDER]
+        [--keep-going] [--seconds N]
 
 Among the lines of each script stand such as only a desk knows: facts, counts, and saves. The script is cut at random
 lines, and each part is a run of its own that goes on from the image of the one before. With `--text` the program gets a
 part at once; without it one line after the other, and not before it has closed the answer to the last one. Output,
-status and image of each part have to be those of the reference, byte for byte. The files of the first difference are
-left in the folder. The status is 0 where all was as it has to be, 1 where it was not.
+status and image of each part have to be those of the reference, byte for byte. With `--text` here the program answers
+in text alone, in both ways, and knows no lines but those of `replay`. The files of the first difference are left in the
+folder. The status is 0 where all was as it has to be, 1 where it was not.
 """
 
 from __future__ import annotations
@@ -38,7 +39,7 @@ from .compare import absolute, first_difference
 MOST_PARTS = 3
 LIMITS = [1, 2, 5, 30]
 # The end of an answer that is closed.
-CLOSED = re.compile(rb'(?:^|\n){"done":[^\n]*\n\Z')
+CLOSED = re.compile(rb'(?:^|\n)(?:{"done":[^\n]*|done [0-9]+)\n\Z')
 ODD_LINES = [b'{"do":"save","now":1}', b'{"do":"facts","type":1}', b'{"do":"counts","type":"T0"}',
              b'{"do":"facts","type":"Nope"}', b'{"do":"facts","type":null}', b'{"do":"Save"}']
 
@@ -54,12 +55,13 @@ class Answer:
 @dataclass(frozen=True)
 class Asked:
     """The parts of a script, each for a run of its own; the limit, None where the words give none; whether the words
-    name a file for the image, and ask for text."""
+    name a file for the image, and ask for text; whether the program gets a line after the other."""
     case: Case
     parts: list[bytes]
     limit: Optional[int]
     has_image: bool
     as_text: bool
+    waits: bool
 
     @property
     def words(self) -> list[str]:
@@ -82,18 +84,19 @@ def with_desk_lines(rng: Random, lines: list[bytes], program: Program) -> list[b
     return [it for line in lines for it in [line, *([desk_line(rng, program)] if rng.random() < 0.3 else [])]]
 
 
-def asked_of(case: Case, seed: int, as_text: bool) -> Asked:
-    """What a seed's case asks a desk. Without a file for the image there is one part."""
+def asked_of(case: Case, seed: int, as_text: bool, waits: bool, text_alone: bool) -> Asked:
+    """What a seed's case asks a desk, perhaps one that answers in text alone. Without an image there is one part."""
     rng, program = Random(f"desk/{seed}"), program_or_refusal(case.rules)
     if isinstance(program, str):
-        return Asked(case, [case.script], case.limit, False, as_text)
-    lines, has_image = with_desk_lines(rng, lines_of(case.script), program), rng.random() < 0.8
+        return Asked(case, [case.script], case.limit, False, as_text, waits)
+    lines, has_image = lines_of(case.script), rng.random() < 0.8
+    lines = lines if text_alone else with_desk_lines(rng, lines, program)
     cuts = sorted(rng.randint(0, len(lines)) for _ in range(rng.randrange(MOST_PARTS) if has_image else 0))
     parts = [b"".join(line + b"\n" for line in lines[a:b]) for a, b in zip([0, *cuts], [*cuts, len(lines)])]
     if not case.script.endswith(b"\n"):
         parts[-1] = parts[-1][:-1]
     limit = case.limit if rng.random() < 0.5 else rng.choice(LIMITS)
-    return Asked(case, parts, limit, has_image, as_text)
+    return Asked(case, parts, limit, has_image, as_text, waits)
 
 
 # ---- who answers
@@ -164,7 +167,7 @@ def by_program(command: list[str], a: Asked, folder: str, seconds: float) -> Ite
     write_case(a.case, folder)
     image = os.path.join(folder, "image")
     for part in a.parts:
-        output, status = ran(command + a.words, part, folder, not a.as_text, seconds)
+        output, status = ran(command + a.words, part, folder, a.waits, seconds)
         yield Answer(output, status, read_file(image) if os.path.exists(image) else None)
 
 
@@ -212,6 +215,7 @@ def main() -> int:
     parser.add_argument("--seeds", type=int, nargs=2, default=(0, 100), metavar=("A", "B"), help="from A up to B - 1")
     parser.add_argument("--lives", action="store_true", help="files over events of finite lives")
     parser.add_argument("--share", action="store_true", help="files whose rules share conditions")
+    parser.add_argument("--text", action="store_true", help="the program answers in text alone")
     parser.add_argument("--folder", default="reference-failures", help="where the files of failing seeds are left")
     parser.add_argument("--keep-going", action="store_true", help="do not stop at the first difference")
     parser.add_argument("--seconds", type=float, default=60.0, help="the time that a run may take")
@@ -219,7 +223,7 @@ def main() -> int:
     command, counts = absolute(asked.program), Counter[str]()
     for seed in range(*asked.seeds):
         case = chosen_cases(asked.lives, asked.share)(seed)
-        both = [asked_of(case, seed, as_text) for as_text in (False, True)]
+        both = [asked_of(case, seed, asked.text or not waits, waits, asked.text) for waits in (True, False)]
         told = [(a, said) for a in both if (said := compared(command, a, asked.seconds, counts))]
         counts["differed" if told else "agreed"] += 1
         for a, said in told[:1]:
