@@ -1,5 +1,7 @@
+use desk::desk;
 use fx_base::{NoMemory, Seq, Text};
 use fx_io::{MemShelf, MemSink, MemSource};
+use fx_store::MemStore;
 use replay::{replay, run_rules};
 use session::Session;
 use std::alloc::Global;
@@ -51,12 +53,17 @@ fn a_rule_file_is_run_by_its_name(rt: HostRuntime) -> Result<(), Fail> {
     Ok(())
 }
 
-/// Whether the program prints this for these words, without a file and a script, and ends with the status 0.
-fn prints(alloc: Global, words: &[&str], printed: &[u8]) -> Result<bool, NoMemory> {
+fn texts_of(alloc: Global, words: &[&str]) -> Result<Vec<String>, NoMemory> {
     let mut texts = Vec::new(alloc);
     for word in words {
         texts.push(String::from_str(alloc, word)?)?;
     }
+    Ok(texts)
+}
+
+/// Whether the program prints this for these words, without a file and a script, and ends with the status 0.
+fn prints(alloc: Global, words: &[&str], printed: &[u8]) -> Result<bool, NoMemory> {
+    let texts = texts_of(alloc, words)?;
     let mut shelf = MemShelf::new(Vec::new(alloc), Vec::new(alloc));
     let mut script = MemSource::new(Vec::new(alloc), Vec::new(alloc));
     let mut out = MemSink::new(alloc, 1024, Vec::new(alloc))?;
@@ -68,6 +75,51 @@ fn prints(alloc: Global, words: &[&str], printed: &[u8]) -> Result<bool, NoMemor
         &mut out,
     );
     Ok(status == 0 && out.written() == printed)
+}
+
+const LIVE_PRINTED: &[u8] = b"new #1 N\n\
+    done 1\n\
+    fire \"grow\" #1\n\
+    new #2 N\n\
+    fire \"grow\" #2\n\
+    new #3 N\n\
+    fire \"grow\" #3\n\
+    new #4 N\n\
+    limit 2 3\n\
+    done 2\n";
+
+/// Whether a desk with these words over these rules and this script prints this, and ends with the status 0.
+fn desk_prints(
+    alloc: Global,
+    words: &[&str],
+    rules: &str,
+    script: &[u8],
+    printed: &[u8],
+) -> Result<bool, NoMemory> {
+    let file = (
+        Text::new(alloc, "RULES")?,
+        Seq::from_vec(rules.as_bytes().to_vec(alloc)?),
+    );
+    let mut shelf = MemShelf::new(vec![in alloc; file]?, Vec::new(alloc));
+    let mut store = MemStore::new(alloc, Vec::new(alloc), Vec::new(alloc));
+    let mut script = MemSource::new(script.to_vec(alloc)?, Vec::new(alloc));
+    let mut out = MemSink::new(alloc, 1024, Vec::new(alloc))?;
+    let status = desk::<Session, MemShelf, MemStore, MemSource, MemSink>(
+        alloc,
+        &texts_of(alloc, words)?,
+        &mut shelf,
+        &mut store,
+        &mut script,
+        &mut out,
+    );
+    Ok(status == 0 && out.written() == printed)
+}
+
+#[test]
+fn a_desk_goes_on_at_the_limit_of_a_line(rt: HostRuntime) -> Result<(), Fail> {
+    let words = ["--text", "--limit", "3", "--image", "I", "RULES"];
+    assert!(rt; desk_prints(rt.alloc(), &words, GROW, SCRIPT, LIVE_PRINTED)?);
+    Ok(())
 }
 
 /// Of a whole load, which is too long for a case of `cases` where `rt try` runs these.

@@ -3,7 +3,7 @@
 //! It knows the outside by its traits alone, so that its answer is a matter of proof.
 #![tactic(auto)]
 
-mod keeping;
+mod ending;
 mod live;
 mod serving;
 mod start;

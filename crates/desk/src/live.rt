@@ -2,11 +2,13 @@
 ghost use Rattle.std.specs.Prelude.{◌≡◌, ◌⊎◌, ◌≤◌, ℕ, List, Some, IfSome, option_map};
 ghost use Rattle.rule_lives.specs.Keeping.{AreLives, IsSafeTable};
 ghost use Rattle.rule_world.specs.Programs.{IsRunnable};
+ghost use Rattle.fx_io.specs.Outside.{Rose};
+ghost use Rattle.desk.specs.Causes.{WriteFails};
 ghost use Rattle.desk.specs.Lives.{live_of};
 ghost use Rattle.desk.specs.Report.{IsPrompt, IsServed, LivesBy};
 ghost use Rattle.desk.specs.Wanted.{runs};
 
-use crate::keeping::end;
+use crate::ending::end;
 use engine::{Engine, ResumeFault};
 use expiry_infer::lives;
 use fx_io::{Sink, Source};
@@ -43,6 +45,8 @@ fn run_by<E: Engine, T: Store, S: Source<K>, K: Sink>(
     ensures live { IfSome (S.left script.old) (λ bytes. LivesBy E.gives E.fires E.counts (live_of live (option_map (λ name. name.now) image.entry)) lives bytes
         (K.written out.old) (K.written out.new) (T.files store.old) (T.files store.new) result) }
     ensures answers { (result ≤ 1) ⊎ ((5 ≤ result) × (result ≤ 9)) ⊎ (result ≡ 11) }
+    ensures read { result ≡ 5 → Rose (S.faults script.old) (S.faults script.new) }
+    ensures write { result ≡ 6 → WriteFails (K.faults out.old) (K.faults out.new) (T.faults store.old) (T.faults store.new) }
 {
     let Live {
         program,
@@ -80,6 +84,8 @@ pub(crate) fn run<E: Engine, T: Store, S: Source<K>, K: Sink>(
     ensures served { IfSome (S.left script.old) (λ bytes. IsServed E.gives E.fires E.counts (runs (live_of live (option_map (λ name. name.now) image.entry))) bytes
         (K.written out.old) (K.written out.new) (T.files store.old) (T.files store.new) result) }
     ensures answers { (result ≤ 1) ⊎ ((5 ≤ result) × (result ≤ 9)) ⊎ (result ≡ 11) }
+    ensures read { result ≡ 5 → Rose (S.faults script.old) (S.faults script.new) }
+    ensures write { result ≡ 6 → WriteFails (K.faults out.old) (K.faults out.new) (T.faults store.old) (T.faults store.new) }
 {
     match lives(alloc, &live.program) {
         Ok(lives) => run_by::<E, T, S, K>(alloc, live, lives, image, store, script, out),

@@ -2,6 +2,8 @@ ghost use Rattle.std.specs.Prelude.{◌≡◌, ◌⊎◌, ◌≤◌, ℕ, List, 
 ghost use Rattle.fx_io.specs.Outside.{append};
 ghost use Rattle.command_words.specs.Desk.{desk_by};
 ghost use Rattle.replay.specs.Wanted.{Files};
+ghost use Rattle.command_words.specs.declared.desk.DeskAsked.{DeskAsked as AskedData};
+ghost use Rattle.desk.specs.Causes.{ReadFails, WriteFails};
 ghost use Rattle.desk.specs.Report.{IsPrompt, IsServed, usage};
 ghost use Rattle.desk.specs.Wanted.{wanted, wanted_by};
 
@@ -45,6 +47,8 @@ fn serve<E: Engine, F: Shelf, T: Store, S: Source<K>, K: Sink>(
     ensures served { (files : Files) (bytes : List ℕ) → F.files shelf.old ≡ Some files → S.left script.old ≡ Some bytes
         → IsServed E.gives E.fires E.counts (wanted_by (Some asked.now) files) bytes (K.written out.old) (K.written out.new) (T.files store.old) (T.files store.new) result }
     ensures answers { (result ≤ 1) ⊎ (result ≡ 3) ⊎ ((5 ≤ result) × (result ≤ 9)) ⊎ (result ≡ 11) }
+    ensures read { result ≡ 5 → ReadFails (F.faults shelf.old) (F.faults shelf.new) (S.faults script.old) (S.faults script.new) asked.now }
+    ensures write { result ≡ 6 → WriteFails (K.faults out.old) (K.faults out.new) (T.faults store.old) (T.faults store.new) }
 {
     let file = match read_whole(alloc, shelf, asked.rules.as_str(), FILE_MAX + 1) {
         Ok(file) => file,
@@ -103,6 +107,10 @@ pub fn desk<E: Engine, F: Shelf, T: Store, S: Source<K>, K: Sink>(
     ensures usage { result ≡ 2 → K.written out.new ≡ append (K.written out.old) usage }
     ensures words { result ≡ 2 → desk_by words.now ≡ None }
     ensures answers { (result ≤ 3) ⊎ ((5 ≤ result) × (result ≤ 9)) ⊎ (result ≡ 11) }
+
+    // The causes of the answers, of whatever shelf, store, script and sink.
+    ensures read { result ≡ 5 → (it : AskedData) × (desk_by words.now ≡ Some it) × ReadFails (F.faults shelf.old) (F.faults shelf.new) (S.faults script.old) (S.faults script.new) it }
+    ensures write { result ≡ 6 → WriteFails (K.faults out.old) (K.faults out.new) (T.faults store.old) (T.faults store.new) }
 {
     match desk_asked(alloc, words) {
         Ok(Some(asked)) => serve::<E, F, T, S, K>(alloc, &asked, shelf, store, script, out),

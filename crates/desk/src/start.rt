@@ -1,5 +1,6 @@
 //! Where a live run begins.
-ghost use Rattle.std.specs.Prelude.{◌≡◌, Err, Some, IfOk, option_map};
+ghost use Rattle.std.specs.Prelude.{◌≡◌, ℕ, List, Err, Some, IfOk, IsErrOf, option_map};
+ghost use Rattle.fx_io.specs.Outside.{Rose};
 ghost use Rattle.replay.specs.declared.refused_checkpoint.CheckpointCode.{CheckpointCode as CodeData};
 ghost use Rattle.replay.specs.Checkpoints.{checkpoint_in};
 ghost use Rattle.replay.specs.Wanted.{Files};
@@ -21,6 +22,7 @@ fn start_named<F: Shelf>(
     ensures found { IfOk result (λ beginning. (files : Files) → F.files shelf.old ≡ Some files → start_in rules.items (checkpoint_in rules.items (files name.now)) ≡ begins beginning) }
     ensures refused { (code : CodeData) → result ≡ Err (CheckpointFault.Refused code) → (files : Files) → F.files shelf.old ≡ Some files
         → start_in rules.items (checkpoint_in rules.items (files name.now)) ≡ cannot_begin code }
+    ensures failed { IsErrOf result CheckpointFault.ReadFault → Rose (F.faults shelf.old name.now) (F.faults shelf.new name.now) }
 {
     match read_image(alloc, shelf, name, &rules) {
         Ok(image) => Ok(Beginning::Behind(image)),
@@ -42,6 +44,8 @@ pub(crate) fn start<F: Shelf>(
         → start rules.items (option_map (λ name. name.now) image.entry) files ≡ begins beginning) }
     ensures refused { (code : CodeData) → result ≡ Err (CheckpointFault.Refused code) → (files : Files) → F.files shelf.old ≡ Some files
         → start rules.items (option_map (λ name. name.now) image.entry) files ≡ cannot_begin code }
+    ensures failed { IsErrOf result CheckpointFault.ReadFault → (name : List ℕ) × (option_map (λ it. it.now) image.entry ≡ Some name)
+        × Rose (F.faults shelf.old name) (F.faults shelf.new name) }
 {
     match image {
         Some(name) => start_named(alloc, rules, name, shelf),

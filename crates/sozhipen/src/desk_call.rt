@@ -2,6 +2,8 @@ ghost use Rattle.std.specs.Prelude.{◌≡◌, ◌⊎◌, ◌≤◌, List, ℕ, 
 ghost use Rattle.fx_io.specs.Outside.{append};
 ghost use Rattle.command_words.specs.Desk.{desk_by};
 ghost use Rattle.replay.specs.Wanted.{Files};
+ghost use Rattle.command_words.specs.declared.desk.DeskAsked.{DeskAsked};
+ghost use Rattle.desk.specs.Causes.{ReadFails, WriteFails};
 ghost use Rattle.desk.specs.Report.{IsPrompt, IsServed, usage};
 ghost use Rattle.desk.specs.Wanted.{wanted};
 ghost use Rattle.session_laws.specs.Counts.{held_counts};
@@ -41,6 +43,10 @@ pub fn desk<F: Shelf, T: Store, S: Source<K>, K: Sink>(
     ensures usage { result ≡ 2 → K.written out.new ≡ append (K.written out.old) usage }
     ensures words { result ≡ 2 → desk_by words.now ≡ None }
     ensures answers { (result ≤ 3) ⊎ ((5 ≤ result) × (result ≤ 9)) ⊎ (result ≡ 11) }
+
+    // The causes of the answers, of whatever shelf, store, script and sink.
+    ensures read { result ≡ 5 → (it : DeskAsked) × (desk_by words.now ≡ Some it) × ReadFails (F.faults shelf.old) (F.faults shelf.new) (S.faults script.old) (S.faults script.new) it }
+    ensures write { result ≡ 6 → WriteFails (K.faults out.old) (K.faults out.new) (T.faults store.old) (T.faults store.new) }
 {
     desk::desk::<Session, F, T, S, K>(alloc, words, shelf, store, script, out)
 }

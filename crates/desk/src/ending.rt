@@ -7,6 +7,7 @@ ghost use Rattle.image_laws.specs.Images.{IsImageOf};
 ghost use Rattle.replay.specs.declared.refused_checkpoint.CheckpointCode.{CheckpointCode as CodeData};
 ghost use Rattle.replay.specs.Checkpoints.{checkpoint_text};
 ghost use Rattle.rule_world.specs.Worlds.{World};
+ghost use Rattle.desk.specs.Causes.{WriteFails};
 ghost use Rattle.desk.specs.Keeping.{IsPutFor, Keeps, status_of_part};
 
 use checkpoint::{Image, RunPart, encode};
@@ -33,6 +34,7 @@ fn put_bytes<T: Store, K: Sink>(
     ensures stays { 8 ≤ result → T.files store.new ≡ T.files store.old }
     ensures front { 6 ≤ result → result ≤ 7 → (code : CodeData) × AppendsFront (K.written out.old) (K.written out.new) (checkpoint_text code) }
     ensures answers { (result ≡ 0) ⊎ ((6 ≤ result) × (result ≤ 7)) ⊎ (result ≡ 9) }
+    ensures cause { result ≡ 6 → WriteFails (K.faults out.old) (K.faults out.new) (T.faults store.old) (T.faults store.new) }
 {
     if bytes.len() > IMAGE_MAX {
         return refuse_checkpoint(alloc, out, CheckpointCode::TooLong);
@@ -63,6 +65,7 @@ fn keep<E: Engine, T: Store, K: Sink>(
     ensures stays { 8 ≤ result → T.files store.new ≡ T.files store.old }
     ensures front { 6 ≤ result → result ≤ 7 → (code : CodeData) × AppendsFront (K.written out.old) (K.written out.new) (checkpoint_text code) }
     ensures answers { (result ≡ 0) ⊎ ((6 ≤ result) × (result ≤ 7)) ⊎ (result ≡ 9) }
+    ensures cause { result ≡ 6 → WriteFails (K.faults out.old) (K.faults out.new) (T.faults store.old) (T.faults store.new) }
 {
     let image = match engine.save(alloc, run) {
         Ok(image) => image,
@@ -89,6 +92,7 @@ pub(crate) fn end<E: Engine, T: Store, K: Sink>(
     ensures stays { 8 ≤ result → T.files store.new ≡ T.files store.old }
     ensures front { 5 ≤ result → result ≤ 8 → (code : CodeData) × AppendsFront (K.written out.old) (K.written out.new) (checkpoint_text code) }
     ensures answers { (result ≤ 1) ⊎ ((6 ≤ result) × (result ≤ 7)) ⊎ (result ≡ 9) }
+    ensures cause { result ≡ 6 → WriteFails (K.faults out.old) (K.faults out.new) (T.faults store.old) (T.faults store.new) }
 {
     let faulty = run.faulty;
     match image {
