@@ -1,4 +1,4 @@
-"""A client of the program `replay`, to import: docs/LIVE.md says how it is used.
+"""A client of the programs `replay` and `desk`, to import: docs/LIVE.md says how it is used.
 
     from sozhipen import Session
 """
@@ -6,7 +6,8 @@
 from .answers import ClientError, Ended, Fact, Fault, Firing, NoProgram, NotKnown
 from .lines import Script
 from .ordering import Ordered
-from .session import Answer, Session, program_words
+from .programs import program_words
+from .session import Answer, Session
 from .times import date_of, milliseconds
 
 __all__ = ["Answer", "ClientError", "Ended", "Fact", "Fault", "Firing", "NoProgram", "NotKnown", "Ordered", "Script",

@@ -17,6 +17,9 @@ CELL = re.compile(r"([#=])(-?[0-9]+)")
 NEW = re.compile(r"new #([0-9]+) (\w+)")
 FAULT = re.compile(r"fault ([0-9]+) (\w+)")
 HELD = re.compile(r"held (\w+) ([0-9]+)")
+# What closes a line, and what tells the limit of a fire line: both have the number of the line.
+DONE = re.compile(r"done ([0-9]+)")
+LIMIT = re.compile(r"limit ([0-9]+) ([0-9]+)")
 
 
 @dataclass(frozen=True)

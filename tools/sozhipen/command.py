@@ -1,6 +1,6 @@
 """The client as a command: lines of a script in, JSON lines out.
 
-    python3 -m sozhipen [--program PROGRAM] [--limit N] [--resume IMAGE] RULES < SCRIPT
+    python3 -m sozhipen [--program PROGRAM] [--live] [--limit N] [--image IMAGE] RULES < SCRIPT
     {"line":4,"at":0,"fire":"dear item","facts":[{"id":2,"type":"Item","fields":{"price":250,"stock":0}}],
      "results":[],"names":{}}
 
@@ -56,6 +56,8 @@ def say_answer(answer: Answer) -> None:
             say(line=answer.line, at=answer.clock, held=answer.told_held)
         for firing in answer.told_firings:
             say_firing(firing)
+        if answer.told_limit is not None:
+            say(line=answer.line, at=answer.clock, limit=answer.told_limit)
     except BrokenPipeError:
         os._exit(NOT_WRITTEN)
 
@@ -64,8 +66,11 @@ def asked(words: list[str]) -> argparse.Namespace:
     parser = Parser(prog="client", description="Runs a script, and prints each answer as a JSON line.")
     parser.add_argument("--program",
                         help="the program; without it the built one, or the second evaluator where it is not built")
-    parser.add_argument("--limit", type=int, help="at most so many firings")
-    parser.add_argument("--resume", metavar="IMAGE", help="the image from which the program goes on")
+    parser.add_argument("--live", action="store_true", default=None,
+                        help="the program is a `desk`, as one of this name is without it")
+    parser.add_argument("--limit", type=int, help="at most so many firings; of a desk, for each fire line")
+    parser.add_argument("--image", "--resume", metavar="IMAGE",
+                        help="the image from which the program goes on; a desk leaves the next one there")
     parser.add_argument("rules", help="the rule file")
     return parser.parse_args(words)
 
@@ -73,7 +78,8 @@ def asked(words: list[str]) -> argparse.Namespace:
 def main(words: list[str]) -> int:
     options = asked(words)
     try:
-        session = Session(options.rules, options.program, options.limit, say_answer, image=options.resume)
+        session = Session(options.rules, options.program, options.limit, say_answer, image=options.image,
+                          live=options.live)
     except NoProgram as error:
         print(f"client: {error}", file=sys.stderr)
         return NOT_STARTED

@@ -21,10 +21,10 @@ from pathlib import Path
 from typing import Any, Callable, Optional, Union
 
 from sozhipen_tools.pipes import pipe
-from sozhipen_tools.places import BUILT, command_of
 
-from .answers import CELL, FAULT, FIRE, HELD, NEW, Ended, Fact, Fault, Firing, NoProgram, NotKnown, text_of
+from .answers import CELL, DONE, FAULT, FIRE, HELD, LIMIT, NEW, Ended, Fact, Fault, Firing, NoProgram, NotKnown, text_of
 from .lines import Lines, line_of
+from .programs import Program, is_desk, option_words, program_words
 from .record import Record, Target
 from .values import Actions, Book, image_of, rules_of
 
@@ -32,17 +32,6 @@ from .values import Actions, Book, image_of, rules_of
 MARK = b"x\n"
 MARKED = ("fire", "held")
 ANSWERED = ("insert", *MARKED)
-
-
-def program_words(program: Union[None, str, Path, list[str]] = None) -> list[str]:
-    """The words that start a program: the built one, the evaluator where that is not there, or the one that is
-    named."""
-    if isinstance(program, list):
-        return program
-    if program is None and not os.access(BUILT, os.X_OK):
-        return command_of("reference.live")
-    name = str(program or BUILT)
-    return [sys.executable, name] if name.endswith(".py") else [name]
 
 
 class Answer:
@@ -58,6 +47,7 @@ class Answer:
         self.told_fault: Optional[Fault] = None
         self.told_firings: list[Firing] = []
         self.told_held: dict[str, int] = {}
+        self.told_limit: Optional[int] = None
 
     @property
     def word(self) -> Optional[str]:
@@ -89,6 +79,12 @@ class Answer:
         """By type how many of its events are kept."""
         return self.wait().told_held
 
+    @property
+    def limit(self) -> Optional[int]:
+        """The limit of firings that a fire line of a `desk` met: a match is pending behind it, and waits for the next
+        fire. None where it met none: then nothing is pending, unless its `max` was reached."""
+        return self.wait().told_limit
+
 
 class Session(Lines[Answer]):
     """A program that runs over a rule file. `on_answer` is called in the reading thread with each answer that has come,
@@ -96,12 +92,17 @@ class Session(Lines[Answer]):
     each line of the caller's before the program gets it: a script that gives the same run again. With the path of an
     `image` the program goes on from it: lines count on from its last one, and its facts have their values. `faults` has
     all faults since the beginning or the image. Where an answer of `at`, `advance`, `modify` or `retract` is asked for,
-    a line after it is written that the program is known to answer."""
+    a line after it is written that the program is known to answer.
 
-    def __init__(self, rules: Union[str, Path], program: Union[None, str, Path, list[str]] = None,
-                 limit: Optional[int] = None, on_answer: Optional[Callable[[Answer], None]] = None,
-                 record: Optional[Target] = None, image: Union[None, str, Path] = None):
-        self.started_with = (rules, program, limit, on_answer, record, image)
+    With `live` the program is a `desk`, and where `live` is None its name says whether it is one. That closes each line
+    itself, and no line is written but the caller's. Its `limit` is that of each fire line, and the session goes on; the
+    `image` need not be there yet, and at the end of the session the next one is put there."""
+
+    def __init__(self, rules: Union[str, Path], program: Program = None, limit: Optional[int] = None,
+                 on_answer: Optional[Callable[[Answer], None]] = None, record: Optional[Target] = None,
+                 image: Union[None, str, Path] = None, live: Optional[bool] = None):
+        self.started_with = (rules, program, limit, on_answer, record, image, live)
+        self.live = is_desk(program_words(program)) if live is None else live
         self.rules = rules_of(Path(rules))
         self.book = Book(self.rules)
         self.on_answer = on_answer
@@ -118,9 +119,8 @@ class Session(Lines[Answer]):
         self.said = ""
         self.known_words: set[str] = set()
         self.changed, self.writing = threading.Condition(), threading.Lock()
-        options = [("--limit", limit), ("--resume", image)]
-        words = [f"{name}={value}" for name, value in options if value is not None]
-        self.process = self.started(program_words(program) + words + ["--", str(rules)])
+        options = option_words(self.live, limit, image)
+        self.process = self.started(program_words(program, self.live) + options + ["--", str(rules)])
         self.reader = threading.Thread(target=self.read, daemon=True)
         self.reader.start()
 
@@ -179,10 +179,10 @@ class Session(Lines[Answer]):
             raise ValueError("a line has a newline in it")
         with self.writing:
             answer = Answer(self, self.lines + 1, text, command, self.places + 1)
-            marked = answer.word in MARKED
+            marked = answer.word in MARKED and not self.live
             with self.changed:
                 self.lines += 1
-                self.enter(answer, answer.word == "insert")
+                self.enter(answer, self.live or answer.word == "insert")
                 if marked:
                     self.enter(None, True)
             line = text.encode("utf-8", "surrogatepass") + b"\n"
@@ -230,7 +230,7 @@ class Session(Lines[Answer]):
             status = self.process.wait()
             self.close_input()
             with self.changed:
-                if not self.said and status in (0, 1):
+                if not self.live and not self.said and status in (0, 1):
                     self.finish_quiet()
                 self.ended = Ended(status, self.said)
                 self.changed.notify_all()
@@ -238,9 +238,7 @@ class Session(Lines[Answer]):
                 self.on_answer(self.pending[0])
 
     def take(self, text: str) -> None:
-        if text.startswith(("refused ", "limit ", "usage: ")):
-            self.said = text
-        elif found := FAULT.fullmatch(text):
+        if found := FAULT.fullmatch(text):
             self.fault(int(found[1]), found[2])
         elif found := NEW.fullmatch(text):
             self.new(int(found[1]), found[2])
@@ -249,6 +247,13 @@ class Session(Lines[Answer]):
         elif found := HELD.fullmatch(text):
             if answer := self.up_to_word("held"):
                 answer.told_held[found[1]] = int(found[2])
+        elif found := LIMIT.fullmatch(text):
+            if answer := self.up_to_word("fire"):
+                answer.told_limit = int(found[2])
+        elif found := DONE.fullmatch(text):
+            self.finish_up_to(int(found[1]) + 1)
+        elif text.startswith(("refused ", "limit ", "usage: ")):
+            self.said = text
 
     def fault(self, place: int, code: str) -> None:
         self.finish_up_to(place)
@@ -259,7 +264,7 @@ class Session(Lines[Answer]):
             self.actions.fault(self.noted(Fault(head.line, code, head.text, self.actions.firing.rule)))
         else:
             head.told_fault = self.noted(Fault(head.line, code, head.text))
-            self.finish(head)
+            self.finish_single(head)
 
     def noted(self, fault: Fault) -> Fault:
         self.faults.append(fault)
@@ -272,7 +277,7 @@ class Session(Lines[Answer]):
             command = answer.command or {}
             fields, entry = command.get("fields"), command.get("entry") or "DEFAULT"
             answer.told_fact = Fact(number, type_name, fields, entry)
-            self.finish(answer)
+            self.finish_single(answer)
 
     def firing(self, name: str, cells: str) -> None:
         answer = self.up_to_word("fire")
@@ -291,7 +296,7 @@ class Session(Lines[Answer]):
         return self.pending[0] if self.pending else None
 
     def finish_up_to(self, place: int) -> None:
-        """The lines before this place of the program's script were good."""
+        """The lines before this place of the program's script have their whole answers."""
         while self.pending and self.taken + 1 < place:
             self.finish(self.pending[0])
 
@@ -299,6 +304,11 @@ class Session(Lines[Answer]):
         """The script has ended: its last lines that answer nothing were good."""
         while self.pending and self.pending[0] is not None and self.pending[0].word not in ANSWERED:
             self.finish(self.pending[0])
+
+    def finish_single(self, answer: Answer) -> None:
+        """The first pending line has an answer of one line: that is all of it, unless the program closes it."""
+        if not self.live:
+            self.finish(answer)
 
     def finish(self, answer: Optional[Answer]) -> None:
         """The first pending line, a mark where it is None, has its whole answer."""
@@ -328,15 +338,16 @@ class Session(Lines[Answer]):
             book.retract(command["id"])
         elif answer.word in ("at", "advance"):
             book.move(command["ms"] if answer.word == "at" else book.clock + command["by"])
-        elif answer.word == "fire" and "max" not in command:
+        elif answer.word == "fire" and "max" not in command and answer.told_limit is None:
             book.nothing_pending()
 
     # ---- the end
 
     def close(self) -> int:
         """Ends the script, waits for the program, and returns the status that it has for the caller's own lines, since
-        the beginning or the image: 0, or 1 where some line was faulty. Ended where the program did not read the script
-        to its end."""
+        the beginning or the image: 0, or 1 where some line was faulty. That of a `desk` is its own, which counts the
+        lines before the image too; its image is in place. Ended where the program did not read the script to its end,
+        or a `desk` did not leave its image."""
         with self.writing:
             self.close_input()
         self.reader.join()
@@ -344,7 +355,7 @@ class Session(Lines[Answer]):
         ended = self.how_it_ended()
         if ended.status not in (0, 1) or self.said or self.pending:
             raise ended
-        return 1 if self.faults else 0
+        return ended.status if self.live else 1 if self.faults else 0
 
     def how_it_ended(self) -> Ended:
         """The end of the program, which the reading thread has seen."""

@@ -12,6 +12,7 @@ LAUNCHER = PACKAGES / "run"
 # The top of the clone. Installed tools have none, unless the environment names one.
 TOP = Path(os.environ.get("SOZHIPEN_CLONE") or PACKAGES.parent).resolve()
 BUILT = TOP / "crates" / "replay_main" / "out" / "replay_main"
+BUILT_DESK = TOP / "crates" / "desk_main" / "out" / "desk_main"
 
 
 def command_of(tool: str) -> list[str]:

@@ -18,11 +18,12 @@ os.environ.setdefault("SOZHIPEN_CLONE", str(TOP))
 # The folder whose scripts stand beside the packages and are not installed with them.
 LIVE = TOP / "examples" / "live"
 
-from sozhipen_tools.places import BUILT, PACKAGES, command_of  # noqa: E402
+from sozhipen_tools.places import BUILT, BUILT_DESK, PACKAGES, command_of  # noqa: E402
 from sozhipen_tools.running import try_rules  # noqa: E402
 
-# The program that tests run where it is there; REPLAY_PROGRAM names another one.
+# The programs that tests run where they are there; REPLAY_PROGRAM and DESK_PROGRAM name others.
 PROGRAM = os.environ.get("REPLAY_PROGRAM", str(BUILT))
+DESK_PROGRAM = os.environ.get("DESK_PROGRAM", str(BUILT_DESK))
 
 
 def with_packages() -> dict[str, str]:
