@@ -1,13 +1,15 @@
 """What is in fences on README, the pages in docs and tools/README.md is run, and prints what the page says.
 
 Rule files with their scripts are run by the second evaluator, and by the built program where it is there
-(REPLAY_PROGRAM names another one); commands run in a tree of links, so that what they write stays out of the clone.
+(REPLAY_PROGRAM, and DESK_PROGRAM of `desk`, name another one); commands run in a tree of links, so that what they write
+stays out of the clone.
 """
 
 from __future__ import annotations
 
 import os
 import re
+import shlex
 import shutil
 import subprocess
 import sys
@@ -18,8 +20,9 @@ from dataclasses import dataclass
 from pathlib import Path
 from typing import Optional
 
-from support import PROGRAM, TOP
+from support import DESK_PROGRAM, PROGRAM, TOP
 
+from sozhipen_tools.places import command_of
 from sozhipen_tools.reference.certificates.certify import proof_lines
 from sozhipen_tools.reference.meaning.lives import life_lines
 from sozhipen_tools.reference.meaning.run import program_or_refusal, report
@@ -40,6 +43,7 @@ NOT_RUN = {
     "ground     fx_base": "a picture; tools/run documents.check compares it with crates.txt",
     "rt ci": "the gate",
     "replay [--mode": "the usage line",
+    "desk [--limit": "the usage line",
     "crates/replay_main/out/replay_main RULES": "forms of a command",
     "python3 examples/live/keeper.py": "forms of a command; Operating runs it",
     "tools/run workbench": "the form of a command; test_workbench runs it",
@@ -184,6 +188,15 @@ class Commands(Pages):
         for block in BLOCKS["SCRIPT"]:
             for command, said in re.findall(r"^\$ (.*)\n((?:(?!\$ ).*\n)*)", block.text, re.M):
                 self.assertEqual(self.tree.run(command).stdout, said, command)
+
+    def test_a_live_run(self) -> None:
+        shown = self.block("DESK", "> ").text.splitlines(keepends=True)
+        script = "".join(line[2:] for line in shown if line.startswith("> "))
+        programs = [command_of("reference.desk"), *([[DESK_PROGRAM]] if os.access(DESK_PROGRAM, os.X_OK) else [])]
+        for program in programs:
+            command = shlex.join([*program, "--limit", "3", "--text", "examples/endless.drl"])
+            self.assertEqual(self.tree.run(command, script).stdout,
+                             "".join(line for line in shown if not line.startswith("> ")), program)
 
     def test_caller(self) -> None:
         if not IS_BUILT:
@@ -376,7 +389,7 @@ class All(unittest.TestCase):
 
     @staticmethod
     def is_run(block: Block) -> bool:
-        if block.language or block.page == "OPERATING" or block.begins("proof ", "$ "):
+        if block.language or block.page == "OPERATING" or block.begins("proof ", "$ ", "> "):
             return True
         if block.page == "TOOLS" and block.begins("declare Scan", '{"do":"at","ms":5000}'):
             return True  # test_docs
