@@ -248,6 +248,8 @@ class Costs(Case):
         told = list(unproved.without_checks([*kept[:2], *dropped, *kept[2:],
                                              attributes % (" sanitize_address", ' "frame-pointer"="all" ')]))
         self.assertEqual(told, [*kept, attributes % ("", " ")])
+        alone = unproved.without_checks(["attributes #8 = { sanitize_address }\n"])
+        self.assertEqual(list(alone), ['attributes #8 = { "unwatched" }\n'])
 
     def test_whole_rule_files_have_at_most_a_mebibyte(self) -> None:
         for name, (number, text) in rule_files.FILES.items():
