@@ -1,8 +1,9 @@
 """Gives the crates of a clone the libraries that `rt ci` has proved on this machine.
 
-In a fresh clone `rt check` first proves each library below a crate anew, though `rt ci` has kept it: an hour for the highest crates. This
-links, lowest first, what was kept of each crate over what was given below it, and says which crates it had nothing for. It proves nothing:
-what it gives is what `rt ci` itself would take. It uses inner parts of the kit's command `rt` (kit 13f), and stops where these are others.
+In a fresh clone `rt check` first proves each library below a crate anew, though `rt ci` has kept it: an hour for the
+highest crates. This links, lowest first, what was kept of each crate over what was given below it, and says which
+crates it had nothing for. It proves nothing: what it gives is what `rt ci` itself would take. It uses inner parts of
+the kit's command `rt` (kit 13f), and stops where these are others.
 """
 
 from __future__ import annotations
@@ -51,7 +52,7 @@ def library_of(crate: Any) -> Path:
 
 
 def has_library(kept: Any, crate: Any) -> bool:
-    """Whether the crate has the library that was kept, which is put in the place of another one, or else one that was built there."""
+    """Whether the crate has the library that was kept, put in the place of another one, or else one built there."""
     key = kept.key(crate)
     if Path(kept.place(crate, False, key)).is_dir():
         shutil.rmtree(library_of(crate), ignore_errors=True)

@@ -254,8 +254,8 @@ class Images(Case):
         self.write(ENDLESS)
         (self.folder / "spoilt").write_bytes(b"FXC1")
         self.assertEqual(self.ran("--image", "spoilt", "rules.drl"), (b"refused checkpoint BadImage\n", 9))
-        self.assertEqual(self.ran("--image", "gone/image", "rules.drl", script='{"do":"save"}\n'), (b"", 9))
-        self.assertEqual(self.ran("--image", "gone/image", "rules.drl", script="\n"), (b'{"done":1}\n', 9))
+        self.assertEqual(self.ran("--image", "gone/image", "rules.drl", script='{"do":"save"}\n'), (b"", 6))
+        self.assertEqual(self.ran("--image", "gone/image", "rules.drl", script="\n"), (b'{"done":1}\n', 6))
         self.assertEqual((self.folder / "spoilt").read_bytes(), b"FXC1")
 
 

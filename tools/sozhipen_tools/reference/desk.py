@@ -101,7 +101,7 @@ def scripted(program: Program, a: Asked, lines: Iterable[bytes]) -> int:
         put_lines([f"refused checkpoint {refused}"])
         return 9
     except NotSaved:
-        return 9
+        return 6
     return state.status
 
 
