@@ -10,11 +10,10 @@ ghost use Rattle.line_run.specs.Unfinished.{StoppedAtRead};
 ghost use Rattle.script_run.specs.Live.{live_setting, most_firings};
 ghost use Rattle.script_run.specs.Run.{run as run_lines};
 
-use crate::obeying::Obeying;
+use crate::obeying::{Obeying, boxed_scratch};
 use engine::Engine;
 use fx_io::{Sink, Source};
 use line_run::{Progress, RunFault, run_lines};
-use script_read::Scratch;
 use std::alloc::Global;
 
 /// The most firings of a live run, those before an image too, and the most bytes of its script: 2^55.
@@ -57,11 +56,12 @@ pub fn run_live<E: Engine, S: Source<K>, K: Sink>(
     ensures script_counts { S.faults script.old ≤ S.faults script.new }
     ensures out_counts { K.faults out.old ≤ K.faults out.new }
 {
+    let scratch = boxed_scratch(alloc)?;
     let taker = Obeying {
         engine,
         limit: LIVE_MAX,
         live: Some(each),
-        scratch: Scratch::new(alloc),
+        scratch,
     };
     match run_lines(alloc, taker, at, LIVE_MAX, script, out, false) {
         Ok(Some((taker, at))) => Ok(Some((taker.engine, at))),

@@ -43,7 +43,12 @@ pub(crate) struct Obeying<E: Engine> {
     pub(crate) engine: E,
     pub(crate) limit: u64,
     pub(crate) live: Option<u64>,
-    pub(crate) scratch: Scratch,
+    pub(crate) scratch: Box<Scratch>,
+}
+
+/// The memory that reading lines needs, in a box: each line moves what takes it, and the scratch itself has some 16 KiB.
+pub(crate) fn boxed_scratch(alloc: Global) -> Result<Box<Scratch>, NoMemory> {
+    Ok(Box::new(alloc, Scratch::new(alloc))?)
 }
 
 // Does what a command asks for, and appends what it prints.

@@ -12,12 +12,11 @@ ghost use Rattle.script_run.specs.Run.{setting_of, run as run_lines, whole_run};
 ghost use Rattle.script_run.specs.Turns.{TakesScript};
 ghost use Rattle.script_run.specs.Unfinished.{Long};
 
-use crate::obeying::Obeying;
+use crate::obeying::{Obeying, boxed_scratch};
 use engine::Engine;
 use fx_io::{Sink, Source};
 use line_run::{Ended, Progress, RunFault, run_lines};
 use rule_model::{LifeTable, Program};
-use script_read::Scratch;
 use std::alloc::Global;
 
 /// The most bytes that a script may have.
@@ -71,11 +70,12 @@ pub fn run_from<E: Engine, S: Source<K>, K: Sink>(
     ensures script_counts { S.faults script.old ≤ S.faults script.new }
     ensures out_counts { K.faults out.old ≤ K.faults out.new }
 {
+    let scratch = boxed_scratch(alloc)?;
     let taker = Obeying {
         engine,
         limit,
         live: None,
-        scratch: Scratch::new(alloc),
+        scratch,
     };
     match run_lines(alloc, taker, at, SCRIPT_MAX, script, out, silent) {
         Ok(Some((taker, at))) => Ok(Some((taker.engine, at))),
