@@ -41,13 +41,14 @@ INTERRUPTED = 130
 WORDS = {
     2: "it does not accept these options",
     3: "the rule file is refused; `./try --where RULES` says where",
-    4: "the limit of firings is reached; with a higher --limit, up to 1000000, the same command goes on",
+    4: "the limit of firings is reached; with a higher --limit, up to 1000000, the same command goes on, and beyond that "
+       "`desk` from the last image (docs/LIVE.md, *Firings*)",
     5: "a read of the rule file, the image or the script failed; the same command goes on",
     6: "it could not write its answers; the same command goes on",
     7: "it was refused memory; with more memory the same command goes on",
     8: "one process reads at most 1 GiB of script; the same command goes on from the last image",
     9: "the last image is refused; with the rule file that it was made with, the same command goes on; otherwise see "
-       "docs/OPERATING.md, When something breaks",
+       "docs/OPERATING.md, *When something breaks*",
 }
 
 

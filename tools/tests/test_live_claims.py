@@ -1,12 +1,14 @@
-"""What docs/LIVE.md says of partitions and of a lookback, tried on random scripts by the built program.
+"""What docs/LIVE.md says of partitions, of a lookback and of turns behind a broker, tried on random scripts.
 
-REPLAY_PROGRAM names another program than the built one; without one the tests are skipped.
+Partitions and a lookback are tried by the built program, or by that of REPLAY_PROGRAM; without one these tests are
+skipped. Turns are tried by the second evaluator of `desk`, and by the built `desk`, or that of DESK_PROGRAM.
 """
 
 from __future__ import annotations
 
 import json
 import os
+import shutil
 import subprocess
 import tempfile
 import unittest
@@ -15,7 +17,9 @@ from random import Random
 from typing import Any, Optional
 from zlib import crc32
 
-from support import PROGRAM
+from support import DESK_PROGRAM, PROGRAM
+
+from sozhipen_tools.places import command_of
 
 DURATION = 1_000
 EVENTS = 400
@@ -137,6 +141,77 @@ class Claims(unittest.TestCase):
             whole = self.replay(script=text_of(lines, True))
             fired = self.firings(rest, inserts(lines[first:]))
             self.assertEqual(fired, self.firings(whole[len(before):], inserts(lines)))
+
+
+class Crash(Exception):
+    """A turn breaks off here."""
+
+
+class Turns(unittest.TestCase):
+    """Behind a broker, whose messages are lines here, and whose receiver takes each number once."""
+    program = command_of("reference.desk")
+    MESSAGES = 40
+
+    def setUp(self) -> None:
+        folder = tempfile.TemporaryDirectory()
+        self.addCleanup(folder.cleanup)
+        self.folder, self.rules = Path(folder.name), Path(folder.name, "rules.drl")
+        self.rules.write_text(RULES, encoding="utf-8")
+        self.received: list[str] = []
+
+    def publish(self, number: int, answer: str) -> None:
+        """The receiver takes the answer of this number where it has none yet; it never comes to another one."""
+        if number == len(self.received):
+            self.received.append(answer)
+        self.assertEqual(self.received[number], answer)
+
+    def state(self) -> tuple[int, int]:
+        """How many messages the last image has taken, and how many answers they have; both are 0 without one."""
+        names = (path.name.split(",") for path in self.folder.glob("image,*"))
+        return max(((int(taken), int(told)) for _, taken, told in names), default=(0, 0))
+
+    def turn(self, lines: list[str], random: Random) -> bool:
+        """Takes some messages on from the last image, and may crash at each step; whether there are more."""
+        def step() -> None:
+            if not random.randrange(4):
+                raise Crash
+
+        taken, told = self.state()
+        messages, copy = lines[taken:taken + self.MESSAGES], self.folder / "copy"
+        copy.unlink(missing_ok=True)
+        if taken:
+            shutil.copyfile(self.folder / f"image,{taken},{told}", copy)
+        step()
+        done = subprocess.run([*self.program, "--image", str(copy), "--text", str(self.rules)],
+                              input="".join(messages).encode(), capture_output=True, check=True)
+        answers = [text for text in done.stdout.decode().splitlines() if not text.startswith("done ")]
+        for number, answer in enumerate(answers, told):
+            self.publish(number, answer)
+            if number == told:
+                step()
+        step()
+        taken += len(messages)
+        os.replace(copy, self.folder / f"image,{taken},{told + len(answers)}")
+        return taken < len(lines)
+
+    def test_turns_that_crash(self) -> None:
+        random, crashes, goes_on = Random(1), 0, True
+        lines = text_of(random_script(1)[:400]).splitlines(keepends=True)
+        while goes_on:
+            try:
+                goes_on = self.turn(lines, random)
+            except Crash:
+                crashes += 1
+        whole = subprocess.run([*command_of("reference.replay"), str(self.rules)], input="".join(lines).encode(),
+                               capture_output=True, check=True).stdout.decode()
+        self.assertEqual(self.received, whole.splitlines())
+        self.assertIn('fire "silent"', whole)
+        self.assertGreater(crashes, 5)
+
+
+@unittest.skipUnless(os.access(DESK_PROGRAM, os.X_OK), f"there is no program {DESK_PROGRAM}")
+class TurnsOfTheBuiltDesk(Turns):
+    program = [DESK_PROGRAM]
 
 
 if __name__ == "__main__":

@@ -173,6 +173,8 @@ function outdated(yes) {
 
 let dates = false, timeline = null, shownTimeline = null;
 
+const counted = (items, name) => `${items.length} ${name}${items.length === 1 ? "" : "s"}`;
+
 const clockText = t => dates && t !== 0 ? new Date(t).toISOString().replace("T", " ").replace(/(\.000)?Z/, "") : String(t);
 
 function factShown(fact, made) {
@@ -203,7 +205,7 @@ function showOutput(run) {
 function showLives(lives) {
   $("lives").replaceChildren(table(["type of events", "life, ms", "where it comes from"], lives.map(life => element("tr", {},
     element("td", {}, life.type), number(life.life), element("td", { class: "lines" }, life.why)))),
-  element("p", { class: "quiet" }, "How long an event matters behind its end. An infinite one is kept for ever: docs/RULES.md, How long an event matters."));
+  element("p", { class: "quiet" }, "How long an event matters behind its end. An infinite one is kept for ever: docs/LIVES.md, *How long an event matters*."));
 }
 
 // What the lines of the script answered, beside their numbers.
@@ -237,9 +239,9 @@ function showRun(run, told) {
   script.show(faultsOf(run, told));
   showFirings(run);
   showOutput(run);
-  const faulty = run.faults.length ? `, ${run.faults.length} faults` : "", last = run.printed[run.printed.length - 1];
+  const faulty = run.faults.length ? `, ${counted(run.faults, "fault")}` : "", last = run.printed[run.printed.length - 1];
   if (last && last.text.startsWith("limit ")) tell(`ended at line ${last.line}, at the limit of ${run.firings.length} firings: one more was pending`, true);
-  else tell(`${run.facts} facts and events, ${run.firings.length} firings${faulty}; the clock ends at ${clockText(run.end)}. By ${run.by}.`);
+  else tell(`${run.facts} facts and events, ${counted(run.firings, "firing")}${faulty}; the clock ends at ${clockText(run.end)}. By ${run.by}.`);
 }
 
 // The picture is loaded when it is looked at.
