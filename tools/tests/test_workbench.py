@@ -87,6 +87,13 @@ class Work(unittest.TestCase):
         self.assertIn("<title>t</title>", of_kind(said, "timeline")["html"])
         self.assertEqual([it["life"] for it in of_kind(said, "lives")["lives"]], ["10000", "0"])
 
+    def test_promises(self) -> None:
+        """A line that promises is told of, and a faulty one is not."""
+        script = "".join(f'{{"do":"promise","from":{start}}}\n' for start in (5, 4, 9))
+        words = "no event that starts before {} comes into DEFAULT"
+        self.assertEqual(of_kind(work(script=script), "run")["promises"],
+                         [{"line": 1, "text": words.format(5)}, {"line": 3, "text": words.format(9)}])
+
     def test_a_refused_file(self) -> None:
         refused = of_kind(work(rules="rule"), "refused")
         self.assertEqual((refused["text"], refused["findings"][0]["line"]), ("refused item 1 line 1 Syntax", 1))

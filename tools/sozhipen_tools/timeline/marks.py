@@ -161,13 +161,16 @@ def fault_mark(fault: Fault, lane: int, clock: Clock) -> Mark:
                 f"fault {fault.line} {fault.code}, at {clock.text(fault.clock)}: {cut(fault.text)}", names=names)
 
 
+def promised(promise: Promised, clock: Clock) -> str:
+    """What a line promises."""
+    return f"no event that starts before {clock.text(promise.start)} comes into {promise.entry}"
+
+
 def promise_mark(promise: Promised, lane: int, end: int, clock: Clock) -> Mark:
-    start = clock.text(promise.start)
-    text = (f"line {promise.line}, at {clock.text(promise.clock)}: no event that starts before {start} comes into "
-            f"{promise.entry}")
+    text = f"line {promise.line}, at {clock.text(promise.clock)}: {promised(promise, clock)}"
     ahead = promise.start if promise.clock < promise.start <= end else None
-    return Mark(f"p{promise.number}", PROMISES, lane, promise.clock, promise.clock, f"{promise.entry} from {start}",
-                text, gone=ahead)
+    return Mark(f"p{promise.number}", PROMISES, lane, promise.clock, promise.clock,
+                f"{promise.entry} from {clock.text(promise.start)}", text, gone=ahead)
 
 
 # ---- the picture

@@ -208,7 +208,7 @@ function showLives(lives) {
   element("p", { class: "quiet" }, "How long an event matters behind its end. An infinite one is kept for ever: docs/LIVES.md, *How long an event matters*."));
 }
 
-// What the lines of the script answered, beside their numbers.
+// What the lines of the script answered, beside their numbers. A promise is shown there too, though it answers nothing.
 function answersOf(run) {
   const answers = new Map();
   const told = line => {
@@ -216,7 +216,8 @@ function answersOf(run) {
     return answers.get(line);
   };
   for (const row of run.printed) told(row.line).push(row.text);
-  return new Map([...answers].map(([line, texts]) => [line, { ...shortOf(texts), long: texts.join("\n") }]));
+  const shown = [...answers].map(([line, texts]) => [line, { ...shortOf(texts), long: texts.join("\n") }]);
+  return new Map([...run.promises.map(promise => [promise.line, { kind: "", short: "⊳", long: promise.text }]), ...shown]);
 }
 
 function shortOf(texts) {

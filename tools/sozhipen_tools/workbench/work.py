@@ -21,7 +21,7 @@ from ..reference.meaning.script import lines_of
 from ..reference.meaning.worlds import World
 from ..running.programs import name_of_built
 from ..timeline.clock import Clock, clock_of
-from ..timeline.marks import fields_text, picture_of, shown
+from ..timeline.marks import fields_text, picture_of, promised, shown
 from ..timeline.page import page
 from ..timeline.recording import Firing, Recording, Unfit, recording_of
 from ..words import Parser
@@ -131,6 +131,7 @@ def tell_recording(asked: dict, recording: Recording) -> None:
         faults=[{"line": fault.line, "code": fault.code, "clock": fault.clock, "sent": fault.text,
                  "words": fault_words(fault.code)}
                 for fault in recording.faults],
+        promises=[{"line": promise.line, "text": promised(promise, clock)} for promise in recording.promises],
         printed=[{"clock": it.clock, "line": it.line, "text": it.text} for it in recording.printed])
     say(kind="timeline", html=page(asked["title"], recording, picture_of(recording)))
 
