@@ -24,14 +24,14 @@ from sozhipen_tools.reference.meaning.run import program_or_refusal
 from sozhipen_tools.stream import trial
 from sozhipen_tools.stream.answered import Answered, differences_of_all, firings, lines_of_partitions, one_run, planted
 from sozhipen_tools.stream.broker import (NOTHING, Broker, Entry, MemoryBroker, State, Unreachable, answers_of,
-                                          script_of, state_of)
+                                          script_of, state_of, until_reached)
 from sozhipen_tools.stream.collect import collected, last_of_all
-from sozhipen_tools.stream.engine import Engine
+from sozhipen_tools.stream.engine import Engine, Interrupted, Stopped
 from sozhipen_tools.stream.entries import Numbered, data_of, lines_in
 from sozhipen_tools.stream.look import found_in
 from sozhipen_tools.stream.redis_broker import RedisBroker
 from sozhipen_tools.stream.router import Mixed, Router, Routes
-from sozhipen_tools.stream.worker import Worker
+from sozhipen_tools.stream.worker import Lost, Worker
 
 PARTITIONS = 3
 HAS_REDIS = shutil.which("redis-server") is not None
@@ -152,16 +152,17 @@ class Brokers(unittest.TestCase):
     def test_redis(self) -> None:
         with tempfile.TemporaryDirectory() as folder:
             server = trial.Server(Path(folder))
+            broker = RedisBroker(server.address)
             try:
-                broker = RedisBroker(server.port)
-                trial.until_reached(lambda: broker.last("log"))
+                until_reached(lambda: broker.last("log"))
                 self.check(broker)
                 server.kill()
                 with self.assertRaises(Unreachable):
                     broker.last("log")
-                self.assertEqual(trial.until_reached(lambda: broker.last("log")), 9)
+                self.assertEqual(until_reached(lambda: broker.last("log")), 9)
                 self.assertEqual(broker.state("state"), State(10, b"\xff\n"))
             finally:
+                broker.close()
                 server.process.kill()
                 server.process.wait()
 
@@ -209,6 +210,46 @@ class Routing(unittest.TestCase):
         routers[0].flush()
         with self.assertRaises(Mixed):
             routers[1].flush()
+
+    def test_another_script(self) -> None:
+        broker, script = MemoryBroker(), trial.script(30, 1)
+        route_all(broker, script)
+        route_all(broker, [*script, b'{"do":"held"}'])
+        self.assertEqual(broker.last(script_of(0)), len(script) + 1)
+        for other in ([*script, b'{"do":"fire"}'], [*script, script[-3], script[-1]]):
+            with self.assertRaises(Mixed):
+                route_all(broker, other)
+
+
+class Engines(unittest.TestCase):
+    @staticmethod
+    def engine(command: str) -> Engine:
+        """A desk that takes its input and does this; `$3` is the file of its image."""
+        return Engine(("sh", "-c", f"cat > /dev/null; {command}"), "")
+
+    def test_statuses(self) -> None:
+        for command, error in (("exit 3", Stopped), ("exit 9", Stopped), ("exit 6", Interrupted),
+                               ("exit 7", Interrupted), ("kill -9 $$", Interrupted)):
+            with self.subTest(command), self.assertRaises(error):
+                self.engine(command).run(b"", b"x\n")
+
+    def test_a_turn(self) -> None:
+        entries = [Entry(4, data_of([Numbered(3, b"a"), Numbered(4, b"b")])), Entry(6, data_of([Numbered(6, b"c")]))]
+        said = "fire \\\"done 3\\\" #1\\ndone 1\\ndone 2\\nnew #2 A\\n"
+        command = f'printf next >> "$3"; printf "{said}done 3\\n"'
+        answers, state = self.engine(command).turn(State(2, b"old "), entries)
+        self.assertEqual(answers, [Entry(4, b'3 fire "done 3" #1\n3 done 1\n4 done 2\n'),
+                                   Entry(6, b"6 new #2 A\n6 done 3\n")])
+        self.assertEqual(state, State(6, b"old next"))
+        with self.assertRaises(Stopped):
+            self.engine(f'printf next >> "$3"; printf "{said}"').turn(NOTHING, entries)
+
+    def test_answers_that_the_broker_lost(self) -> None:
+        broker = MemoryBroker()
+        broker.append(script_of(0), 0, [Entry(1, b"1 x\n"), Entry(2, b"2 x\n")])
+        broker.keep(state_of(0), EVALUATOR.turn(NOTHING, broker.read(script_of(0), 0, 1))[1])
+        with self.assertRaises(Lost):
+            Worker(broker, EVALUATOR, "a").turn(0)
 
 
 class Kills(unittest.TestCase):

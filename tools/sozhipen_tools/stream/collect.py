@@ -1,6 +1,6 @@
 """Prints what all partitions of a stream answer, in one order.
 
-    tools/run stream.collect --partitions N [--redis PORT] [--behind NUMBER] [--follow | --rest]
+    tools/run stream.collect --partitions N [--redis SERVER] [--behind NUMBER] [--follow | --rest]
 
 A line is `NUMBER PARTITION ANSWER`, with the number of the line of the script that is answered; answers to one line
 come in the order of the partitions, and `done` lines are left out. What is printed ends at the last line up to which

@@ -8,7 +8,7 @@ a crash of it takes back what it has acknowledged.
 from __future__ import annotations
 
 import argparse
-from typing import Any, Optional, Sequence
+from typing import Any, NamedTuple, Optional, Sequence
 
 from .broker import NOTHING, Broker, Entry, State, Unreachable
 from .resp import Connection, RefusedByServer, Word
@@ -32,14 +32,27 @@ redis.call('SET', KEYS[1], ARGV[1], 'PX', ARGV[2])
 return 1
 """
 RELEASE = "if redis.call('GET', KEYS[1]) == ARGV[1] then return redis.call('DEL', KEYS[1]) end return 0"
-# What a server says that is still loading what it has on its disk.
-LOADING = "LOADING"
+# What a server says that is loading what it has on its disk, busy, or out of memory or disk: it may pass.
+MAY_PASS = ("LOADING", "BUSY", "OOM", "MISCONF")
 SECONDS = 5.0
+
+
+class Address(NamedTuple):
+    """Where a server is."""
+    host: str
+    port: int
+
+
+def address_of(text: str) -> Address:
+    """The address that is written as PORT, on this machine, or as HOST:PORT."""
+    host, _, port = text.rpartition(":")
+    return Address(host or "127.0.0.1", int(port))
 
 
 def redis_words(parser: argparse.ArgumentParser) -> None:
     """The words by which a tool takes the server and the number of partitions."""
-    parser.add_argument("--redis", metavar="PORT", type=int, default=6379, help="the port of the server on 127.0.0.1")
+    parser.add_argument("--redis", metavar="SERVER", type=address_of, default=address_of("6379"),
+                        help="PORT, on 127.0.0.1, or HOST:PORT; otherwise 6379")
     parser.add_argument("--partitions", metavar="N", type=int, required=True, help="the same for all of a stream")
 
 
@@ -51,24 +64,25 @@ def number_of(name: bytes) -> int:
 class RedisBroker(Broker):
     """A server; after Unreachable the next operation connects anew."""
 
-    def __init__(self, port: int, host: str = "127.0.0.1") -> None:
-        self.host, self.port = host, port
+    def __init__(self, address: Address) -> None:
+        self.address = address
         self.connection: Optional[Connection] = None
 
     def ask(self, *words: Word) -> Any:
         try:
             if self.connection is None:
-                self.connection = Connection(self.host, self.port, SECONDS)
+                self.connection = Connection(*self.address, SECONDS)
             return self.connection.ask(*words)
         except RefusedByServer as refused:
-            if not str(refused).startswith(LOADING):
+            if not str(refused).startswith(MAY_PASS):
                 raise
             raise Unreachable(str(refused)) from None
         except OSError as error:
-            self.drop()
+            self.close()
             raise Unreachable(str(error)) from None
 
-    def drop(self) -> None:
+    def close(self) -> None:
+        """Ends the connection."""
         if self.connection is not None:
             self.connection.close()
         self.connection = None

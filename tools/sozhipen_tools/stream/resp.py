@@ -13,7 +13,7 @@ class RefusedByServer(Exception):
 
 
 class Connection:
-    """A connection to a server of this machine. OSError where it does not answer: then no command may follow."""
+    """A connection to a server. OSError where it does not answer: then no command may follow."""
 
     def __init__(self, host: str, port: int, seconds: float) -> None:
         self.socket = socket.create_connection((host, port), seconds)

@@ -1,6 +1,6 @@
 """Gives each line of a script to the partition of its key.
 
-    tools/run stream.router --key FIELD --partitions N [--redis PORT] [--lines N] RULES < SCRIPT
+    tools/run stream.router --key FIELD --partitions N [--redis SERVER] [--lines N] RULES < SCRIPT
 
 An `insert` with the field goes to the partition of its value; tables, and lines that move the clock or fire, go to all.
 Before each `fire` each partition is promised the latest start that was routed to any, for each entry point with a
@@ -9,7 +9,7 @@ key it goes to all, and behind that it is told on standard error and routed to n
 
 A router may be killed and begun again with the script from its first line: what is in the logs is left out, and an
 entry goes in only behind the one that is expected, so two routers cannot mix. Status 3 where the rule file is refused,
-4 where another router writes to these partitions.
+4 where another router writes to these partitions, or their last lines are of another script.
 """
 
 from __future__ import annotations
@@ -26,7 +26,7 @@ from ..reference.meaning.script import (BadCommand, BadJson, Command, FireLine, 
                                         RetractLine, command_of)
 from ..words import Parser
 from .broker import Broker, Entry, script_of, until_reached
-from .entries import Numbered, data_of
+from .entries import Numbered, data_of, lines_in
 from .redis_broker import RedisBroker, redis_words
 from .starts import Starts
 
@@ -34,7 +34,7 @@ CHUNK = 1 << 16
 
 
 class Mixed(Exception):
-    """Another router writes to these partitions."""
+    """The partitions have lines of another script, or another router writes to them."""
 
 
 class Routed(NamedTuple):
@@ -89,13 +89,24 @@ class Router:
     def __init__(self, broker: Broker, partitions: int, most_lines: int) -> None:
         self.broker, self.most_lines = broker, most_lines
         self.last = [until_reached(lambda: broker.last(script_of(partition))) for partition in range(partitions)]
+        self.there = {partition: self.last_lines(partition) for partition in range(partitions) if self.last[partition]}
         self.waiting: list[list[Numbered]] = [[] for _ in range(partitions)]
 
+    def last_lines(self, partition: int) -> list[Numbered]:
+        """The lines of a partition under the last number there."""
+        last = self.last[partition]
+        entries = until_reached(lambda: self.broker.read(script_of(partition), last - 1, 1))
+        return [line for entry in entries for line in lines_in(entry.data) if line.number == last]
+
     def take(self, routed: Routed) -> None:
-        """Takes what one line became, where it is not there yet; a full entry is put."""
+        """Takes what one line became, where it is not there yet; a full entry is put. Mixed where the last lines that
+        were there are not of this script."""
+        lines = [Numbered(routed.number, line) for line in routed.lines]
         for partition in routed.partitions:
+            if routed.number >= self.last[partition] and self.there.pop(partition, lines) != lines:
+                raise Mixed
             if routed.number > self.last[partition]:
-                self.waiting[partition] += [Numbered(routed.number, line) for line in routed.lines]
+                self.waiting[partition] += lines
                 if len(self.waiting[partition]) >= self.most_lines:
                     self.put(partition)
 
@@ -162,7 +173,7 @@ def main() -> int:
         router = Router(RedisBroker(words.redis), words.partitions, words.lines)
         return 0 if routed_all(sys.stdin.buffer, routes, router) else 1
     except Mixed:
-        print("router: another router writes to these partitions", file=sys.stderr)
+        print("router: the partitions have lines of another script, or another router writes to them", file=sys.stderr)
         return 4
 
 

@@ -31,16 +31,18 @@ from ..places import command_of
 from ..reference.meaning.run import program_or_refusal
 from ..words import Parser
 from .answered import Answered, differences_of_all, firings, lines_of_partitions, one_run, planted
-from .broker import until_reached
+from .broker import Unreachable
 from .engine import Engine
 from .entries import Numbered
-from .redis_broker import RedisBroker
+from .redis_broker import Address, RedisBroker
 from .router import Routes
 from .worker import Worker, desk_command
 
 RULES = """
 declare Most @reference place : String cents : long end
-declare Withdrawal @role( event ) @timestamp( at ) at : long card : String place : String cents : long end
+declare Withdrawal @role( event ) @timestamp( at ) @expires( 1m )
+  at : long card : String place : String cents : long
+end
 declare Told @role( event ) @expires( 1m ) card : String end
 declare entry-point "ATM" @lateness( 2s ) end
 rule "two places" salience 10 when
@@ -63,7 +65,7 @@ PLACES = {"harbour": 150_000, "station": 120_000, "market": 220_000}
 CARDS = 400
 LATENESS = 2000
 WHO = ("worker", "worker", "router", "broker")
-PATIENCE_SECONDS = 60
+PATIENCE_SECONDS = 40
 
 
 def line_of(do: str, **members: object) -> bytes:
@@ -94,7 +96,7 @@ def script(events: int, seed: int) -> list[bytes]:
         start = max(start, clock - LATENESS)
         if number % 25 == 24:
             lines.append(line_of("fire"))
-    return [*lines, line_of("at", ms=clock + 60_000), line_of("fire")]
+    return [*lines, line_of("at", ms=clock + 15_000), line_of("fire")]
 
 
 def free_port() -> int:
@@ -107,12 +109,12 @@ class Server:
     """A redis-server that writes each command to its disk before it replies."""
 
     def __init__(self, folder: Path) -> None:
-        self.folder, self.port = folder, free_port()
+        self.folder, self.address = folder, Address("127.0.0.1", free_port())
         self.start()
 
     def start(self) -> None:
-        words = ["redis-server", "--port", str(self.port), "--bind", "127.0.0.1", "--dir", str(self.folder), "--save",
-                 "", "--appendonly", "yes", "--appendfsync", "always"]
+        words = ["redis-server", "--port", str(self.address.port), "--bind", self.address.host, "--dir",
+                 str(self.folder), "--save", "", "--appendonly", "yes", "--appendfsync", "always"]
         self.process = subprocess.Popen(words, stdout=subprocess.DEVNULL)
 
     def kill(self) -> None:
@@ -127,11 +129,11 @@ class Feed(threading.Thread):
     def __init__(self, words: list[str], lines: list[bytes], seconds: float) -> None:
         super().__init__(daemon=True)
         self.words, self.lines, self.step = words, lines, max(1, int(len(lines) / seconds / 20))
-        self.given, self.status = 0, -1
+        self.given, self.status, self.is_over = 0, -1, False
         self.process: Optional[subprocess.Popen[bytes]] = None
 
     def run(self) -> None:
-        while self.status < 0:
+        while self.status < 0 and not self.is_over:
             self.process = subprocess.Popen(self.words, stdin=subprocess.PIPE)
             try:
                 self.feed(self.process)
@@ -154,6 +156,11 @@ class Feed(threading.Thread):
         if self.process is not None:
             self.process.kill()
 
+    def end(self) -> None:
+        """Ends the router, which is not begun again."""
+        self.is_over = True
+        self.kill()
+
 
 class Trial:
     """The processes of a stream, in a folder."""
@@ -165,15 +172,15 @@ class Trial:
         self.lines = script(words.events, words.seed)
         self.draw = random.Random(words.seed)
         self.server = Server(folder)
-        self.broker = RedisBroker(self.server.port)
-        self.same = ["--redis", str(self.server.port), "--partitions", str(words.partitions)]
+        self.broker = RedisBroker(self.server.address)
+        self.same = ["--redis", str(self.server.address.port), "--partitions", str(words.partitions)]
         routed = [*command_of("stream.router"), "--key", "card", *self.same, str(self.rules)]
         self.feed = Feed(routed, self.lines, words.kills * words.between)
         self.workers = [self.worker(name) for name in range(words.workers)]
 
     def worker(self, name: int) -> subprocess.Popen[bytes]:
         command = [*command_of("stream.worker"), *self.same, "--desk", str(self.words.desk or ""), "--lease", "500",
-                   "--entries", "5", f"w{name}", str(self.rules)]
+                   "--entries", "20", f"w{name}", str(self.rules)]
         if not self.words.desk:
             del command[command.index("--desk"):command.index("--lease")]
         return subprocess.Popen(command, env={**os.environ, "TMPDIR": str(self.folder)})
@@ -194,9 +201,9 @@ class Trial:
         """Kills until the stream is through; what was killed how often."""
         killed: Counter[str] = Counter()
         self.feed.start()
-        for number in range(self.words.kills):
+        for _ in range(self.words.kills):
             time.sleep(self.draw.uniform(0.2, 1.6) * self.words.between)
-            who = WHO[number % len(WHO)]
+            who = self.draw.choice(WHO)
             if who != "router" or self.feed.is_alive():
                 self.kill(who)
                 killed[who] += 1
@@ -208,10 +215,18 @@ class Trial:
         """Waits until all lines have their answers, or no more come."""
         reader = Worker(self.broker, self.engine, "")
         end = time.monotonic() + PATIENCE_SECONDS
-        while time.monotonic() < end and not until_reached(lambda: reader.is_done(self.words.partitions)):
+        while time.monotonic() < end:
+            try:
+                if reader.is_done(self.words.partitions):
+                    return
+            except Unreachable:
+                pass
             time.sleep(0.05)
 
     def end(self) -> None:
+        """Ends all processes."""
+        self.broker.close()
+        self.feed.end()
         for process in (*self.workers, self.server.process):
             process.kill()
             process.wait()

@@ -1,6 +1,6 @@
 """Answers the lines of a stream's partitions, whichever have lines that nobody is at.
 
-    tools/run stream.worker --partitions N [--redis PORT] [--desk PROGRAM] [--limit N] [--until-done] NAME RULES
+    tools/run stream.worker --partitions N [--redis SERVER] [--desk PROGRAM] [--limit N] [--until-done] NAME RULES
 
 Any number of workers share the partitions, each under a name of its own, and each may be killed at any moment. A turn
 takes the lease of a partition, reads a batch of entries behind its image, runs them through a desk, puts the answers
@@ -36,7 +36,7 @@ class Lost(Exception):
 class Worker:
     """Turns over the partitions of a broker."""
 
-    def __init__(self, broker: Broker, engine: Engine, holder: str, lease: int = 2000, most: int = 20) -> None:
+    def __init__(self, broker: Broker, engine: Engine, holder: str, lease: int = 2000, most: int = 200) -> None:
         self.broker, self.engine, self.holder, self.lease, self.most = broker, engine, holder, lease, most
 
     def turn(self, partition: int) -> bool:
@@ -101,7 +101,7 @@ def asked() -> argparse.Namespace:
     parser.add_argument("--limit", metavar="N", type=int, default=100_000, help="the most firings of a fire")
     parser.add_argument("--lease", metavar="MS", type=int, default=2000, help="how long a partition waits for a worker "
                         "that was killed")
-    parser.add_argument("--entries", metavar="N", type=int, default=20, help="the most entries of a turn")
+    parser.add_argument("--entries", metavar="N", type=int, default=200, help="the most entries of a turn")
     parser.add_argument("--until-done", action="store_true", help="end where all lines that are there have answers")
     redis_words(parser)
     return parser.parse_args()
