@@ -29,7 +29,7 @@ from sozhipen_tools.stream.collect import collected, last_of_all
 from sozhipen_tools.stream.engine import Engine, Interrupted, Stopped
 from sozhipen_tools.stream.entries import Numbered, data_of, lines_in
 from sozhipen_tools.stream.look import found_in
-from sozhipen_tools.stream.redis_broker import RedisBroker
+from sozhipen_tools.stream.redis_broker import RedisBroker, address_of
 from sozhipen_tools.stream.router import Mixed, Router, Routes
 from sozhipen_tools.stream.worker import Lost, Worker
 
@@ -147,6 +147,10 @@ class Brokers(unittest.TestCase):
 
     def test_memory(self) -> None:
         self.check(MemoryBroker())
+
+    def test_addresses(self) -> None:
+        self.assertEqual(address_of("6380"), ("127.0.0.1", 6380))
+        self.assertEqual(address_of("log.example:6380"), ("log.example", 6380))
 
     @unittest.skipUnless(HAS_REDIS, NO_REDIS)
     def test_redis(self) -> None:

@@ -8,8 +8,8 @@ lateness. A `modify` or `retract` names a fact by a number that only one partiti
 key it goes to all, and behind that it is told on standard error and routed to none (status 1).
 
 A router may be killed and begun again with the script from its first line: what is in the logs is left out, and an
-entry goes in only behind the one that is expected, so two routers cannot mix. Status 3 where the rule file is refused,
-4 where another router writes to these partitions, or their last lines are of another script.
+entry goes in only behind the one that is expected, so two routers cannot mix. Status 3 where the rule file is missing
+or refused, 4 where another router writes to these partitions, or their last lines are of another script.
 """
 
 from __future__ import annotations
@@ -164,7 +164,10 @@ def asked() -> argparse.Namespace:
 
 def main() -> int:
     words = asked()
-    program = program_or_refusal(Path(words.rules).read_bytes())
+    try:
+        program = program_or_refusal(Path(words.rules).read_bytes())
+    except OSError as error:
+        program = f"{words.rules}: {error.strerror}"
     if isinstance(program, str):
         print(f"router: {program}", file=sys.stderr)
         return 3

@@ -207,7 +207,7 @@ class Trial:
             if who != "router" or self.feed.is_alive():
                 self.kill(who)
                 killed[who] += 1
-        self.feed.join(PATIENCE_SECONDS)
+        self.feed.join(PATIENCE_SECONDS + self.words.kills * self.words.between)
         self.wait()
         return killed
 
