@@ -247,6 +247,10 @@ class Commands(Pages):
             else:
                 self.assertIn('sozhipen_rule_firings_total{desk="smoke",rule="no water"} 1\n', done.stdout, done.stderr)
 
+    @unittest.skipUnless(shutil.which("redis-server"), "there is no redis-server")
+    def test_partitions(self) -> None:
+        self.commands("SCALING", "mkdir broker")
+
     def test_split(self) -> None:
         block = self.block("LIVE", "import json, sys, zlib")
         (self.tree.path / "split.py").write_text(block.text, encoding="utf-8")
@@ -393,7 +397,8 @@ class All(unittest.TestCase):
             return True
         if block.page == "TOOLS" and block.begins("declare Scan", '{"do":"at","ms":5000}'):
             return True  # test_docs
-        commands = ("./try ", "sed ", "python3 ", "PYTHONPATH=tools ", "tools/run ", "coproc ", "java ", "program=")
+        commands = ("./try ", "sed ", "python3 ", "PYTHONPATH=tools ", "tools/run ", "coproc ", "java ", "program=",
+                    "mkdir ")
         is_output = (previous := before(block)) is not None and (bool(previous.language) or previous.begins(*commands))
         return block.begins(*commands) or is_output
 

@@ -1,0 +1,115 @@
+"""A broker that is a Redis server, 5 or later: logs are streams whose ids are the numbers of the entries, a value and
+its offset are a hash, leases are keys that expire.
+
+The server has to write each command to its disk before it replies (`--appendonly yes --appendfsync always`); otherwise
+a crash of it takes back what it has acknowledged.
+"""
+
+from __future__ import annotations
+
+import argparse
+from typing import Any, NamedTuple, Optional, Sequence
+
+from .broker import NOTHING, Broker, Entry, State, Unreachable
+from .resp import Connection, RefusedByServer, Word
+
+APPEND = """
+local top = redis.call('XREVRANGE', KEYS[1], '+', '-', 'COUNT', 1)
+if (top[1] and top[1][1] or '0-0') ~= ARGV[1] then return 0 end
+for k = 2, #ARGV, 2 do redis.call('XADD', KEYS[1], ARGV[k], 'd', ARGV[k + 1]) end
+return 1
+"""
+KEEP = """
+local old = redis.call('HGET', KEYS[1], 'offset')
+if old and tonumber(old) >= tonumber(ARGV[1]) then return 0 end
+redis.call('HSET', KEYS[1], 'offset', ARGV[1], 'image', ARGV[2])
+return 1
+"""
+LEASE = """
+local holder = redis.call('GET', KEYS[1])
+if holder and holder ~= ARGV[1] then return 0 end
+redis.call('SET', KEYS[1], ARGV[1], 'PX', ARGV[2])
+return 1
+"""
+RELEASE = "if redis.call('GET', KEYS[1]) == ARGV[1] then return redis.call('DEL', KEYS[1]) end return 0"
+# What a server says that is loading what it has on its disk, busy, or out of memory or disk: it may pass.
+MAY_PASS = ("LOADING", "BUSY", "OOM", "MISCONF")
+SECONDS = 5.0
+
+
+class Address(NamedTuple):
+    """Where a server is."""
+    host: str
+    port: int
+
+
+def address_of(text: str) -> Address:
+    """The address that is written as PORT, on this machine, or as HOST:PORT."""
+    host, _, port = text.rpartition(":")
+    return Address(host or "127.0.0.1", int(port))
+
+
+def redis_words(parser: argparse.ArgumentParser) -> None:
+    """The words by which a tool takes the server and the number of partitions."""
+    parser.add_argument("--redis", metavar="SERVER", type=address_of, default=address_of("6379"),
+                        help="PORT, on 127.0.0.1, or HOST:PORT; otherwise 6379")
+    parser.add_argument("--partitions", metavar="N", type=int, required=True, help="the same for all of a stream")
+
+
+def number_of(name: bytes) -> int:
+    """The number of an entry, from its id in the stream."""
+    return int(name.partition(b"-")[0])
+
+
+class RedisBroker(Broker):
+    """A server; after Unreachable the next operation connects anew."""
+
+    def __init__(self, address: Address) -> None:
+        self.address = address
+        self.connection: Optional[Connection] = None
+
+    def ask(self, *words: Word) -> Any:
+        try:
+            if self.connection is None:
+                self.connection = Connection(*self.address, SECONDS)
+            return self.connection.ask(*words)
+        except RefusedByServer as refused:
+            if not str(refused).startswith(MAY_PASS):
+                raise
+            raise Unreachable(str(refused)) from None
+        except OSError as error:
+            self.close()
+            raise Unreachable(str(error)) from None
+
+    def close(self) -> None:
+        """Ends the connection."""
+        if self.connection is not None:
+            self.connection.close()
+        self.connection = None
+
+    def append(self, log: str, behind: int, entries: Sequence[Entry]) -> bool:
+        words: list[Word] = []
+        for entry in entries:
+            words += [f"{entry.number}-0", entry.data]
+        return bool(self.ask("EVAL", APPEND, 1, log, f"{behind}-0", *words))
+
+    def last(self, log: str) -> int:
+        top = self.ask("XREVRANGE", log, "+", "-", "COUNT", 1)
+        return number_of(top[0][0]) if top else 0
+
+    def read(self, log: str, behind: int, most: int) -> list[Entry]:
+        found = self.ask("XRANGE", log, f"{behind + 1}-0", "+", "COUNT", most)
+        return [Entry(number_of(name), fields[1]) for name, fields in found]
+
+    def state(self, name: str) -> State:
+        offset, image = self.ask("HMGET", name, "offset", "image")
+        return NOTHING if offset is None else State(int(offset), image)
+
+    def keep(self, name: str, state: State) -> bool:
+        return bool(self.ask("EVAL", KEEP, 1, name, state.offset, state.image))
+
+    def lease(self, name: str, holder: str, milliseconds: int) -> bool:
+        return bool(self.ask("EVAL", LEASE, 1, name, holder, milliseconds))
+
+    def release(self, name: str, holder: str) -> None:
+        self.ask("EVAL", RELEASE, 1, name, holder)

@@ -1,0 +1,53 @@
+"""Sends commands to a Redis server, and reads its replies (RESP 2), with the standard library alone."""
+
+from __future__ import annotations
+
+import socket
+from typing import Any, Union
+
+Word = Union[bytes, str, int]
+
+
+class RefusedByServer(Exception):
+    """The server refused a command; it says why."""
+
+
+class Connection:
+    """A connection to a server. OSError where it does not answer: then no command may follow."""
+
+    def __init__(self, host: str, port: int, seconds: float) -> None:
+        self.socket = socket.create_connection((host, port), seconds)
+        self.socket.setsockopt(socket.IPPROTO_TCP, socket.TCP_NODELAY, 1)
+        self.file = self.socket.makefile("rb")
+
+    def close(self) -> None:
+        self.file.close()
+        self.socket.close()
+
+    def ask(self, *words: Word) -> Any:
+        """The reply to a command: an int, bytes, None, or a list of such; RefusedByServer where it is an error."""
+        parts = [word if isinstance(word, bytes) else str(word).encode() for word in words]
+        self.socket.sendall(b"*%d\r\n" % len(parts) + b"".join(b"$%d\r\n%s\r\n" % (len(p), p) for p in parts))
+        return self.reply()
+
+    def reply(self) -> Any:
+        line = self.file.readline()
+        if not line.endswith(b"\r\n"):
+            raise ConnectionError("the server ended the connection")
+        sign, rest = line[:1], line[1:-2]
+        if sign == b"-":
+            raise RefusedByServer(rest.decode(errors="replace"))
+        if sign == b"+":
+            return rest
+        size = int(rest)
+        if sign == b":":
+            return size
+        if size < 0:
+            return None
+        return [self.reply() for _ in range(size)] if sign == b"*" else self.bulk(size)
+
+    def bulk(self, size: int) -> bytes:
+        data = self.file.read(size + 2)
+        if len(data) < size + 2:
+            raise ConnectionError("the server ended the connection")
+        return data[:size]

@@ -1,0 +1,378 @@
+"""A stream by key over a broker: what the brokers promise, where lines go, and that no kill loses or doubles an
+answer."""
+
+from __future__ import annotations
+
+import os
+import shutil
+import subprocess
+import tempfile
+import time
+import unittest
+from collections import Counter
+from dataclasses import dataclass
+from pathlib import Path
+from typing import Callable, Optional, Sequence
+
+from support import DESK_PROGRAM
+
+from sozhipen_tools.places import command_of
+from sozhipen_tools.reference.desk import desk_at_start
+from sozhipen_tools.reference.images.resume import saved
+from sozhipen_tools.reference.meaning.program import Program
+from sozhipen_tools.reference.meaning.run import program_or_refusal
+from sozhipen_tools.stream import trial
+from sozhipen_tools.stream.answered import Answered, differences_of_all, firings, lines_of_partitions, one_run, planted
+from sozhipen_tools.stream.broker import (NOTHING, Broker, Entry, MemoryBroker, State, Unreachable, answers_of,
+                                          script_of, state_of, until_reached)
+from sozhipen_tools.stream.collect import collected, last_of_all
+from sozhipen_tools.stream.engine import Engine, Interrupted, Stopped
+from sozhipen_tools.stream.entries import Numbered, data_of, lines_in
+from sozhipen_tools.stream.look import found_in
+from sozhipen_tools.stream.redis_broker import RedisBroker, address_of
+from sozhipen_tools.stream.router import Mixed, Router, Routes
+from sozhipen_tools.stream.worker import Lost, Worker
+
+PARTITIONS = 3
+HAS_REDIS = shutil.which("redis-server") is not None
+NO_REDIS = "there is no redis-server"
+
+
+def program_of(rules: str) -> Program:
+    program = program_or_refusal(rules.encode())
+    assert isinstance(program, Program), program
+    return program
+
+
+PROGRAM = program_of(trial.RULES)
+
+
+class Evaluator(Engine):
+    """The second evaluator within this process."""
+
+    def run(self, image: bytes, script: bytes) -> tuple[bytes, bytes]:
+        desk = desk_at_start(PROGRAM, self.limit, True, image or None, None)
+        for line in script.split(b"\n")[:-1]:
+            desk.number += 1
+            desk.line(desk.number, line)
+        return b"".join(line.encode() + b"\n" for line in desk.lines), saved(desk)
+
+
+EVALUATOR = Evaluator((), "")
+
+
+class Killed(Exception):
+    """The process was killed."""
+
+
+@dataclass
+class Killing(MemoryBroker):
+    """A broker at whose operation of a number who asks is killed, or does not reach it: before it is done or behind."""
+    at: int
+    error: type[Exception]
+    is_behind: bool
+
+    def __post_init__(self) -> None:
+        super().__init__()
+        self.count = 0
+
+    def count_then(self, ask: Callable[[], object]) -> object:
+        self.count += 1
+        if self.count == self.at and not self.is_behind:
+            raise self.error
+        found = ask()
+        if self.count == self.at:
+            raise self.error
+        return found
+
+    def append(self, log: str, behind: int, entries: Sequence[Entry]) -> bool:
+        return bool(self.count_then(lambda: MemoryBroker.append(self, log, behind, entries)))
+
+    def keep(self, name: str, state: State) -> bool:
+        return bool(self.count_then(lambda: MemoryBroker.keep(self, name, state)))
+
+    def release(self, name: str, holder: str) -> None:
+        self.count_then(lambda: MemoryBroker.release(self, name, holder))
+
+
+def route_all(broker: Broker, script: list[bytes], most: int = 7, flush: int = 10) -> None:
+    """Routes a script from its first line, as a router that was begun again does."""
+    routes, router = Routes(PROGRAM, "card", PARTITIONS), Router(broker, PARTITIONS, most)
+    for number, line in enumerate(script):
+        router.take(routes.route(line))
+        if number % flush == 0:
+            router.flush()
+    router.flush()
+
+
+def answer_all(broker: Broker, engine: Engine, holder: str, most: int = 3) -> None:
+    worker = Worker(broker, engine, holder, lease=1, most=most)
+    while not worker.is_done(PARTITIONS):
+        worker.round(PARTITIONS)
+
+
+def again(work: Callable[[], None]) -> None:
+    """Does work again where it was killed, or did not reach the broker."""
+    while True:
+        try:
+            return work()
+        except (Killed, Unreachable):
+            time.sleep(0.002)
+
+
+class Brokers(unittest.TestCase):
+    def check(self, broker: Broker) -> None:
+        first, second, third = Entry(3, b"a\n\0\r\n"), Entry(5, b""), Entry(9, b"c")
+        self.assertEqual((broker.last("log"), broker.read("log", 0, 9)), (0, []))
+        self.assertFalse(broker.append("log", 1, [first]))
+        self.assertTrue(broker.append("log", 0, [first, second]))
+        self.assertFalse(broker.append("log", 0, [first]))
+        self.assertFalse(broker.append("log", 3, [third]))
+        self.assertTrue(broker.append("log", 5, [third]))
+        self.assertEqual((broker.last("log"), broker.read("log", 3, 9)), (9, [second, third]))
+        self.assertEqual(broker.read("log", 0, 1), [first])
+        self.assertEqual(broker.state("state"), NOTHING)
+        self.assertTrue(broker.keep("state", State(10, b"\xff\n")))
+        self.assertFalse(broker.keep("state", State(9, b"old")))
+        self.assertFalse(broker.keep("state", State(10, b"same")))
+        self.assertEqual(broker.state("state"), State(10, b"\xff\n"))
+        self.assertTrue(broker.lease("lease", "a", 10_000) and broker.lease("lease", "a", 50))
+        self.assertFalse(broker.lease("lease", "b", 50))
+        time.sleep(0.1)
+        self.assertTrue(broker.lease("lease", "b", 10_000))
+        broker.release("lease", "a")
+        self.assertFalse(broker.lease("lease", "a", 50))
+        broker.release("lease", "b")
+        self.assertTrue(broker.lease("lease", "a", 50))
+
+    def test_memory(self) -> None:
+        self.check(MemoryBroker())
+
+    def test_addresses(self) -> None:
+        self.assertEqual(address_of("6380"), ("127.0.0.1", 6380))
+        self.assertEqual(address_of("log.example:6380"), ("log.example", 6380))
+
+    @unittest.skipUnless(HAS_REDIS, NO_REDIS)
+    def test_redis(self) -> None:
+        with tempfile.TemporaryDirectory() as folder:
+            server = trial.Server(Path(folder))
+            broker = RedisBroker(server.address)
+            try:
+                until_reached(lambda: broker.last("log"))
+                self.check(broker)
+                server.kill()
+                with self.assertRaises(Unreachable):
+                    broker.last("log")
+                self.assertEqual(until_reached(lambda: broker.last("log")), 9)
+                self.assertEqual(broker.state("state"), State(10, b"\xff\n"))
+            finally:
+                broker.close()
+                server.process.kill()
+                server.process.wait()
+
+
+class Routing(unittest.TestCase):
+    def routed(self, *lines: bytes, rules: Optional[str] = None) -> list[tuple[list[bytes], list[int]]]:
+        routes = Routes(PROGRAM if rules is None else program_of(rules), "card", PARTITIONS)
+        return [routes.route(line)[1:] for line in lines]
+
+    def test_by_key(self) -> None:
+        event, table = trial.withdrawal(trial.random.Random(1), 0), b'{"do":"insert","type":"Most","fields":{}}'
+        everybody = list(range(PARTITIONS))
+        retract = b'{"do":"retract","type":"Most","id":1}'
+        found = self.routed(table, retract, event, event, retract, b"", b"x", b'{"do":"held"}')
+        self.assertEqual([partitions for _, partitions in found[:2]], [everybody] * 2)
+        self.assertEqual(found[2], found[3])
+        self.assertEqual(len(found[2][1]), 1)
+        self.assertEqual([partitions for _, partitions in found[4:]], [[], [0], [0], everybody])
+
+    def event(self, at: int, entry: str = "ATM", cents: object = 5) -> bytes:
+        fields = {"at": at, "card": "c1", "place": "harbour", "cents": cents}
+        return trial.line_of("insert", type="Withdrawal", entry=entry, fields=fields)
+
+    def test_promises(self) -> None:
+        fire, promise = b'{"do":"fire"}', '{"do":"promise","entry":"ATM","from":%d}'
+        script = [trial.line_of("at", ms=10_000), fire, self.event(7000), self.event(6000), self.event(10_001),
+                  self.event(9000, "DEFAULT"), self.event(9500, cents="5"), fire, fire, self.event(8000), fire]
+        lines = [lines for lines, _ in self.routed(*script)]
+        self.assertEqual([lines[k] for k in (1, 7, 8, 10)],
+                         [[fire], [(promise % 7000).encode(), fire], [fire], [(promise % 8000).encode(), fire]])
+
+    def test_promises_of_the_script(self) -> None:
+        fire, promise = b'{"do":"fire"}', '{"do":"promise","entry":"ATM","from":%d}'
+        script = [trial.line_of("at", ms=10_000), self.event(7000), fire, (promise % 6000).encode(),
+                  (promise % 5000).encode(), (promise % 9000).encode(), fire, self.event(9000), fire]
+        lines = [lines for lines, _ in self.routed(*script)]
+        self.assertEqual(lines[3:6], [[(promise % at).encode()] for at in (7000, 5000, 9000)])
+        self.assertEqual(lines[6:], [[fire], [self.event(9000)], [fire]])
+
+    def test_two_routers_do_not_mix(self) -> None:
+        broker = MemoryBroker()
+        routers = [Router(broker, 1, 10) for _ in range(2)]
+        for number, router in enumerate(routers, 1):
+            router.take(Routes(PROGRAM, "card", 1).route(b'{"do":"held"}')._replace(number=number))
+        routers[0].flush()
+        with self.assertRaises(Mixed):
+            routers[1].flush()
+
+    def test_another_script(self) -> None:
+        broker, script = MemoryBroker(), trial.script(30, 1)
+        route_all(broker, script)
+        route_all(broker, [*script, b'{"do":"held"}'])
+        self.assertEqual(broker.last(script_of(0)), len(script) + 1)
+        for other in ([*script, b'{"do":"fire"}'], [*script, script[-3], script[-1]]):
+            with self.assertRaises(Mixed):
+                route_all(broker, other)
+
+
+class Engines(unittest.TestCase):
+    @staticmethod
+    def engine(command: str) -> Engine:
+        """A desk that takes its input and does this; `$3` is the file of its image."""
+        return Engine(("sh", "-c", f"cat > /dev/null; {command}"), "")
+
+    def test_statuses(self) -> None:
+        for command, error in (("exit 3", Stopped), ("exit 9", Stopped), ("exit 6", Interrupted),
+                               ("exit 7", Interrupted), ("kill -9 $$", Interrupted)):
+            with self.subTest(command), self.assertRaises(error):
+                self.engine(command).run(b"", b"x\n")
+
+    def test_a_turn(self) -> None:
+        entries = [Entry(4, data_of([Numbered(3, b"a"), Numbered(4, b"b")])), Entry(6, data_of([Numbered(6, b"c")]))]
+        said = "fire \\\"done 3\\\" #1\\ndone 1\\ndone 2\\nnew #2 A\\n"
+        command = f'printf next >> "$3"; printf "{said}done 3\\n"'
+        answers, state = self.engine(command).turn(State(2, b"old "), entries)
+        self.assertEqual(answers, [Entry(4, b'3 fire "done 3" #1\n3 done 1\n4 done 2\n'),
+                                   Entry(6, b"6 new #2 A\n6 done 3\n")])
+        self.assertEqual(state, State(6, b"old next"))
+        with self.assertRaises(Stopped):
+            self.engine(f'printf next >> "$3"; printf "{said}"').turn(NOTHING, entries)
+
+    def test_answers_that_the_broker_lost(self) -> None:
+        broker = MemoryBroker()
+        broker.append(script_of(0), 0, [Entry(1, b"1 x\n"), Entry(2, b"2 x\n")])
+        broker.keep(state_of(0), EVALUATOR.turn(NOTHING, broker.read(script_of(0), 0, 1))[1])
+        with self.assertRaises(Lost):
+            Worker(broker, EVALUATOR, "a").turn(0)
+
+
+class Kills(unittest.TestCase):
+    """The stream in one process, where the one who asks is killed at every fifth operation."""
+
+    @classmethod
+    def setUpClass(cls) -> None:
+        cls.script = trial.script(60, 3)
+        parts = lines_of_partitions(cls.script, Routes(PROGRAM, "card", PARTITIONS))
+        cls.runs = [one_run(EVALUATOR, part) for part in parts]
+
+    script: list[bytes]
+    runs: list[list[Answered]]
+
+    def stream(self, broker: Broker) -> None:
+        again(lambda: route_all(broker, self.script))
+        again(lambda: answer_all(broker, EVALUATOR, "a"))
+
+    def test_without_kills(self) -> None:
+        broker = MemoryBroker()
+        self.stream(broker)
+        self.assertEqual(differences_of_all(broker, self.runs), [])
+        whole = one_run(EVALUATOR, [Numbered(*line) for line in enumerate(self.script, 1)])
+        self.assertEqual(sum(map(firings, self.runs), Counter()), firings(whole))
+        self.assertGreater(sum(firings(whole).values()), 10)
+
+    def test_operations(self) -> None:
+        counted = Killing(0, Killed, False)
+        self.stream(counted)
+        for at in range(1, counted.count + 1, 5):
+            for error, is_behind in ((Killed, False), (Killed, True), (Unreachable, at % 2 == 0)):
+                with self.subTest(at=at, error=error, is_behind=is_behind):
+                    broker = Killing(at, error, is_behind)
+                    self.stream(broker)
+                    self.assertEqual(differences_of_all(broker, self.runs), [])
+
+    def test_two_workers_on_one_lease(self) -> None:
+        broker = MemoryBroker()
+        route_all(broker, self.script)
+        slow, fast = Worker(broker, EVALUATOR, "slow", most=2), Worker(broker, EVALUATOR, "fast", most=3)
+        while not slow.is_done(PARTITIONS):
+            for partition in range(PARTITIONS):
+                slow.answer(partition)
+                fast.answer(partition)
+        self.assertEqual(differences_of_all(broker, self.runs), [])
+        self.assertEqual([broker.state(state_of(p)).offset for p in range(PARTITIONS)],
+                         [broker.last(script_of(p)) for p in range(PARTITIONS)])
+
+    def test_what_is_planted_is_found(self) -> None:
+        broker = MemoryBroker()
+        self.stream(broker)
+        for what, said in (("double", "is answered twice"), ("lost", "is not answered")):
+            found = differences_of_all(planted(broker, 1, what), [[], self.runs[1]])
+            self.assertRegex("\n".join(found), rf"\Apartition 1: line \d+ {said}")
+
+    def test_collect(self) -> None:
+        broker = MemoryBroker()
+        self.stream(broker)
+        everything = list(collected(broker, PARTITIONS, 0, 1 << 30))
+        self.assertEqual([answer.place for answer in everything], sorted(answer.place for answer in everything))
+        self.assertEqual(len(everything), sum(len(line.answers) for run in self.runs for line in run))
+        end = last_of_all(broker, PARTITIONS)
+        self.assertEqual(end, min(broker.last(answers_of(p)) for p in range(PARTITIONS)))
+        self.assertEqual(list(collected(broker, PARTITIONS, 0, 50)) + list(collected(broker, PARTITIONS, 50, 1 << 30)),
+                         everything)
+
+    def test_entries(self) -> None:
+        lines = [Numbered(1, b"a b"), Numbered(1, b""), Numbered(12, b" c ")]
+        self.assertEqual(list(lines_in(data_of(lines))), lines)
+
+
+LOOKED_AT = """
+declare Most @reference place : String cents : long end
+declare Scan @role( event ) @timestamp( at ) at : long card : String peer : String place : String cents : long end
+declare Told @role( event ) @expires( 1m ) card : String end
+declare Alarm place : String end
+rule "good" when
+  $a : Scan( $c : card, $p : place ) Most( place == $p ) $b : Scan( card == $a.card ) not( Told( card == $c ) )
+  accumulate( Scan( card == $b.card, $x : cents ); $n : sum( $x ); $n > 4 )
+then insert( new Told( $c ) ); end
+rule "peers" when $a : Scan( $c : card, $p : peer ) Scan( card == $p )
+then insert( new Told( $p ) ); insert( new Alarm( "x" ) ); end
+rule "all" when Scan( $c : card ) not( Told() ) accumulate( Scan( $x : cents ); $n : sum( $x ); $n > 4 ) then end
+rule "table" when Most( cents > 5 ) then end
+rule "alarm" when Scan( $p : place ) $l : Alarm( place == $p ) then retract( $l ); end
+rule "last" when Scan() over window:length( 5 ) then end
+rule "constant" when Scan( card == "c1" ) over window:length( 5 ) exists( Told( card == "c1" ) ) then end
+rule "or" when Scan( $c : card ) ( Told( card == $c ) or Told( card != $c ) or Told( card == $c || card == "b" ) )
+then end
+"""
+
+
+class Looking(unittest.TestCase):
+    def names(self, rules: str) -> Counter[tuple[str, str]]:
+        return Counter((found.code, found.what.split('"')[1]) for found in found_in(rules.encode(), "card"))
+
+    def test_within_the_key(self) -> None:
+        self.assertEqual(self.names(trial.RULES), Counter())
+
+    def test_not_within_the_key(self) -> None:
+        self.assertEqual(self.names(LOOKED_AT), Counter({
+            ("other-key", "peers"): 2, ("other-key", "all"): 2, ("no-key", "table"): 1, ("made", "alarm"): 1,
+            ("shared", "alarm"): 1, ("length", "last"): 1, ("other-key", "or"): 2}))
+
+    def test_an_event_that_moves_a_floor(self) -> None:
+        late = LOOKED_AT + 'declare entry-point "DEFAULT" @lateness( 1s ) end'
+        self.assertEqual(self.names(late) - self.names(LOOKED_AT),
+                         Counter({("late", "good"): 1, ("late", "peers"): 1}))
+
+
+@unittest.skipUnless(HAS_REDIS, NO_REDIS)
+@unittest.skipUnless(os.access(DESK_PROGRAM, os.X_OK), f"there is no program {DESK_PROGRAM}")
+class OverRedis(unittest.TestCase):
+    def test_kills(self) -> None:
+        command = [*command_of("stream.trial"), "--kills", "20", "--between", "0.4", "--desk", DESK_PROGRAM]
+        done = subprocess.run(command, capture_output=True, text=True, check=False, timeout=120)
+        self.assertEqual(done.returncode, 0, done.stdout + done.stderr)
+        self.assertIn("same: all answers, each once", done.stdout)
+
+
+if __name__ == "__main__":
+    unittest.main()
