@@ -230,7 +230,7 @@ class Costs(Case):
         self.assertEqual([row.split()[:2] for row in rows],
                          [[name, number] for name in rule_files.FILES for number in ("4", "8")])
         self.assertEqual([row.split()[8] for row in rows[1::2]],
-                         ["accepted"] * 2 + ["refused"] * 2 + ["accepted"] * 5 + ["accepted", "refused"])
+                         ["accepted"] * 2 + ["refused"] * 2 + ["accepted"] * 6 + ["refused"] * 2)
 
     def test_libraries_are_counted_to_the_crates_that_call_them(self) -> None:
         text = """fn=(1) session::step|3 10|cfn=(2) std::list::push'2|calls=1 0|4 30|fn=(2)|1 20|cfn=(3) malloc
