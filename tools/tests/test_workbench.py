@@ -127,7 +127,7 @@ class Work(unittest.TestCase):
     def test_a_run_that_takes_too_long(self) -> None:
         rules = ('declare A n : long end rule "tick" when $a : A() $b : A() $c : A( n != $a.n ) then modify( $a ) { n '
                  '= $a.n + 1 } end')
-        script = '{"do":"insert","type":"A","fields":{"n":1}}\n' * 400 + '{"do":"fire"}\n'
+        script = '{"do":"insert","type":"A","fields":{"n":1}}\n' * 1_200 + '{"do":"fire"}\n'
         said = work(seconds=2, rules=rules, script=script)
         self.assertEqual(said[-1]["kind"], "note")
         self.assertIn("ended after 2 s", said[-1]["text"])
