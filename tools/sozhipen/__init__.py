@@ -3,11 +3,11 @@
     from sozhipen import Session
 """
 
-from .answers import ClientError, Ended, Fact, Fault, Firing, NoProgram, NotKnown
+from .answers import Answer, ClientError, Ended, Fact, Fault, Firing, NoProgram, NotKnown
 from .lines import Script
 from .ordering import Ordered
 from .programs import program_words
-from .session import Answer, Session
+from .session import Session
 from .times import date_of, milliseconds
 
 __all__ = ["Answer", "ClientError", "Ended", "Fact", "Fault", "Firing", "NoProgram", "NotKnown", "Ordered", "Script",

@@ -1,36 +1,28 @@
-"""What a program answers, as objects; and the lines in which it answers."""
+"""What a program answers, as objects."""
 
 from __future__ import annotations
 
-import json
-import re
 from dataclasses import dataclass, field
 from datetime import datetime
-from typing import Any, Optional, Union
+from typing import TYPE_CHECKING, Any, Optional, Union
 
 from .times import date_of
 
-Value = Union[int, bool, str]
+if TYPE_CHECKING:
+    from .session import Session
 
-FIRE = re.compile(r'fire ("(?:[^"\\]|\\.)*")((?: #[0-9]+| =-?[0-9]+)*)')
-CELL = re.compile(r"([#=])(-?[0-9]+)")
-NEW = re.compile(r"new #([0-9]+) (\w+)")
-FAULT = re.compile(r"fault ([0-9]+) (\w+)")
-HELD = re.compile(r"held (\w+) ([0-9]+)")
-# What closes a line, and what tells the limit of a fire line: both have the number of the line.
-DONE = re.compile(r"done ([0-9]+)")
-LIMIT = re.compile(r"limit ([0-9]+) ([0-9]+)")
+Value = Union[int, bool, str]
 
 
 @dataclass(frozen=True)
 class Fact:
-    """A fact or an event with its values at one moment: those that were sent, or that the actions of rules gave.
-    `values` is None where they are not known; `rule` names the rule that inserted it, None where a line of the script
-    did."""
+    """A fact or an event with its values at one moment. `values` is None where they are not known; `entry` is the entry
+    point by which it came, None where that is not known; `rule` names the rule that inserted it, None where a line of
+    the script did, or where that is not known."""
     id: int
     type: str
     values: Optional[dict[str, Value]] = None
-    entry: str = "DEFAULT"
+    entry: Optional[str] = "DEFAULT"
     rule: Optional[str] = None
 
     def __getitem__(self, name: str) -> Value:
@@ -58,6 +50,9 @@ class Fault:
         return f"fault {self.line} {self.code}" + ("" if self.rule is None else f" (an action of {self.rule})")
 
 
+Names = dict[str, Union[Fact, Value]]
+
+
 @dataclass
 class Firing:
     """A firing: the line that made it and the clock then, a fact for each pattern, a result for each accumulate, what
@@ -68,7 +63,7 @@ class Firing:
     clock: int
     facts: list[Fact]
     results: list[int]
-    names: dict[str, Union[Fact, Value]] = field(default_factory=dict)
+    names: Names = field(default_factory=dict)
     made: list[Fact] = field(default_factory=list)
     modified: list[Fact] = field(default_factory=list)
     retracted: list[Fact] = field(default_factory=list)
@@ -89,6 +84,81 @@ class Firing:
                 "facts": [fact.as_json() for fact in self.facts], "results": self.results, "names": values}
 
 
+class Answer:
+    """The answer of one line. `number` counts the lines of the session from 1, `line` those of the run, the ones before
+    its image too; `place` counts all that go to the program. `command` is the line's reading, None where it has none,
+    and `clock` the moment behind the line. What is asked of it below waits until the answer has come, and raises Ended
+    where it cannot come any more."""
+
+    def __init__(self, session: "Session", number: int, text: str, command: Optional[dict[str, Any]]):
+        self.session, self.number, self.text, self.command = session, number, text, command
+        self.place = number
+        self.clock = 0
+        self.done = False
+        self.told_fact: Optional[Fact] = None
+        self.told_fault: Optional[Fault] = None
+        self.told_firings: list[Firing] = []
+        self.told_held: dict[str, int] = {}
+        self.told_limit: Optional[int] = None
+        self.told_pending: Optional[bool] = None
+        self.told_kept: list[Fact] = []
+        self.told_counts: Optional[dict[str, Any]] = None
+        self.told_saved = False
+
+    @property
+    def line(self) -> int:
+        """The number of the line in the run. With an image that only the program can read, an answer has to come
+        first; and the clock is known from the first `at`, firing or counts."""
+        return self.session.reading.lines_before + self.number
+
+    @property
+    def word(self) -> Optional[str]:
+        """The word behind `do`."""
+        word = self.command.get("do") if self.command else None
+        return word if isinstance(word, str) else None
+
+    def wait(self, seconds: Optional[float] = None) -> "Answer":
+        """Waits until the answer has come, or TimeoutError."""
+        self.session.await_answer(self, seconds)
+        return self
+
+    @property
+    def fact(self) -> Optional[Fact]:
+        """The fact that an insert made, None where it was faulty."""
+        return self.wait().told_fact
+
+    @property
+    def fault(self) -> Optional[Fault]:
+        """The fault of the line, None where it was good. Faults of actions stand in the firings."""
+        return self.wait().told_fault
+
+    @property
+    def firings(self) -> list[Firing]:
+        return self.wait().told_firings
+
+    @property
+    def fired(self) -> int:
+        """How many firings a fire line made."""
+        return len(self.firings)
+
+    @property
+    def pending(self) -> Optional[bool]:
+        """Whether a match is pending behind a fire line, and waits for the next one. None of other lines, and where it
+        is not known: `replay` does not tell where the `max` of the line is reached."""
+        return self.wait().told_pending
+
+    @property
+    def held(self) -> dict[str, int]:
+        """By type how many of its events are kept."""
+        return self.wait().told_held
+
+    @property
+    def limit(self) -> Optional[int]:
+        """The limit of firings that a fire line of a `desk` met: a match is pending behind it, and waits for the next
+        fire. None where it met none."""
+        return self.wait().told_limit
+
+
 class ClientError(Exception):
     """What the client raises."""
 
@@ -98,7 +168,7 @@ class NoProgram(ClientError):
 
 
 class NotKnown(ClientError):
-    """The program does not know a word of the script."""
+    """The program does not know a word of the script, or the client not what is asked of it."""
 
 
 class Ended(ClientError):
@@ -108,8 +178,3 @@ class Ended(ClientError):
         how = f"status {status}" if status >= 0 else f"killed by signal {-status}"
         super().__init__(f"the program ended: {said + ', ' if said else ''}{how}")
         self.status, self.said = status, said
-
-
-def text_of(quoted: str) -> str:
-    """The name of a rule as it is printed, without quotes and escapes."""
-    return json.loads(quoted, strict=False)

@@ -19,8 +19,8 @@ from typing import Any
 
 from sozhipen_tools.words import Parser
 
-from .answers import Ended, Fault, Firing, NoProgram
-from .session import Answer, Session
+from .answers import Answer, Ended, Fault, Firing, NoProgram
+from .session import Session
 
 NOT_STARTED, NOT_WRITTEN, INTERRUPTED = 70, 6, 130
 
@@ -45,6 +45,17 @@ def say_firing(firing: Firing) -> None:
         say_fault(fault, firing.clock)
 
 
+def say_asked(answer: Answer) -> None:
+    """What only a desk answers."""
+    for fact in answer.told_kept:
+        say(line=answer.line, at=answer.clock, kept=fact.as_json())
+    if answer.told_counts is not None:
+        say(line=answer.line, at=answer.clock,
+            **{key: value for key, value in answer.told_counts.items() if key not in ("line", "clock")})
+    if answer.told_saved:
+        say(line=answer.line, at=answer.clock, saved=True)
+
+
 def say_answer(answer: Answer) -> None:
     """Prints what a line answered. It is called as the answers come, so that a reader on a pipe has them at once."""
     try:
@@ -58,6 +69,7 @@ def say_answer(answer: Answer) -> None:
             say_firing(firing)
         if answer.told_limit is not None:
             say(line=answer.line, at=answer.clock, limit=answer.told_limit)
+        say_asked(answer)
     except BrokenPipeError:
         os._exit(NOT_WRITTEN)
 
@@ -91,5 +103,5 @@ def main(words: list[str]) -> int:
         session.kill()
         return INTERRUPTED
     except Ended as ended:
-        say(line=session.lines, at=session.book.clock, ended=ended.said, status=ended.status)
+        say(line=session.lines, at=session.clock, ended=ended.said, status=ended.status)
         return ended.status if ended.status >= 0 else NOT_STARTED

@@ -8,10 +8,10 @@ from itertools import count
 from pathlib import Path
 from typing import Any, Optional, Union
 
-from .answers import ClientError
+from .answers import Answer, ClientError
 from .lines import line_of
 from .record import Record, lines_in
-from .session import Answer, Session
+from .session import Session
 
 
 class Ordered:
@@ -31,11 +31,11 @@ class Ordered:
                  record: Union[None, str, Path] = None):
         if session.rules is None:
             session.close()
-            raise ClientError("the second evaluator refuses the rule file")
+            raise ClientError("the rule file is not there for the client, or refused: it has no latenesses")
         self.session, self.lateness, self.step = session, lateness, step
         self.rules = session.rules
-        self.clock = session.book.clock
-        self.held: list[tuple[int, int, tuple]] = []
+        self.clock = session.clock
+        self.held: list[tuple[int, int, tuple[str, dict[str, Any], Optional[str]]]] = []
         self.order = count()
         self.record: Optional[Record] = None
         self.again: list[Answer] = []

@@ -1,5 +1,4 @@
-"""The programs that a session speaks to: `replay`, and `desk`, which closes each line of the script by a line of its
-own."""
+"""The programs that a session speaks to: `replay`, which answers in text, and `desk`, which answers in objects."""
 
 from __future__ import annotations
 
@@ -37,4 +36,4 @@ def is_desk(words: list[str]) -> bool:
 def option_words(live: bool, limit: Optional[int], image: Union[None, str, Path]) -> list[str]:
     """The options of a run with a limit of firings and an image, of `desk` where it is live."""
     options = [("--limit", limit), ("--image" if live else "--resume", image)]
-    return (["--text"] if live else []) + [f"{name}={value}" for name, value in options if value is not None]
+    return [f"{name}={value}" for name, value in options if value is not None]

@@ -81,6 +81,20 @@ def progress(clock: int, lines: int) -> Iterator[Family]:
     yield Family.of_one("sozhipen_script_lines_total", "counter", "Lines of the script so far.", lines)
 
 
+def all_firings(firings: int) -> Family:
+    return Family.of_one("sozhipen_firings_total", "counter", "Firings so far, those before earlier images among them.",
+                         firings)
+
+
+def kept_facts(kept: Mapping[str, int]) -> Family:
+    return Family.of_each("sozhipen_kept_facts", "gauge", "Facts that are kept.", "type", kept)
+
+
+def of_floors(floors: Mapping[str, int]) -> Family:
+    return Family.of_each("sozhipen_floor_milliseconds", "gauge", "The earliest start that an entry point accepts.",
+                          "entry", floors)
+
+
 def of_counts(counts: Mapping[str, Any]) -> Iterator[Family]:
     """What `counts()` of a client's session tells."""
     yield from progress(counts["clock"], counts["lines"])
@@ -88,8 +102,14 @@ def of_counts(counts: Mapping[str, Any]) -> Iterator[Family]:
                          counts["firings"])
     yield Family.of_each("sozhipen_faults_total", "counter", "Faulty lines and actions since this program began.",
                          "code", counts["faults"])
-    yield Family.of_each("sozhipen_named_facts", "gauge", "Plain facts, and events that an answer may still name.",
-                         "type", counts["facts"])
+    if "facts" in counts:
+        yield Family.of_each("sozhipen_named_facts", "gauge", "Plain facts, and events that an answer may still name.",
+                             "type", counts["facts"])
+    if "kept" in counts:
+        yield all_firings(counts["all_firings"])
+        yield kept_facts(counts["kept"])
+        yield Family.of_one("sozhipen_pending_matches", "gauge", "Matches that wait for a fire.", counts["pending"])
+        yield of_floors(counts["floors"])
 
 
 def floors(image: Image, program: Program) -> dict[str, int]:
@@ -106,18 +126,15 @@ def of_image(image: Image, program: Program) -> Iterator[Family]:
     fired = Counter(program.title(match.rule) for match in image.fired)
     titles = dict.fromkeys(program.title(rule) for rule in range(len(program.rules)))
     yield from progress(image.clock, image.run.lines)
-    yield Family.of_one("sozhipen_firings_total", "counter", "Firings so far, those before earlier images among them.",
-                        image.run.firings)
+    yield all_firings(image.run.firings)
     yield Family.of_one("sozhipen_faulty", "gauge", "1 if some line or action so far was faulty.",
                         int(image.run.faulty))
-    yield Family.of_each("sozhipen_kept_facts", "gauge", "Facts that are kept.", "type",
-                         {name: kept[name] for name in types})
+    yield kept_facts({name: kept[name] for name in types})
     yield Family.of_each("sozhipen_fired_matches", "gauge", "Matches that have fired and still stand.", "rule",
                          {title: fired[title] for title in titles})
     yield Family.of_one("sozhipen_rows_with_forgotten_events", "gauge",
                         "Rows of conditions that still count forgotten events.", len(image.extras))
-    yield Family.of_each("sozhipen_floor_milliseconds", "gauge", "The earliest start that an entry point accepts.",
-                         "entry", floors(image, program))
+    yield of_floors(floors(image, program))
 
 
 def of_file(path: Path) -> Iterator[Family]:

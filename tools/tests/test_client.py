@@ -349,7 +349,7 @@ class FromImage(Case):
             f'{{"do":"insert","type":"Reading","entry":"plant","fields":{{"at":{at},"value":1}}}}\n'
             for at in (3000, 5000))
         session = self.session(READINGS, image=self.image(READINGS, script))
-        self.assertEqual((session.book.clock, [fact["at"] for fact in session.facts]), (5000, [3000, 5000]))
+        self.assertEqual((session.clock, [fact["at"] for fact in session.facts]), (5000, [3000, 5000]))
         session.at(64_000)
         self.assertEqual((session.fire().firings, [fact["at"] for fact in session.facts]), ([], [5000]))
         self.assertEqual(Ordered(session).clock, 64_000)

@@ -28,7 +28,7 @@ rule "beat" when Beat() then end
 """
 # A program that answers each of these lines once a line has come, and ends with a status.
 ANSWERING = """import sys
-for text in sys.argv[2:]:
+for text in sys.argv[2:sys.argv.index("--")]:
     sys.stdin.readline()
     print(text, flush=True)
 sys.stdin.read()
@@ -36,8 +36,15 @@ sys.exit(int(sys.argv[1]))
 """
 
 
+CLOCK = '{"fields":{"ticks":0},"line":1,"new":1,"type":"Clock"}'
+
+
 def answering(status: int, *lines: str) -> list[str]:
     return [sys.executable, "-c", ANSWERING, str(status), *lines]
+
+
+def closed(number: int) -> str:
+    return json.dumps({"done": number})
 
 
 def told(answer: Answer) -> tuple[Any, ...]:
@@ -81,8 +88,13 @@ class OverDesk(Case):
         for case in [case_of(9), case_of(15), case_of(16), lives_case_of(2), lives_case_of(14), shared_case_of(1)]:
             lines = [line.decode("utf-8", "surrogateescape") for line in case.script.split(b"\n")]
             replay, desk = self.both(case.rules.decode("utf-8"), lines)
-            self.assertEqual(desk, replay)
             self.assertGreater(sum(desk[len(lines)]["firings"].values()), 5)
+            facts = []
+            for told in (replay, desk):
+                told[len(lines)].pop("facts")
+                facts.append(told.pop(len(lines) + 1))
+            self.assertEqual(desk, replay)
+            self.assertEqual([fact for fact in facts[1] if fact not in facts[0]], [])
 
     def test_each_line_is_closed(self) -> None:
         """A silent line has its answer without another one behind it, and no line goes but the caller's."""
@@ -92,7 +104,7 @@ class OverDesk(Case):
         session.at(5).wait(60)
         session.send_line("").wait(60)
         self.assertEqual((session.fire().firings, session.held().held, seen), ([], {"Reading": 0}, [1, 2, 3, 4]))
-        self.assertEqual((session.places, session.begin().fault, session.close()), (4, None, 0))
+        self.assertEqual((session.lines, session.begin().fault, session.close()), (4, None, 0))
         self.assertEqual(len(record.read_bytes().splitlines()), 5)
 
     def test_a_rule_that_feeds_itself(self) -> None:
@@ -118,19 +130,20 @@ class OverDesk(Case):
     def test_an_image_that_is_gone_on_from(self) -> None:
         image = self.folder / "image"
         first = self.desk(BILLS, image=image, limit=1)
-        self.assertEqual((first.before, image.exists()), (None, False))
+        self.assertEqual((first.lines, "before" in first.known_counts(), image.exists()), (0, False, False))
         first.insert("Order", {"number": 1, "cents": 5, "paid": False})
         self.assertEqual((first.fire().limit, first.close()), (1, 0))
         second = self.desk(BILLS, image=image)
-        self.assertEqual((second.lines, [(fact.id, fact.values) for fact in second.facts]),
-                         (2, [(1, {"number": 1, "cents": 4, "paid": True}), (2, {"number": 1, "cents": 16})]))
+        self.assertEqual((second.lines, second.facts), (2, []))
         gone = second.fire().firings[0]
         self.assertEqual((gone.rule, gone.line, gone.facts[0]["cents"], gone.names["due"]), ("gone", 3, 4, 16))
+        self.assertEqual([fact.values for fact in gone.facts],
+                         [{"number": 1, "cents": 4, "paid": True}, {"number": 1, "cents": 16}])
         self.assertEqual([(fault.line, fault.code) for fault in gone.faults], [(3, "Absent")])
         self.assertEqual((second.insert("Bill", {"number": 2, "cents": 1}).fact.id, second.close()), (3, 1))
         third = self.desk(BILLS, image=image)
-        self.assertEqual((third.counts()["before"], third.advance(5).fault),
-                         ({"lines": 4, "firings": 2, "faulty": True}, None))
+        self.assertEqual((third.known_counts()["before"], third.advance(5).line, third.advance(5).fault),
+                         ({"lines": 4, "firings": 2, "faulty": True}, 5, None))
         self.assertEqual((third.faults, third.close()), ([], 1))
 
     def test_an_image_of_the_other_program(self) -> None:
@@ -147,11 +160,12 @@ class OverDesk(Case):
         image = self.folder / "image"
         for kill, before in ((True, None), (False, None), (True, 1), (False, 1)):
             session = self.desk(ENDLESS, image=image)
-            self.assertEqual(session.before and session.before.run.lines, before)
+            self.assertEqual(session.known_counts().get("before", {}).get("lines"), before)
             session.insert("Clock", {"ticks": 4}).wait()
             session.kill() if kill else session.close()
         again = session.restart()
-        self.assertEqual((again.live, again.lines, len(again.facts), again.close()), (True, 2, 2, 0))
+        self.assertEqual((again.live, again.lines, again.insert("Clock", {"ticks": 0}).fact.id, again.close()),
+                         (True, 2, 3, 0))
 
     def test_faulty_lines(self) -> None:
         session = self.desk(READINGS)
@@ -201,15 +215,16 @@ class Ends(Case):
 
     def test_statuses(self) -> None:
         for said, status in (("refused checkpoint TooLong", 9), ("", 6), ("", 11)):
-            session = self.desk(answering(status, "new #1 Clock\ndone 1", f"done 2\n{said}"))
+            session = self.desk(answering(status, f"{CLOCK}\n{closed(1)}", "\n".join(filter(None, [closed(2), said]))))
             self.assertEqual((session.insert("Clock", {"ticks": 0}).fact.id, session.at(1).fault), (1, None))
             with self.assertRaises(Ended) as caught:
                 session.close()
             self.assertEqual((caught.exception.said, caught.exception.status), (said, status))
 
     def test_a_program_that_dies(self) -> None:
-        dies = "import os, sys; sys.stdin.readline(); print('fire \"tick\" #1', flush=True); os.kill(os.getpid(), {})"
-        session = self.desk([sys.executable, "-c", dies.format(int(signal.SIGTERM))])
+        fire = '{"at":0,"facts":[],"fire":"tick","line":1,"results":[]}'
+        dies = f"import os, sys; sys.stdin.readline(); print('{fire}', flush=True); os.kill(os.getpid(), "
+        session = self.desk([sys.executable, "-c", f"{dies}{int(signal.SIGTERM)})"])
         answer = session.fire()
         with self.assertRaisesRegex(Ended, "killed by signal 15"):
             answer.wait()
@@ -219,16 +234,16 @@ class Ends(Case):
 
     def test_a_line_that_is_not_closed(self) -> None:
         """However the program ends: here as after a whole script."""
-        for program in (answering(0, "done 1", "new #1 Clock"), answering(1, "done 1")):
+        for program in (answering(0, closed(1), CLOCK), answering(1, closed(1))):
             session = self.desk(program)
             self.assertIsNone(session.at(1).fault)
-            answer = session.at(2) if "new #1 Clock" not in program else session.insert("Clock", {"ticks": 0})
+            answer = session.at(2) if CLOCK not in program else session.insert("Clock", {"ticks": 0})
             with self.assertRaises(Ended):
                 session.close()
             self.assertFalse(answer.done)
 
     def test_another_that_begins(self) -> None:
-        again = self.desk(answering(0, "done 1")).restart()
+        again = self.desk(answering(0, closed(1))).restart()
         self.assertEqual((again.live, again.at(1).fault, again.close()), (True, None, 0))
 
 

@@ -26,6 +26,7 @@ from sozhipen_tools.places import command_of
 from sozhipen_tools.reference.certificates.certify import proof_lines
 from sozhipen_tools.reference.meaning.lives import life_lines
 from sozhipen_tools.reference.meaning.run import program_or_refusal, report
+from sozhipen_tools.stream.brokers import KINDS
 
 IS_BUILT = os.access(PROGRAM, os.X_OK)
 PATHS = [TOP / "README.md", *sorted((TOP / "docs").glob("*.md")), TOP / "tools" / "README.md"]
@@ -49,8 +50,10 @@ NOT_RUN = {
     "tools/run workbench": "the form of a command; test_workbench runs it",
     "tools/run  ": "forms of commands",
     "python3 -m pip install": "it changes the machine",
+    "apt-get ": "it changes the machine",
     "=== 1 what": "the form of a case; the gate runs all cases",
     "tools/run bench.": "they take minutes; test_measure runs each tool and each load",
+    "tools/run stream.measure": "they take minutes; test_stream_trial runs them",
 }
 
 
@@ -190,13 +193,16 @@ class Commands(Pages):
                 self.assertEqual(self.tree.run(command).stdout, said, command)
 
     def test_a_live_run(self) -> None:
-        shown = self.block("DESK", "> ").text.splitlines(keepends=True)
-        script = "".join(line[2:] for line in shown if line.startswith("> "))
         programs = [command_of("reference.desk"), *([[DESK_PROGRAM]] if os.access(DESK_PROGRAM, os.X_OK) else [])]
-        for program in programs:
-            command = shlex.join([*program, "--limit", "3", "--text", "examples/endless.drl"])
-            self.assertEqual(self.tree.run(command, script).stdout,
-                             "".join(line for line in shown if not line.startswith("> ")), program)
+        blocks = [block for block in BLOCKS["DESK"] if block.text.startswith("> ")]
+        self.assertEqual(len(blocks), 2)
+        for block, words in zip(blocks, ([], ["--text"])):
+            shown = block.text.splitlines(keepends=True)
+            script = "".join(line[2:] for line in shown if line.startswith("> "))
+            wanted = "".join(line for line in shown if not line.startswith("> "))
+            for program in programs:
+                command = shlex.join([*program, "--limit", "3", *words, "examples/endless.drl"])
+                self.assertEqual(self.tree.run(command, script).stdout, wanted, program)
 
     def test_caller(self) -> None:
         if not IS_BUILT:
@@ -247,9 +253,15 @@ class Commands(Pages):
             else:
                 self.assertIn('sozhipen_rule_firings_total{desk="smoke",rule="no water"} 1\n', done.stdout, done.stderr)
 
-    @unittest.skipUnless(shutil.which("redis-server"), "there is no redis-server")
+    @unittest.skipUnless(KINDS["redis"].server(), "there is no redis-server")
     def test_partitions(self) -> None:
+        self.addCleanup(self.tree.run, "redis-cli -p 17400 shutdown nosave")
         self.commands("SCALING", "mkdir broker")
+
+    @unittest.skipUnless(KINDS["jetstream"].server(), "there is no nats-server")
+    def test_partitions_in_jetstream(self) -> None:
+        done = self.tree.run(self.block("SCALING", "mkdir nats").text)
+        self.assertEqual(done.stdout, after(self.block("SCALING", "mkdir broker")).text, done.stderr)
 
     def test_split(self) -> None:
         block = self.block("LIVE", "import json, sys, zlib")

@@ -4,7 +4,7 @@ answer."""
 from __future__ import annotations
 
 import os
-import shutil
+import random
 import subprocess
 import tempfile
 import time
@@ -13,6 +13,7 @@ from collections import Counter
 from dataclasses import dataclass
 from pathlib import Path
 from typing import Callable, Optional, Sequence
+from unittest import mock
 
 from support import DESK_PROGRAM
 
@@ -21,21 +22,24 @@ from sozhipen_tools.reference.desk import desk_at_start
 from sozhipen_tools.reference.images.resume import saved
 from sozhipen_tools.reference.meaning.program import Program
 from sozhipen_tools.reference.meaning.run import program_or_refusal
-from sozhipen_tools.stream import trial
+from sozhipen_tools.stream import load
+from sozhipen_tools.stream.address import address_of
 from sozhipen_tools.stream.answered import Answered, differences_of_all, firings, lines_of_partitions, one_run, planted
 from sozhipen_tools.stream.broker import (NOTHING, Broker, Entry, MemoryBroker, State, Unreachable, answers_of,
                                           script_of, state_of, until_reached)
+from sozhipen_tools.stream.brokers import KINDS
 from sozhipen_tools.stream.collect import collected, last_of_all
 from sozhipen_tools.stream.engine import Engine, Interrupted, Stopped
 from sozhipen_tools.stream.entries import Numbered, data_of, lines_in
+from sozhipen_tools.stream.jetstream_broker import PIECE, JetStreamBroker
 from sozhipen_tools.stream.look import found_in
-from sozhipen_tools.stream.redis_broker import RedisBroker, address_of
+from sozhipen_tools.stream.processes import Server
 from sozhipen_tools.stream.router import Mixed, Router, Routes
-from sozhipen_tools.stream.worker import Lost, Worker
+from sozhipen_tools.stream.trim import trim
+from sozhipen_tools.stream.worker import Lost, Worker, work
 
 PARTITIONS = 3
-HAS_REDIS = shutil.which("redis-server") is not None
-NO_REDIS = "there is no redis-server"
+HAS = {name: kind.server() is not None for name, kind in KINDS.items()}
 
 
 def program_of(rules: str) -> Program:
@@ -44,7 +48,7 @@ def program_of(rules: str) -> Program:
     return program
 
 
-PROGRAM = program_of(trial.RULES)
+PROGRAM = program_of(load.RULES)
 
 
 class Evaluator(Engine):
@@ -95,6 +99,20 @@ class Killing(MemoryBroker):
         self.count_then(lambda: MemoryBroker.release(self, name, holder))
 
 
+class Meanwhile(MemoryBroker):
+    """A broker over which something is done once, while one who has read a value is not yet further."""
+
+    def __init__(self) -> None:
+        super().__init__()
+        self.then: Optional[Callable[[], object]] = None
+
+    def state(self, name: str) -> State:
+        found, then, self.then = MemoryBroker.state(self, name), self.then, None
+        if then is not None:
+            then()
+        return found
+
+
 def route_all(broker: Broker, script: list[bytes], most: int = 7, flush: int = 10) -> None:
     """Routes a script from its first line, as a router that was begun again does."""
     routes, router = Routes(PROGRAM, "card", PARTITIONS), Router(broker, PARTITIONS, most)
@@ -136,14 +154,16 @@ class Brokers(unittest.TestCase):
         self.assertFalse(broker.keep("state", State(9, b"old")))
         self.assertFalse(broker.keep("state", State(10, b"same")))
         self.assertEqual(broker.state("state"), State(10, b"\xff\n"))
-        self.assertTrue(broker.lease("lease", "a", 10_000) and broker.lease("lease", "a", 50))
+        self.assertEqual(broker.offset("state"), 10)
+        self.assertTrue(broker.lease("lease", "a", 50) and broker.lease("lease", "a", 600_000))
         self.assertFalse(broker.lease("lease", "b", 50))
-        time.sleep(0.1)
-        self.assertTrue(broker.lease("lease", "b", 10_000))
-        broker.release("lease", "a")
-        self.assertFalse(broker.lease("lease", "a", 50))
         broker.release("lease", "b")
-        self.assertTrue(broker.lease("lease", "a", 50))
+        self.assertFalse(broker.lease("lease", "b", 50))
+        broker.release("lease", "a")
+        self.assertTrue(broker.lease("lease", "b", 50))
+        while not broker.lease("lease", "a", 600_000):
+            time.sleep(0.01)
+        self.assertFalse(broker.lease("lease", "b", 50))
 
     def test_memory(self) -> None:
         self.check(MemoryBroker())
@@ -152,23 +172,81 @@ class Brokers(unittest.TestCase):
         self.assertEqual(address_of("6380"), ("127.0.0.1", 6380))
         self.assertEqual(address_of("log.example:6380"), ("log.example", 6380))
 
-    @unittest.skipUnless(HAS_REDIS, NO_REDIS)
-    def test_redis(self) -> None:
+    @mock.patch.multiple("sozhipen_tools.stream.redis_broker", SECONDS=60.0)
+    @mock.patch.multiple("sozhipen_tools.stream.jetstream_broker", SECONDS=60.0)
+    def check_server(self, kind: str) -> None:
+        if not HAS[kind]:
+            self.skipTest(f"there is no {KINDS[kind].program}")
         with tempfile.TemporaryDirectory() as folder:
-            server = trial.Server(Path(folder))
-            broker = RedisBroker(server.address)
+            server = Server(kind, Path(folder))
+            broker = server.broker()
             try:
                 until_reached(lambda: broker.last("log"))
                 self.check(broker)
+                self.check_long(broker)
                 server.kill()
                 with self.assertRaises(Unreachable):
                     broker.last("log")
                 self.assertEqual(until_reached(lambda: broker.last("log")), 9)
                 self.assertEqual(broker.state("state"), State(10, b"\xff\n"))
+                if isinstance(broker, JetStreamBroker):
+                    self.check_pieces(broker)
             finally:
                 broker.close()
-                server.process.kill()
-                server.process.wait()
+                server.end()
+
+    def check_long(self, broker: Broker) -> None:
+        """Entries and values of megabytes, and many entries, which are read from anywhere."""
+        entries = [Entry(number, b"%d " % number * (1 << 17)) for number in range(5, 50, 5)]
+        self.assertTrue(broker.append("long", 0, entries[:3]))
+        for entry in entries[3:]:
+            self.assertTrue(broker.append("long", entry.number - 5, [entry]))
+        for behind in (0, 17, 3, 15, 39, 40, 44, 45):
+            self.assertEqual(broker.read("long", behind, 2), [e for e in entries if e.number > behind][:2])
+        self.assertEqual((broker.last("long"), broker.read("long", 0, 99)), (45, entries))
+        for number, kept in ((0, entries), (20, entries[3:]), (21, entries[4:]), (99, entries[-1:])):
+            broker.trim("long", number)
+            self.assertLessEqual({*kept}, {*broker.read("long", 0, 99)})
+        self.assertEqual(broker.last("long"), 45)
+        self.assertEqual(broker.read("long", 40, 9), entries[-1:])
+        for offset in (7, 8):
+            self.assertTrue(broker.keep("image", State(offset, bytes([offset]) * 2_000_000)))
+            self.assertEqual(broker.state("image"), State(offset, bytes([offset]) * 2_000_000))
+
+    def check_pieces(self, broker: JetStreamBroker) -> None:
+        """What writers leave that are killed amid an append is not seen."""
+        def leave(stream: str, pieces: int) -> None:
+            top = broker.top(stream)
+            for place in range(1, pieces + 1):
+                self.assertTrue(broker.publish(stream, top.sequence + place - 1, b"%d %d 0\nx" % (top.number, place)))
+
+        def another_puts(stream: str, behind: int, data: bytes) -> bool:
+            if len(data) > PIECE:
+                once.stop()
+                leave(stream, 1)
+            return publish(stream, behind, data)
+
+        publish, once = broker.publish, mock.patch.object(broker, "publish", another_puts)
+        for log in ("log", "new"):
+            leave(log, 2)
+            leave(log, 1)
+        self.assertEqual((broker.last("log"), broker.last("new"), broker.read("new", 0, 9)), (9, 0, []))
+        once.start()
+        self.assertTrue(broker.append("log", 9, [Entry(12, b"y" * 3 * PIECE)]))
+        self.assertEqual(broker.read("log", 9, 9), [Entry(12, b"y" * 3 * PIECE)])
+        for value in ("state", "none"):
+            before = broker.state(value)
+            leave(value, 2)
+            leave(value, 3)
+            self.assertEqual(broker.state(value), before)
+            self.assertTrue(broker.keep(value, State(11, b"z")))
+            self.assertEqual(broker.state(value), State(11, b"z"))
+
+    def test_redis(self) -> None:
+        self.check_server("redis")
+
+    def test_jetstream(self) -> None:
+        self.check_server("jetstream")
 
 
 class Routing(unittest.TestCase):
@@ -177,7 +255,7 @@ class Routing(unittest.TestCase):
         return [routes.route(line)[1:] for line in lines]
 
     def test_by_key(self) -> None:
-        event, table = trial.withdrawal(trial.random.Random(1), 0), b'{"do":"insert","type":"Most","fields":{}}'
+        event, table = load.withdrawal(random.Random(1), 0), b'{"do":"insert","type":"Most","fields":{}}'
         everybody = list(range(PARTITIONS))
         retract = b'{"do":"retract","type":"Most","id":1}'
         found = self.routed(table, retract, event, event, retract, b"", b"x", b'{"do":"held"}')
@@ -188,11 +266,11 @@ class Routing(unittest.TestCase):
 
     def event(self, at: int, entry: str = "ATM", cents: object = 5) -> bytes:
         fields = {"at": at, "card": "c1", "place": "harbour", "cents": cents}
-        return trial.line_of("insert", type="Withdrawal", entry=entry, fields=fields)
+        return load.line_of("insert", type="Withdrawal", entry=entry, fields=fields)
 
     def test_promises(self) -> None:
         fire, promise = b'{"do":"fire"}', '{"do":"promise","entry":"ATM","from":%d}'
-        script = [trial.line_of("at", ms=10_000), fire, self.event(7000), self.event(6000), self.event(10_001),
+        script = [load.line_of("at", ms=10_000), fire, self.event(7000), self.event(6000), self.event(10_001),
                   self.event(9000, "DEFAULT"), self.event(9500, cents="5"), fire, fire, self.event(8000), fire]
         lines = [lines for lines, _ in self.routed(*script)]
         self.assertEqual([lines[k] for k in (1, 7, 8, 10)],
@@ -200,7 +278,7 @@ class Routing(unittest.TestCase):
 
     def test_promises_of_the_script(self) -> None:
         fire, promise = b'{"do":"fire"}', '{"do":"promise","entry":"ATM","from":%d}'
-        script = [trial.line_of("at", ms=10_000), self.event(7000), fire, (promise % 6000).encode(),
+        script = [load.line_of("at", ms=10_000), self.event(7000), fire, (promise % 6000).encode(),
                   (promise % 5000).encode(), (promise % 9000).encode(), fire, self.event(9000), fire]
         lines = [lines for lines, _ in self.routed(*script)]
         self.assertEqual(lines[3:6], [[(promise % at).encode()] for at in (7000, 5000, 9000)])
@@ -216,7 +294,7 @@ class Routing(unittest.TestCase):
             routers[1].flush()
 
     def test_another_script(self) -> None:
-        broker, script = MemoryBroker(), trial.script(30, 1)
+        broker, script = MemoryBroker(), load.script(30, 1)
         route_all(broker, script)
         route_all(broker, [*script, b'{"do":"held"}'])
         self.assertEqual(broker.last(script_of(0)), len(script) + 1)
@@ -255,13 +333,43 @@ class Engines(unittest.TestCase):
         with self.assertRaises(Lost):
             Worker(broker, EVALUATOR, "a").turn(0)
 
+    def test_an_end(self) -> None:
+        """A worker that is to end gives its lease back, and begins no further turn."""
+        broker = MemoryBroker()
+        route_all(broker, load.script(60, 3))
+        worker = Worker(broker, EVALUATOR, "a", most=1)
+        with mock.patch.object(worker, "answer", worker.end):
+            work(worker, PARTITIONS, False)
+        self.assertEqual(broker.leases, {})
+
+    def test_lines_that_were_taken_away(self) -> None:
+        """A worker that is behind the image of another one does nothing, and what is in an image may go."""
+        broker, script = Meanwhile(), load.script(60, 3)
+        route_all(broker, script)
+        behind, fast = Worker(broker, EVALUATOR, "behind", most=2), Worker(broker, EVALUATOR, "fast", most=3)
+        fast.answer(0)
+        offset = broker.offset(state_of(0))
+
+        def further() -> None:
+            fast.answer(0)
+            trim(broker, 0, 0)
+
+        broker.then = further
+        behind.answer(0)
+        self.assertGreater(broker.offset(state_of(0)), offset)
+        self.assertEqual(broker.read(script_of(0), 0, 1)[0].number, broker.offset(state_of(0)))
+        self.assertEqual(broker.last(answers_of(0)), broker.offset(state_of(0)))
+        answer_all(broker, EVALUATOR, "a")
+        run = one_run(EVALUATOR, lines_of_partitions(script, Routes(PROGRAM, "card", PARTITIONS))[0])
+        self.assertEqual(list(differences_of_all(broker, [run])), [])
+
 
 class Kills(unittest.TestCase):
     """The stream in one process, where the one who asks is killed at every fifth operation."""
 
     @classmethod
     def setUpClass(cls) -> None:
-        cls.script = trial.script(60, 3)
+        cls.script = load.script(60, 3)
         parts = lines_of_partitions(cls.script, Routes(PROGRAM, "card", PARTITIONS))
         cls.runs = [one_run(EVALUATOR, part) for part in parts]
 
@@ -351,7 +459,7 @@ class Looking(unittest.TestCase):
         return Counter((found.code, found.what.split('"')[1]) for found in found_in(rules.encode(), "card"))
 
     def test_within_the_key(self) -> None:
-        self.assertEqual(self.names(trial.RULES), Counter())
+        self.assertEqual(self.names(load.RULES), Counter())
 
     def test_not_within_the_key(self) -> None:
         self.assertEqual(self.names(LOOKED_AT), Counter({
@@ -364,7 +472,7 @@ class Looking(unittest.TestCase):
                          Counter({("late", "good"): 1, ("late", "peers"): 1}))
 
 
-@unittest.skipUnless(HAS_REDIS, NO_REDIS)
+@unittest.skipUnless(HAS["redis"], f"there is no {KINDS['redis'].program}")
 @unittest.skipUnless(os.access(DESK_PROGRAM, os.X_OK), f"there is no program {DESK_PROGRAM}")
 class OverRedis(unittest.TestCase):
     def test_kills(self) -> None:

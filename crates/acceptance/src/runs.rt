@@ -3,7 +3,7 @@ use fx_base::{NoMemory, Seq, Text};
 use fx_io::{MemShelf, MemSink, MemSource};
 use fx_store::MemStore;
 use replay::{replay, run_rules};
-use session::Session;
+use session::{DetailedSession, Session};
 use std::alloc::Global;
 use std::test::Fail;
 
@@ -21,6 +21,17 @@ const PRINTED: &[u8] = b"new #1 N\n\
     fire \"grow\" #3\n\
     new #4 N\n\
     limit 3\n";
+
+const OBJECTS_PRINTED: &[u8] = b"{\"fields\":{\"v\":0},\"line\":1,\"new\":1,\"type\":\"N\"}\n\
+    {\"done\":1}\n\
+    {\"at\":0,\"facts\":[{\"fields\":{\"v\":0},\"id\":1,\"name\":\"$n\",\"type\":\"N\"}],\"fire\":\"grow\",\"line\":2,\"results\":[]}\n\
+    {\"fields\":{\"v\":1},\"line\":2,\"new\":2,\"type\":\"N\"}\n\
+    {\"at\":0,\"facts\":[{\"fields\":{\"v\":1},\"id\":2,\"name\":\"$n\",\"type\":\"N\"}],\"fire\":\"grow\",\"line\":2,\"results\":[]}\n\
+    {\"fields\":{\"v\":2},\"line\":2,\"new\":3,\"type\":\"N\"}\n\
+    {\"at\":0,\"facts\":[{\"fields\":{\"v\":2},\"id\":3,\"name\":\"$n\",\"type\":\"N\"}],\"fire\":\"grow\",\"line\":2,\"results\":[]}\n\
+    {\"fields\":{\"v\":3},\"line\":2,\"new\":4,\"type\":\"N\"}\n\
+    {\"limit\":3,\"line\":2}\n\
+    {\"done\":2,\"fired\":3,\"pending\":true}\n";
 
 /// Whether a run of these rules over this script with three firings ends at its limit, and prints this.
 fn ends_at_its_limit(
@@ -103,8 +114,8 @@ fn desk_prints(
     let mut shelf = MemShelf::new(vec![in alloc; file]?, Vec::new(alloc));
     let mut store = MemStore::new(alloc, Vec::new(alloc), Vec::new(alloc));
     let mut script = MemSource::new(script.to_vec(alloc)?, Vec::new(alloc));
-    let mut out = MemSink::new(alloc, 1024, Vec::new(alloc))?;
-    let status = desk::<Session, MemShelf, MemStore, MemSource, MemSink>(
+    let mut out = MemSink::new(alloc, 2048, Vec::new(alloc))?;
+    let status = desk::<Session, DetailedSession, MemShelf, MemStore, MemSource, MemSink>(
         alloc,
         &texts_of(alloc, words)?,
         &mut shelf,
@@ -119,6 +130,13 @@ fn desk_prints(
 fn a_desk_goes_on_at_the_limit_of_a_line(rt: HostRuntime) -> Result<(), Fail> {
     let words = ["--text", "--limit", "3", "--image", "I", "RULES"];
     assert!(rt; desk_prints(rt.alloc(), &words, GROW, SCRIPT, LIVE_PRINTED)?);
+    Ok(())
+}
+
+#[test]
+fn a_desk_answers_in_objects(rt: HostRuntime) -> Result<(), Fail> {
+    let words = ["--limit", "3", "RULES"];
+    assert!(rt; desk_prints(rt.alloc(), &words, GROW, SCRIPT, OBJECTS_PRINTED)?);
     Ok(())
 }
 

@@ -1,5 +1,6 @@
 //! What the actions of a firing are to do: the values of their expressions, or that one leaves 64 bits.
 //! It stands on the definitions of `rule_model` and assumes nothing of the facts that a row names.
+//! Calls that allocate answer `NoMemory` where memory is refused.
 #![tactic(auto)]
 
 mod evaluating;

@@ -1,5 +1,6 @@
 //! Images of a session as plain data, and their bytes: one spelling for each image, and `decode` takes nothing else.
 //! It stands on `fx_base` and `row_delta`, and assumes nothing of the bytes that it is given.
+//! Calls that allocate answer `NoMemory` where memory is refused.
 #![tactic(auto)]
 
 mod codec;

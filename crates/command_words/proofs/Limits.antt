@@ -9,8 +9,9 @@ use Rattle.command_words.specs.declared.asking.Mode.{Mode}
 use Rattle.command_words.specs.declared.asking.Mode.TheVariants.{Run, Check, Lives, Proof, Save}
 use Rattle.std.specs.Prelude.{Bool, true, false, if◌then◌else◌}
 use Rattle.command_words.specs.Asked.{asked_rows, limit_written, load_number_of}
-use Rattle.command_words.specs.Desk.{HasLimit, asks_desk, desk_rows, is_set}
-use Rattle.command_words.specs.declared.desk.DeskAsked.{DeskAsked}
+use Rattle.command_words.specs.Desk.{HasLimit, asks_desk, desk_rows, is_set, runs_desk}
+use Rattle.command_words.specs.declared.desk.DeskWords.{DeskWords}
+use Rattle.command_words.specs.declared.desk.DeskWords.TheVariants.{Help, Version}
 
 limited_within : (n : ℕ) → IfSome (limited n) IsLimit
 limited_within n = search rules
@@ -79,17 +80,18 @@ rows_within rows =
     parts_within (first_of (codes "gen") rows) (first_of (codes "resume") rows) (mode_of (given_or (codes "mode") (codes "run") rows)) _ (first_of (codes "rules") rows)
     (limit_within (given_or (codes "limit") (codes "100000") rows))
 
-asks_within : (each : Option ℕ) (image rules : Option Text) → IfSome each IsLimit → IfSome (asks_desk each image rules) HasLimit
-asks_within None image rules within = tt
-asks_within (Some each) image None within = tt
-asks_within (Some each) image (Some rules) within = within
+asks_within : (text : Bool) (each : Option ℕ) (image rules : Option Text) → IfSome each IsLimit → IfSome (runs_desk (asks_desk text each image rules)) HasLimit
+asks_within text None image rules within = tt
+asks_within text (Some each) image None within = tt
+asks_within text (Some each) image (Some rules) within = within
 
 pub desk_within : (rows : List Row) → IfSome (desk_rows rows) HasLimit
 unfolding desk_rows
 desk_within rows =
-    go (is_set (first_of (codes "text") rows)) (asks_desk (limit_written (given_or (codes "limit") (codes "100000") rows)) (first_of (codes "image") rows) (first_of (codes "rules") rows))
-    (asks_within (limit_written (given_or (codes "limit") (codes "100000") rows)) (first_of (codes "image") rows) (first_of (codes "rules") rows) (limit_within (given_or (codes "limit") (codes "100000") rows)))
+    told (is_set (first_of (codes "help") rows)) Help _ tt (told (is_set (first_of (codes "version") rows)) Version _ tt
+    (asks_within (is_set (first_of (codes "text") rows)) (limit_written (given_or (codes "limit") (codes "100000") rows)) (first_of (codes "image") rows) (first_of (codes "rules") rows)
+    (limit_within (given_or (codes "limit") (codes "100000") rows))))
   where
-    go : (flag : Bool) (asked : Option DeskAsked) → IfSome asked HasLimit → IfSome (if flag then asked else None) HasLimit
-    go true asked within = within
-    go false asked within = tt
+    told : (flag : Bool) (words : DeskWords) (asked : Option DeskWords) → HasLimit words → IfSome asked HasLimit → IfSome (if flag then Some words else asked) HasLimit
+    told true words asked within other = within
+    told false words asked within other = other

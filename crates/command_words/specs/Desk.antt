@@ -6,32 +6,41 @@ use Rattle.clap.specs.Words.{Row, Text, first_of}
 use Rattle.command_words.specs.Asked.{IsLimit, given_or, limit_written}
 use Rattle.command_words.specs.Command.{desk_app, matched_by}
 use Rattle.command_words.specs.declared.desk.DeskAsked.{DeskAsked}
+use Rattle.command_words.specs.declared.desk.DeskWords.{DeskWords}
+use Rattle.command_words.specs.declared.desk.DeskWords.TheVariants.{Run, Help, Version}
 
 -- a flag is set
 abbrev pub is_set : Option Text → Bool
 is_set None = false
 is_set (Some value) = bytes_eq value (codes "true")
 
--- a limit, the name of an image where one is given, and that of a rule file
-abbrev pub asks_desk : Option ℕ → Option Text → Option Text → Option DeskAsked
-asks_desk (Some each) image (Some rules) = Some (record { rules = rules; each = each; image = image })
-asks_desk _ image _ = None
+-- whether text is wanted, a limit, the name of an image where one is given, and that of a rule file
+abbrev pub asks_desk : Bool → Option ℕ → Option Text → Option Text → Option DeskAsked
+asks_desk text (Some each) image (Some rules) = Some (record { rules = rules; each = each; image = image; text = text })
+asks_desk text _ image _ = None
 
--- what the arguments ask for
-unfoldable pub desk_rows : List Row → Option DeskAsked
-desk_rows rows =
-    if is_set (first_of (codes "text") rows)
-    then asks_desk (limit_written (given_or (codes "limit") (codes "100000") rows)) (first_of (codes "image") rows) (first_of (codes "rules") rows)
-    else None
+-- a live run, where one is asked for
+abbrev pub runs_desk : Option DeskAsked → Option DeskWords
+runs_desk None = None
+runs_desk (Some asked) = Some (Run asked)
+
+-- what the arguments ask for: help, where that is among them, else the version, else a live run
+unfoldable pub desk_rows : List Row → Option DeskWords
+desk_rows rows = if is_set (first_of (codes "help") rows) then Some Help
+    else (if is_set (first_of (codes "version") rows) then Some Version
+    else runs_desk (asks_desk (is_set (first_of (codes "text") rows)) (limit_written (given_or (codes "limit") (codes "100000") rows))
+    (first_of (codes "image") rows) (first_of (codes "rules") rows)))
 
 -- what words with these bytes ask for, or nothing where they are refused
-unfoldable pub desk_words : List Text → Option DeskAsked
+unfoldable pub desk_words : List Text → Option DeskWords
 desk_words words = option_and_then desk_rows (matched_by desk_app words)
 
 -- what the words ask for
-unfoldable pub desk_by : List (String Global) → Option DeskAsked
+unfoldable pub desk_by : List (String Global) → Option DeskWords
 desk_by words = desk_words (map string_bytes words)
 
 -- the limit is within its bounds
-abbrev pub HasLimit : DeskAsked → Type 0
-HasLimit asked = IsLimit asked.each
+abbrev pub HasLimit : DeskWords → Type 0
+HasLimit (Run asked) = IsLimit asked.each
+HasLimit Help = Unit {0}
+HasLimit Version = Unit {0}

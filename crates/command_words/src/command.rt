@@ -48,9 +48,12 @@ pub(crate) fn desk_command<'a>(alloc: Global) -> Result<Command<'a>, NoMemory>
 {
     let command = Command::new(alloc, "desk")
         .no_binary_name(true)
+        .disable_help_flag(true)
         .arg(option(alloc, "limit"))?
         .arg(option(alloc, "image"))?
         .arg(flag(alloc, "text"))?
+        .arg(flag(alloc, "help"))?
+        .arg(flag(alloc, "version"))?
         .arg(positional(alloc, "rules"))?;
     Ok(command)
 }

@@ -1,7 +1,8 @@
 //! Laws of what words ask for, the contracts of functions that do nothing.
-ghost use Rattle.std.specs.Prelude.{◌≡◌, [], ◌∷◌, Some, None, codes};
+ghost use Rattle.std.specs.Prelude.{◌≡◌, true, false, [], ◌∷◌, Some, None, codes};
 ghost use Rattle.command_words.specs.Asked.{asked_words};
 ghost use Rattle.command_words.specs.Desk.{desk_words};
+ghost use Rattle.command_words.specs.declared.desk.DeskWords.TheVariants.{Run, Help, Version};
 ghost use Rattle.command_words.specs.declared.asking.Asked.TheVariants.{RuleFile, Load};
 
 use crate::Mode;
@@ -45,12 +46,14 @@ pub fn other_words_are_refused()
     ensures load_digits { asked_words (codes "--gen" ∷ codes "00000000001" ∷ []) ≡ None }
 {}
 
-/// What the words of the program `desk` ask for: options in both forms and in any place; without `--text`, or without a rule file, they are refused.
+/// What the words of the program `desk` ask for: options in both forms and in any place; without a rule file they are refused.
 pub fn words_of_a_desk_ask_for_what_they_say()
-    ensures text { desk_words (codes "--text" ∷ codes "r" ∷ []) ≡ Some (record { rules = codes "r"; each = 100000; image = None }) }
+    ensures text { desk_words (codes "--text" ∷ codes "r" ∷ []) ≡ Some (Run (record { rules = codes "r"; each = 100000; image = None; text = true })) }
     ensures all { desk_words (codes "r" ∷ codes "--image=i" ∷ codes "--limit" ∷ codes "7" ∷ codes "--text" ∷ [])
-        ≡ Some (record { rules = codes "r"; each = 7; image = Some (codes "i") }) }
-    ensures no_text { desk_words (codes "r" ∷ []) ≡ None }
+        ≡ Some (Run (record { rules = codes "r"; each = 7; image = Some (codes "i"); text = true })) }
+    ensures objects { desk_words (codes "r" ∷ []) ≡ Some (Run (record { rules = codes "r"; each = 100000; image = None; text = false })) }
+    ensures help { desk_words (codes "--text" ∷ codes "--help" ∷ []) ≡ Some Help }
+    ensures version { desk_words (codes "--version" ∷ []) ≡ Some Version }
     ensures no_rules { desk_words (codes "--text" ∷ []) ≡ None }
     ensures zero { desk_words (codes "--text" ∷ codes "--limit=0" ∷ codes "r" ∷ []) ≡ None }
     ensures two { desk_words (codes "--text" ∷ codes "r" ∷ codes "s" ∷ []) ≡ None }

@@ -1,5 +1,6 @@
 //! Reads the words of the programs' command lines: the mode, the limit of firings, and the name of the rule file or the number of a load.
 //! It stands on clap's reading of words by a command, and adds the defaults and tests of values.
+//! Calls that allocate answer `NoMemory` where memory is refused.
 #![tactic(auto)]
 
 mod asking;
@@ -10,5 +11,5 @@ mod numbers;
 mod reading;
 
 pub use asking::{Asked, Mode};
-pub use desk::{DeskAsked, desk_asked};
+pub use desk::{DeskAsked, DeskWords, desk_asked};
 pub use reading::asked;

@@ -1,5 +1,5 @@
 -- What a live run does, from what its parts do.
-use Rattle.std.proofs.Common.{◌≡◌, ◌⊎◌, inl, inr, ◌≤◌, ℕ, List, [], Option, Some, None, refl, ap, ◌∙◌, arith}
+use Rattle.std.proofs.Common.{◌≡◌, ◌≢◌, ◌⊎◌, inl, inr, ◌≤◌, ℕ, List, [], Option, Some, None, refl, ap, ◌∙◌, arith}
 use Rattle.std.specs.Prelude.{IfSome}
 use Rattle.fx_io.specs.Outside.{append, AppendsFront}
 use Rattle.fx_io.specs.Lines.{lines_of}
@@ -21,8 +21,8 @@ use Rattle.replay.specs.Beginnings.{BeginsIn, CanBegin, part_of}
 use Rattle.replay.specs.Checkpoints.{checkpoint_text}
 use Rattle.replay.specs.Report.{fault_status, run_status}
 use Rattle.replay.specs.Wanted.{Files}
-use Rattle.desk.specs.Keeping.{IsPutFor, status_of_part}
-use Rattle.desk.specs.Report.{IsKept, LivesBy, live_run}
+use Rattle.desk.specs.Keeping.{IsPutFor, IsRefusedFor, status_of_part}
+use Rattle.desk.specs.Report.{IsKept, IsUnkept, LivesBy, live_run}
 use Rattle.desk.specs.Wanted.{Live}
 use Rattle.desk.proofs.Fronts.{front_before, front_behind}
 
@@ -65,6 +65,13 @@ kept_of : {T : Type 0} (stands : T → World → Type 0) (it : Live) (table : Li
 kept_of stands it table files files' engine run at is None reaches h = tt
 kept_of stands it table files files' engine run at is (Some s) reaches h = kept_in it table files files' (stands engine) run at is it.image s reaches.0 reaches.1 h
 
+-- what was refused of the engine that a run left is not kept of the state to which it came
+unkept_of : {T : Type 0} (stands : T → World → Type 0) (it : Live) (table : LifeTable) (engine : T) (run : RunPart) (at : Progress) → run ≡ run_part_at most_firings (part_of it.beginning) at
+    → (to : Option RunState) → ReachesWorld stands to (Some (engine, at)) → (code : CheckpointCode) → IsRefusedFor (stands engine) it.program table run code → it.image ≢ None → IsUnkept it table to code
+unkept_of stands it table engine run at is None reaches code h named = absurd reaches
+unkept_of stands it table engine run at is (Some s) reaches code h named =
+    (h.0, h.2 s.world reaches.1, h.1 ∙ is ∙ ap (run_part_at most_firings (part_of it.beginning)) reaches.0, h.3, named)
+
 -- the run came to its end, and its image was put, where one is named, or refused
 pub ended : {T : Type 0} (stands : T → World → Type 0) (gives : Gives) (fires : Fires) (counts : Counts) (it : Live) (table : LifeTable) (before middle after : Option (List ℕ)) (files files' : Option Files)
     (first : World → Type 0) (engine : T) (at : Progress) (run : RunPart) (told : Option (List ℕ)) (text : List ℕ) (status : ℕ) → middle ≡ append before text
@@ -73,7 +80,7 @@ pub ended : {T : Type 0} (stands : T → World → Type 0) (gives : Gives) (fire
     (text ≡ o.bytes) × (ended_as (Some (engine, at)) ≡ o.ended) × ReachesWorld stands o.comes_to (Some (engine, at))))
     → run ≡ run_part_at most_firings (part_of it.beginning) at
     → (status ≤ 1 → (status ≡ status_of_part run.faulty) × (after ≡ middle) × IsPutFor (stands engine) it.program table run files files' it.image)
-    → (status ≡ 9 → (code : CheckpointCode) × (after ≡ append middle (checkpoint_text code)))
+    → (status ≡ 9 → (code : CheckpointCode) × (after ≡ append middle (checkpoint_text code)) × IsRefusedFor (stands engine) it.program table run code × (it.image ≢ None))
     → (8 ≤ status → files' ≡ files)
     → (5 ≤ status → status ≤ 8 → (code : CheckpointCode) × AppendsFront middle after (checkpoint_text code))
     → (status ≤ 1) ⊎ ((6 ≤ status) × (status ≤ 7)) ⊎ (status ≡ 9)
@@ -97,7 +104,7 @@ ended stands gives fires counts it table before middle after files files' first 
         front_behind before middle after _ (checkpoint_text f.0) (is ∙ ap (append before) (ran w (begins w b)).0) f.1,
   );
   refused = λ nine. let r = refused nine in
-      (r.0, text, r.1 ∙ ap (λ (z : Option (List ℕ)). append z (checkpoint_text r.0)) is ∙ append-append before text (checkpoint_text r.0), inr (λ w b. (ran w (begins w b)).0));
+      (r.0, text, r.1 ∙ ap (λ (z : Option (List ℕ)). append z (checkpoint_text r.0)) is ∙ append-append before text (checkpoint_text r.0), inr (λ w b. let o = ran w (begins w b) in (o.0, unkept_of stands it table engine run at run-is _ o.2 r.0 r.2 r.3)));
   used_up = λ e. absurd (grind (arith, e, answers));
   stays = stays;
 }

@@ -1,5 +1,5 @@
 -- An image that is put to a file.
-use Rattle.std.specs.Prelude.{◌≡◌, ◌≤◌, ℕ, Bool, true, List, length, Option, Some, None}
+use Rattle.std.specs.Prelude.{◌≡◌, ◌<◌, ◌≤◌, ℕ, Bool, true, false, List, length, Option, Some, None}
 use Rattle.fx_store.specs.Puts.{IsPut}
 use Rattle.checkpoint.specs.declared.image.Image.{Image}
 use Rattle.checkpoint.specs.Bytes.{image_bytes, IsImage}
@@ -9,6 +9,8 @@ use Rattle.rule_model.specs.declared.life.LifeTable.{LifeTable}
 use Rattle.rule_model.specs.declared.program.Program.{Program}
 use Rattle.rule_world.specs.Worlds.{World}
 use Rattle.line_run.specs.declared.turn.Ended.TheVariants.{Script}
+use Rattle.replay.specs.declared.refused_checkpoint.CheckpointCode.{CheckpointCode}
+use Rattle.replay.specs.declared.refused_checkpoint.CheckpointCode.TheVariants.{Missing, TooLong, BadImage, OtherRules, Unfit}
 use Rattle.replay.specs.Report.{run_status}
 use Rattle.replay.specs.Checkpoints.{can_go_on, image_limit}
 use Rattle.replay.specs.Wanted.{Files}
@@ -17,6 +19,14 @@ use Rattle.replay.specs.Wanted.{Files}
 abbrev pub Keeps : Image → Option Files → Option Files → List ℕ → Type 0
 Keeps image before after name =
     IsImage image × (can_go_on image ≡ true) × (length (image_bytes image) ≤ image_limit) × IsPut before after name (image_bytes image)
+
+-- why an image is refused that was to be put: it is too long, or no run could go on from its numbers
+abbrev pub MayRefuse : Image → CheckpointCode → Type 0
+MayRefuse image TooLong = image_limit < length (image_bytes image)
+MayRefuse image Unfit = can_go_on image ≡ false
+MayRefuse image Missing = ⊥
+MayRefuse image BadImage = ⊥
+MayRefuse image OtherRules = ⊥
 
 -- of a run that came to the end of its script
 abbrev pub status_of_part : Bool → ℕ
@@ -27,3 +37,8 @@ abbrev pub IsPutFor : (World → Type 0) → Program → LifeTable → RunPart �
 IsPutFor stands p table run before after None = after ≡ before
 IsPutFor stands p table run before after (Some name) =
     (image : Image) × (image.run ≡ run) × ((w : World) → stands w → IsImageOf p table w image) × Keeps image before after name
+
+-- the image of an engine that stands for worlds is refused with a code
+abbrev pub IsRefusedFor : (World → Type 0) → Program → LifeTable → RunPart → CheckpointCode → Type 0
+IsRefusedFor stands p table run code =
+    (image : Image) × (image.run ≡ run) × ((w : World) → stands w → IsImageOf p table w image) × MayRefuse image code

@@ -1,5 +1,5 @@
 //! The image of the state to which a live run came.
-ghost use Rattle.std.specs.Prelude.{◌≡◌, ◌⊎◌, ◌≤◌, option_map};
+ghost use Rattle.std.specs.Prelude.{◌≡◌, ◌≢◌, ◌⊎◌, ◌≤◌, None, option_map};
 ghost use Rattle.checkpoint.specs.Bytes.{image_bytes, IsImage};
 ghost use Rattle.checkpoint.specs.declared.image.Image.{Image as ImageData};
 ghost use Rattle.fx_io.specs.Outside.{append, AppendsFront};
@@ -8,7 +8,7 @@ ghost use Rattle.replay.specs.declared.refused_checkpoint.CheckpointCode.{Checkp
 ghost use Rattle.replay.specs.Checkpoints.{checkpoint_text};
 ghost use Rattle.rule_world.specs.Worlds.{World};
 ghost use Rattle.desk.specs.Causes.{WriteFails};
-ghost use Rattle.desk.specs.Keeping.{IsPutFor, Keeps, status_of_part};
+ghost use Rattle.desk.specs.Keeping.{IsPutFor, IsRefusedFor, Keeps, MayRefuse, status_of_part};
 
 use checkpoint::{Image, RunPart, encode};
 use engine::Engine;
@@ -30,7 +30,7 @@ fn put_bytes<T: Store, K: Sink>(
     requires bytes { bytes.now ≡ image_bytes image.now }
     requires is_image { IsImage image.now }
     ensures put { result ≡ 0 → Keeps image.now (T.files store.old) (T.files store.new) name.now × (K.written out.new ≡ K.written out.old) }
-    ensures refused { result ≡ 9 → (code : CodeData) × (K.written out.new ≡ append (K.written out.old) (checkpoint_text code)) }
+    ensures refused { result ≡ 9 → (code : CodeData) × (K.written out.new ≡ append (K.written out.old) (checkpoint_text code)) × MayRefuse image.now code }
     ensures stays { 8 ≤ result → T.files store.new ≡ T.files store.old }
     ensures front { 6 ≤ result → result ≤ 7 → (code : CodeData) × AppendsFront (K.written out.old) (K.written out.new) (checkpoint_text code) }
     ensures answers { (result ≡ 0) ⊎ ((6 ≤ result) × (result ≤ 7)) ⊎ (result ≡ 9) }
@@ -61,7 +61,8 @@ fn keep<E: Engine, T: Store, K: Sink>(
 ) -> u8
     ensures put { result ≡ 0 → (image : ImageData) × (image.run ≡ run) × ((w : World) → E.stands engine w → IsImageOf (E.made_with engine) (E.table engine) w image)
         × Keeps image (T.files store.old) (T.files store.new) name.now × (K.written out.new ≡ K.written out.old) }
-    ensures refused { result ≡ 9 → (code : CodeData) × (K.written out.new ≡ append (K.written out.old) (checkpoint_text code)) }
+    ensures refused { result ≡ 9 → (code : CodeData) × (K.written out.new ≡ append (K.written out.old) (checkpoint_text code))
+        × IsRefusedFor (E.stands engine) (E.made_with engine) (E.table engine) run code }
     ensures stays { 8 ≤ result → T.files store.new ≡ T.files store.old }
     ensures front { 6 ≤ result → result ≤ 7 → (code : CodeData) × AppendsFront (K.written out.old) (K.written out.new) (checkpoint_text code) }
     ensures answers { (result ≡ 0) ⊎ ((6 ≤ result) × (result ≤ 7)) ⊎ (result ≡ 9) }
@@ -88,7 +89,8 @@ pub(crate) fn end<E: Engine, T: Store, K: Sink>(
 ) -> u8
     ensures ended { result ≤ 1 → (result ≡ status_of_part run.faulty) × (K.written out.new ≡ K.written out.old)
         × IsPutFor (E.stands engine) (E.made_with engine) (E.table engine) run (T.files store.old) (T.files store.new) (option_map (λ name. name.now) image.entry) }
-    ensures refused { result ≡ 9 → (code : CodeData) × (K.written out.new ≡ append (K.written out.old) (checkpoint_text code)) }
+    ensures refused { result ≡ 9 → (code : CodeData) × (K.written out.new ≡ append (K.written out.old) (checkpoint_text code))
+        × IsRefusedFor (E.stands engine) (E.made_with engine) (E.table engine) run code × (option_map (λ name. name.now) image.entry ≢ None) }
     ensures stays { 8 ≤ result → T.files store.new ≡ T.files store.old }
     ensures front { 5 ≤ result → result ≤ 8 → (code : CodeData) × AppendsFront (K.written out.old) (K.written out.new) (checkpoint_text code) }
     ensures answers { (result ≤ 1) ⊎ ((6 ≤ result) × (result ≤ 7)) ⊎ (result ≡ 9) }

@@ -1,6 +1,7 @@
 //! The program `desk`: a live run over a rule file, without an end, from the image of an earlier one where there is one, and to the image from
 //! which the next goes on.
 //! It knows the outside by its traits alone, so that its answer is a matter of proof.
+//! Calls that allocate answer `NoMemory` where memory is refused, the top call status 7.
 #![tactic(auto)]
 
 mod ending;

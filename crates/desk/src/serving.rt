@@ -1,27 +1,49 @@
-ghost use Rattle.std.specs.Prelude.{◌≡◌, ◌⊎◌, ◌≤◌, ℕ, List, Some, None, option_map};
+ghost use Rattle.std.specs.Prelude.{◌≡◌, ◌⊎◌, ◌<◌, ◌≤◌, ℕ, List, length, Some, None, option_map, IfSome};
 ghost use Rattle.fx_io.specs.Outside.{append};
 ghost use Rattle.command_words.specs.Desk.{desk_by};
 ghost use Rattle.replay.specs.Wanted.{Files};
 ghost use Rattle.command_words.specs.declared.desk.DeskAsked.{DeskAsked as AskedData};
+ghost use Rattle.command_words.specs.declared.desk.DeskWords.TheVariants.{Run};
 ghost use Rattle.desk.specs.Causes.{ReadFails, WriteFails};
-ghost use Rattle.desk.specs.Report.{IsPrompt, IsServed, usage};
-ghost use Rattle.desk.specs.Wanted.{wanted, wanted_by};
+ghost use Rattle.desk.specs.Report.{IsPrompt, IsServed, IsStopped, usage};
+ghost use Rattle.script_run.specs.Live.{most_firings};
+ghost use Rattle.desk.specs.Lives.{live_of};
+ghost use Rattle.desk.specs.Meanings.{both};
+ghost use Rattle.desk.specs.Wanted.{form_of, runs, wanted, wanted_by};
+ghost use Rattle.fx_io.specs.Outside.{Rose};
+ghost use Rattle.rule_world.specs.Programs.{IsRunnable};
 
 use crate::live::{Live, run};
 use crate::start::start;
-use command_words::{DeskAsked, desk_asked};
+use command_words::{DeskAsked, DeskWords, desk_asked};
+use drl_names::RuleNames;
 use engine::Engine;
-use fx_base::Text;
+use fx_base::{Seq, Text};
 use fx_io::{Shelf, Sink, Source};
 use fx_store::Store;
 use replay::{
-    CheckpointFault, FILE_MAX, FileFault, Reading, RefusalCode, read_rules, read_whole, refuse,
-    refuse_checkpoint, say, whole_file,
+    CheckpointFault, FILE_MAX, FileFault, Reading, RefusalCode, RulesRead, read_named_rules,
+    read_whole, refuse, refuse_checkpoint, say, whole_file,
 };
+use script_run::Form;
 use std::alloc::Global;
 
 /// What is written where the words are refused.
-const USAGE: &[u8] = b"usage: desk [--limit N] [--image NAME] --text RULES\n";
+const USAGE: &[u8] = b"usage: desk [--limit N] [--image NAME] [--text] RULES\n";
+
+/// What is written where the words ask what they mean.
+const HELP: &[u8] = b"Runs rules over the lines of a script from standard input, without an end.
+usage: desk [--limit N] [--image NAME] [--text] RULES
+  RULES         the rule file
+  --limit N     the most firings of one fire line, from 1 to 1000000; 100000 if it is not given
+  --image NAME  the file from which the run goes on, if it is there, and to which it is saved
+  --text        answers in lines of text, and not in JSON
+  --help        this text
+  --version     the version
+";
+
+/// What is written where the words ask for the version.
+const VERSION: &[u8] = b"desk 0.1.0\n";
 
 fn lent(name: &Option<Text>) -> Option<&str>
     ensures { option_map (λ it. it.now) result ≡ name.now }
@@ -32,8 +54,45 @@ fn lent(name: &Option<Text>) -> Option<&str>
     }
 }
 
+fn form_of(text: bool, names: Seq<RuleNames>) -> Form
+    ensures { result ≡ form_of text names }
+{
+    if text {
+        Form::Text
+    } else {
+        Form::Objects(names)
+    }
+}
+
+// Runs it with the engine for the form of its answers.
+fn run_by_form<E: Engine, D: Engine, T: Store, S: Source<K>, K: Sink>(
+    alloc: Global,
+    live: Live,
+    image: Option<&str>,
+    store: &mut T,
+    script: &mut S,
+    out: &mut K,
+) -> u8
+    requires runnable { IsRunnable live.program }
+    requires prompt { let it = live_of live (option_map (λ name. name.now) image) in (bytes : List ℕ) (now : K)
+        → IsPrompt (both E.gives E.fires E.counts D.gives D.fires D.counts) (runs it) bytes (K.written out.old) (K.written now) → S.may_ask script.old bytes now }
+    ensures served { IfSome (S.left script.old) (λ bytes. IsServed (both E.gives E.fires E.counts D.gives D.fires D.counts) (runs (live_of live (option_map (λ name. name.now) image.entry))) bytes
+        (K.written out.old) (K.written out.new) (T.files store.old) (T.files store.new) result) }
+    ensures stopped { result ≡ 5 → IfSome (S.left script.old) (λ bytes. IsStopped (both E.gives E.fires E.counts D.gives D.fires D.counts) (runs (live_of live (option_map (λ name. name.now) image.entry))) bytes
+        (S.left script.new) (K.written out.old) (K.written out.new)) }
+    ensures long { result ≡ 8 → IfSome (S.left script.old) (λ bytes. most_firings < length bytes) }
+    ensures answers { (result ≤ 1) ⊎ ((5 ≤ result) × (result ≤ 9)) ⊎ (result ≡ 11) }
+    ensures read { result ≡ 5 → Rose (S.faults script.old) (S.faults script.new) }
+    ensures write { result ≡ 6 → WriteFails (K.faults out.old) (K.faults out.new) (T.faults store.old) (T.faults store.new) }
+{
+    match &live.form {
+        Form::Text => run::<E, T, S, K>(alloc, live, image, store, script, out),
+        Form::Objects(_) => run::<D, T, S, K>(alloc, live, image, store, script, out),
+    }
+}
+
 // Does what the words ask for.
-fn serve<E: Engine, F: Shelf, T: Store, S: Source<K>, K: Sink>(
+fn serve<E: Engine, D: Engine, F: Shelf, T: Store, S: Source<K>, K: Sink>(
     alloc: Global,
     asked: &DeskAsked,
     shelf: &mut F,
@@ -42,10 +101,13 @@ fn serve<E: Engine, F: Shelf, T: Store, S: Source<K>, K: Sink>(
     out: &mut K,
 ) -> u8
     requires prompt { (bytes : List ℕ) (now : K)
-        → ((files : Files) → F.files shelf.old ≡ Some files → IsPrompt E.gives E.fires E.counts (wanted_by (Some asked.now) files) bytes (K.written out.old) (K.written now))
+        → ((files : Files) → F.files shelf.old ≡ Some files → IsPrompt (both E.gives E.fires E.counts D.gives D.fires D.counts) (wanted_by (Some (Run asked.now)) files) bytes (K.written out.old) (K.written now))
         → S.may_ask script.old bytes now }
     ensures served { (files : Files) (bytes : List ℕ) → F.files shelf.old ≡ Some files → S.left script.old ≡ Some bytes
-        → IsServed E.gives E.fires E.counts (wanted_by (Some asked.now) files) bytes (K.written out.old) (K.written out.new) (T.files store.old) (T.files store.new) result }
+        → IsServed (both E.gives E.fires E.counts D.gives D.fires D.counts) (wanted_by (Some (Run asked.now)) files) bytes (K.written out.old) (K.written out.new) (T.files store.old) (T.files store.new) result }
+    ensures stopped { (files : Files) (bytes : List ℕ) → F.files shelf.old ≡ Some files → S.left script.old ≡ Some bytes → result ≡ 5
+        → IsStopped (both E.gives E.fires E.counts D.gives D.fires D.counts) (wanted_by (Some (Run asked.now)) files) bytes (S.left script.new) (K.written out.old) (K.written out.new) }
+    ensures long { result ≡ 8 → IfSome (S.left script.old) (λ bytes. most_firings < length bytes) }
     ensures answers { (result ≤ 1) ⊎ (result ≡ 3) ⊎ ((5 ≤ result) × (result ≤ 9)) ⊎ (result ≡ 11) }
     ensures read { result ≡ 5 → ReadFails (F.faults shelf.old) (F.faults shelf.new) (S.faults script.old) (S.faults script.new) asked.now }
     ensures write { result ≡ 6 → WriteFails (K.faults out.old) (K.faults out.new) (T.faults store.old) (T.faults store.new) }
@@ -56,7 +118,11 @@ fn serve<E: Engine, F: Shelf, T: Store, S: Source<K>, K: Sink>(
         Err(FileFault::ReadFault) => return 5,
         Err(FileFault::NoMemory) => return 7,
     };
-    let (reading, rules) = match read_rules(alloc, &file, true) {
+    let RulesRead {
+        reading,
+        text: rules,
+        names,
+    } = match read_named_rules(alloc, &file, true, !asked.text) {
         Ok(read) => read,
         Err(_) => return 7,
     };
@@ -74,11 +140,13 @@ fn serve<E: Engine, F: Shelf, T: Store, S: Source<K>, K: Sink>(
         program,
         beginning,
         each: asked.each,
+        form: form_of(asked.text, names),
     };
-    run::<E, T, S, K>(alloc, live, lent(&asked.image), store, script, out)
+    run_by_form::<E, D, T, S, K>(alloc, live, lent(&asked.image), store, script, out)
 }
 
-/// Does all that the program `desk` does for the words behind its own name, with an engine of this type, and answers the status.
+/// Does all that the program `desk` does for the words behind its own name, and answers the status: with an engine of the first type, where its
+/// answers are lines of text, and with one of the second, where they are objects.
 ///
 /// It runs a live script over a rule file: from the image of the file that is named, where that is there, to the end of the script, and puts the
 /// image of what the run comes to in its place. A fire command makes at most so many firings; where it wants more, and a match is pending
@@ -87,7 +155,7 @@ fn serve<E: Engine, F: Shelf, T: Store, S: Source<K>, K: Sink>(
 /// The status is 0 where the script was read to its end, 1 where a line of it was a fault, 2 where the words are refused, 3 where the rule file
 /// is missing or refused, 5 where a read failed, 6 where a write failed, 7 where memory was refused, 8 where the script has more than 2^55
 /// bytes, 9 where an image is refused, and 11 where 2^55 firings were made.
-pub fn desk<E: Engine, F: Shelf, T: Store, S: Source<K>, K: Sink>(
+pub fn desk<E: Engine, D: Engine, F: Shelf, T: Store, S: Source<K>, K: Sink>(
     alloc: Global,
     words: &[String],
     shelf: &mut F,
@@ -98,22 +166,33 @@ pub fn desk<E: Engine, F: Shelf, T: Store, S: Source<K>, K: Sink>(
     // It may be run over each source that asks for no more than this: whenever more is asked of it, all that the lines print whose ends were
     // taken is written, and nothing else. This is required of each single call of `read`, so it holds of a run too that never comes to its end.
     requires prompt { (bytes : List ℕ) (now : K)
-        → ((files : Files) → F.files shelf.old ≡ Some files → IsPrompt E.gives E.fires E.counts (wanted words.now files) bytes (K.written out.old) (K.written now))
+        → ((files : Files) → F.files shelf.old ≡ Some files → IsPrompt (both E.gives E.fires E.counts D.gives D.fires D.counts) (wanted words.now files) bytes (K.written out.old) (K.written now))
         → S.may_ask script.old bytes now }
 
     // Where the shelf and the script tell their bytes: what is written and put, by the status.
     ensures served { (files : Files) (bytes : List ℕ) → F.files shelf.old ≡ Some files → S.left script.old ≡ Some bytes
-        → IsServed E.gives E.fires E.counts (wanted words.now files) bytes (K.written out.old) (K.written out.new) (T.files store.old) (T.files store.new) result }
+        → IsServed (both E.gives E.fires E.counts D.gives D.fires D.counts) (wanted words.now files) bytes (K.written out.old) (K.written out.new) (T.files store.old) (T.files store.new) result }
+
+    // There too, where a read failed: what the lines print that were taken with their ends.
+    ensures stopped { (files : Files) (bytes : List ℕ) → F.files shelf.old ≡ Some files → S.left script.old ≡ Some bytes → result ≡ 5
+        → IsStopped (both E.gives E.fires E.counts D.gives D.fires D.counts) (wanted words.now files) bytes (S.left script.new) (K.written out.old) (K.written out.new) }
+
+    // Whatever is told: the usage line.
     ensures usage { result ≡ 2 → K.written out.new ≡ append (K.written out.old) usage }
     ensures words { result ≡ 2 → desk_by words.now ≡ None }
     ensures answers { (result ≤ 3) ⊎ ((5 ≤ result) × (result ≤ 9)) ⊎ (result ≡ 11) }
 
     // The causes of the answers, of whatever shelf, store, script and sink.
-    ensures read { result ≡ 5 → (it : AskedData) × (desk_by words.now ≡ Some it) × ReadFails (F.faults shelf.old) (F.faults shelf.new) (S.faults script.old) (S.faults script.new) it }
+    ensures read { result ≡ 5 → (it : AskedData) × (desk_by words.now ≡ Some (Run it)) × ReadFails (F.faults shelf.old) (F.faults shelf.new) (S.faults script.old) (S.faults script.new) it }
     ensures write { result ≡ 6 → WriteFails (K.faults out.old) (K.faults out.new) (T.faults store.old) (T.faults store.new) }
+    ensures long { result ≡ 8 → IfSome (S.left script.old) (λ bytes. most_firings < length bytes) }
 {
     match desk_asked(alloc, words) {
-        Ok(Some(asked)) => serve::<E, F, T, S, K>(alloc, &asked, shelf, store, script, out),
+        Ok(Some(DeskWords::Run(asked))) => {
+            serve::<E, D, F, T, S, K>(alloc, &asked, shelf, store, script, out)
+        }
+        Ok(Some(DeskWords::Help)) => say(out, HELP, 0),
+        Ok(Some(DeskWords::Version)) => say(out, VERSION, 0),
         Ok(None) => say(out, USAGE, 2),
         Err(_) => 7,
     }

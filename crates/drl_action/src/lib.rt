@@ -1,5 +1,5 @@
 //! The actions of rules, read from tokens by the grammar.
-//! It assumes nothing of the tokens.
+//! It assumes nothing of the tokens. Calls that allocate answer `NoMemory` where memory is refused.
 #![tactic(auto)]
 
 mod action;

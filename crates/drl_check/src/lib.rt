@@ -1,5 +1,5 @@
 //! The checks of a rule file, and the program of a file that they accept.
-//! It takes any file of trees, and assumes nothing of it.
+//! It takes any file of trees, and assumes nothing of it. Calls that allocate answer `NoMemory` where memory is refused.
 #![tactic(auto)]
 
 mod checking;

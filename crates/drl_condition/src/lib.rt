@@ -1,5 +1,6 @@
 //! The reader of the conditions of a rule: from tokens to the trees of the grammar.
 //! It assumes nothing of the tokens. It takes one walk over the tokens that it reads. Alternatives take stack, at most 16 deep.
+//! Calls that allocate answer `NoMemory` where memory is refused.
 #![tactic(auto)]
 
 mod choices;

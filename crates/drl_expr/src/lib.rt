@@ -1,5 +1,6 @@
 //! The expressions of a rule's actions: their trees, and their reading from tokens by a grammar of sums, products and factors.
 //! It assumes nothing of the tokens; the limits of height and depth bound the stack for every input.
+//! Calls that allocate answer `NoMemory` where memory is refused.
 #![tactic(auto)]
 
 mod atoms;

@@ -1,5 +1,6 @@
 //! The lexer of rule files: it cuts the bytes of a file into tokens, or names the first fault and where it stands.
 //! It assumes nothing of the bytes; a file of any content is read or refused in one walk from the left.
+//! Calls that allocate answer `NoMemory` where memory is refused.
 #![tactic(auto)]
 
 mod bytes;

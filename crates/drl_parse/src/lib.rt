@@ -1,5 +1,6 @@
 //! Rule files: from their bytes to their trees, or to the first thing that is refused, with its line.
 //! It assumes nothing of the bytes that it is given. Each byte and each token is looked at a bounded number of times.
+//! Calls that allocate answer `NoMemory` where memory is refused.
 #![tactic(auto)]
 
 mod fault;

@@ -1,5 +1,6 @@
 //! From the trees of a rule file to its program.
 //! It takes any trees of the grammar: a name that is not declared, which no accepted file has, counts as the first.
+//! Calls that allocate answer `NoMemory` where memory is refused.
 #![tactic(auto)]
 
 mod actions_of;

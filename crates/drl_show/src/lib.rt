@@ -1,5 +1,5 @@
 //! The text of a rule file, from its trees: a reader that reads the grammar exactly reads the same items from it.
-//! It assumes nothing of the trees.
+//! It assumes nothing of the trees. Calls that allocate answer `NoMemory` where memory is refused.
 #![tactic(auto)]
 
 mod actions;

@@ -1,6 +1,6 @@
 //! What a rule file declares, and which variables are in sight where: names with their places, types, entry points, and
 //! meanings.
-//! It takes any trees of the grammar, and assumes nothing of them.
+//! It takes any trees of the grammar, and assumes nothing of them. Calls that allocate answer `NoMemory` where memory is refused.
 #![tactic(auto)]
 
 mod annotations;

@@ -1,6 +1,6 @@
 //! What the conditions and the actions of a rule use: whether types, fields and variables are there, whether
 //! kinds fit, and whether times are asked of events.
-//! It takes any rule with the types of its file, and assumes nothing of them.
+//! It takes any rule with the types of its file, and assumes nothing of them. Calls that allocate answer `NoMemory` where memory is refused.
 #![tactic(auto)]
 
 mod action_kinds;

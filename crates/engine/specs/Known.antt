@@ -2,16 +2,20 @@
 use Rattle.std.specs.Prelude.{Bool, true, List, length, nat_lt}
 use Rattle.std.specs.List.{list_all}
 use Rattle.rule_model.specs.declared.program.Program.{Program}
-use Rattle.engine.specs.declared.lines.Fired.{Fired}
-use Rattle.engine.specs.declared.lines.Fired.TheVariants.{No, Yes}
-use Rattle.engine.specs.declared.lines.OutLine.{OutLine}
-use Rattle.engine.specs.declared.lines.OutLine.TheVariants.{New, Fire, Fault}
+use Rattle.answer_lines.specs.declared.lines.Fired.{Fired}
+use Rattle.answer_lines.specs.declared.lines.Fired.TheVariants.{No, Yes}
+use Rattle.answer_lines.specs.declared.lines.OutLine.{OutLine}
+use Rattle.answer_lines.specs.declared.lines.OutLine.TheVariants.{New, Fire, Fault, Inserted, Modified, Retracted, FiredFor}
 
 -- the type or the rule that a line names is one of the program
 abbrev pub is_known : Program → OutLine → Bool
 is_known p (New id ty) = nat_lt ty.0 (length p.types)
 is_known p (Fire rule cells) = nat_lt rule.0 (length p.rules)
 is_known p (Fault code) = true
+is_known p (Inserted f) = nat_lt f.ty.0 (length p.types)
+is_known p (Modified f) = true
+is_known p (Retracted id ty) = true
+is_known p (FiredFor rule clock facts values) = nat_lt rule.0 (length p.rules)
 
 abbrev pub are_known : Program → List OutLine → Bool
 are_known p lines = list_all (is_known p) lines

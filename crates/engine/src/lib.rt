@@ -1,12 +1,11 @@
 //! What every engine promises: which worlds it stands for, the lines that it answers to changes and firings, and that it goes on from its
 //! image.
-//! What runs a script knows an engine by this contract alone.
+//! What runs a script knows an engine by this contract alone. Calls that allocate answer `NoMemory` where memory is refused.
 #![tactic(auto)]
 
-mod lines;
 mod promise;
 mod resuming;
 
-pub use lines::{Cell, Fired, Lines, OutLine};
+pub use answer_lines::{Cell, Detail, Fired, Lines, OutLine};
 pub use promise::Engine;
 pub use resuming::ResumeFault;

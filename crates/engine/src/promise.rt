@@ -8,13 +8,13 @@ ghost use Rattle.rule_world.specs.Worlds.{World, empty_world};
 ghost use Rattle.script_read.specs.declared.asked.Change.{Change as ChangeData};
 ghost use Rattle.image_laws.specs.Fitting.{Fits};
 ghost use Rattle.image_laws.specs.Images.{IsImageOf};
-ghost use Rattle.engine.specs.declared.lines.OutLine.{OutLine as OutLineData};
+ghost use Rattle.answer_lines.specs.declared.lines.OutLine.{OutLine as OutLineData};
 ghost use Rattle.engine.specs.Known.{are_known, is_known_firing};
 ghost use Rattle.engine.specs.Answers.{FiringAnswers};
 ghost use Rattle.engine.specs.Counts.{HasEach};
 
-use crate::lines::{Fired, Lines};
 use crate::resuming::ResumeFault;
+use answer_lines::{Fired, Lines};
 use checkpoint::{Image, RunPart};
 use fx_base::NoMemory;
 use rule_model::{LifeTable, Program};

@@ -1,5 +1,5 @@
 //! The accumulate functions `count`, `sum`, `min`, `max` and `average`, kept over values that come and go.
-//! It stands on `fx_base` and assumes nothing of the outside.
+//! It stands on `fx_base` and assumes nothing of the outside. Calls that allocate answer `NoMemory` where memory is refused.
 #![tactic(auto)]
 
 mod any_fold;

@@ -1,4 +1,4 @@
-//! Files that are put whole in the place of others, as a live run puts its image.
+//! Files that are put whole in the place of others, as a live run puts its image. Calls that allocate answer `NoMemory` where memory is refused.
 #![tactic(auto)]
 
 mod file_store;

@@ -1,5 +1,5 @@
 //! A load for measuring: one rule file, and a script of events drawn by a linear congruential generator.
-//! It stands on `fx_base` and assumes nothing of the outside.
+//! It stands on `fx_base` and assumes nothing of the outside. Calls that allocate answer `NoMemory` where memory is refused.
 #![tactic(auto)]
 
 mod draws;

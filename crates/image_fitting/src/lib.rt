@@ -1,5 +1,5 @@
 //! Which images fit a program with its lives, as far as it can be told before a network is loaded from one. It stands on the laws of
-//! images, and assumes nothing of the outside.
+//! images, and assumes nothing of the outside. Calls that allocate answer `NoMemory` where memory is refused.
 #![tactic(auto)]
 
 mod extras;

@@ -1,5 +1,6 @@
 //! When a candidate joins a row, and the equalities and the range of time by which the two find each other.
 //! It stands on facts, rows and the tests of patterns, and assumes nothing of the outside.
+//! Calls that allocate answer `NoMemory` where memory is refused.
 #![tactic(auto)]
 
 mod join_value;

@@ -1,5 +1,6 @@
 //! The loop over the lines of a script: it reads them, hands each to what takes it, and writes what they print before it reads on. It knows
 //! what takes the lines by a trait alone, and the outside by a source of the script and a sink.
+//! Calls that allocate answer `NoMemory` where memory is refused.
 #![tactic(auto)]
 
 mod fault;

@@ -1,4 +1,4 @@
-//! A law of the load. It stands apart, since its proof computes what the rule file reads as.
+//! A law of the load. It stands apart, since its proof computes what the rule file reads as. It takes no memory.
 #![tactic(auto)]
 
 ghost use Rattle.std.specs.Prelude.{◌≡◌, None, Ok};

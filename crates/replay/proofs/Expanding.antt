@@ -13,6 +13,7 @@ use Rattle.drl_grammar.specs.declared.file.File.{File}
 use Rattle.drl_grammar.specs.declared.file.Item.{Item}
 use Rattle.drl_grammar.specs.declared.written.WrittenItem.{WrittenItem}
 use Rattle.drl_grammar.specs.declared.written.WrittenType.{WrittenType}
+use Rattle.drl_names.specs.Names.{names_of}
 use Rattle.drl_program.specs.Programs.{program_of}
 use Rattle.drl_sight.specs.Declarations.{types_of, rules_of}
 use Rattle.drl_sight.specs.Observed.{watched_names}
@@ -58,12 +59,16 @@ module _ (file : Written) (e : Expanded) (is : IsExpanded file e) where
   abbrev other : List Item
   other = flat_map (short_items types) behind
 
+  whole_items : length file.items ≤ e.front → e.file.items ≡ expanded file.items
+  whole_items few =
+      is.items ∙ ap (λ items. front ++ flat_map (short_items types) items) (drop_past file.items e.front few) ∙ append-nil front
+      ∙ ap (flat_map (plain_items types)) (take_all e.front file.items few)
+
   -- the front is the whole file
   all_of : length file.items ≤ e.front → of_checked file (checked (plain_file file)) ≡ of_checked_with e.titles e.origins (checked e.file)
   all_of few =
       let whole : before ≡ file.items = take_all e.front file.items few in
-      let items : e.file.items ≡ expanded file.items =
-      is.items ∙ ap (λ items. front ++ flat_map (short_items types) items) (drop_past file.items e.front few) ∙ append-nil front ∙ ap (flat_map (plain_items types)) whole in
+      let items : e.file.items ≡ expanded file.items = whole_items few in
       let names : e.titles ≡ titles file.items = is.titles_of_rules ∙ ap (flat_map (λ (item : WrittenItem). titles_in types item.body)) whole in
       let numbers : e.origins ≡ origins file.items = is.origins_of_items ∙ ap (origins_from types 1) whole in
       by_whole file (checked (plain_file file)) ∙ ap (λ (items : List Item). of_checked_with (titles file.items) (origins file.items) (checked (record { items = items }))) (sym items)
@@ -108,6 +113,17 @@ module _ (file : Written) (e : Expanded) (is : IsExpanded file e) where
   by_ends : (length file.items ≤ e.front) ⊎ (256 < length e.titles) → of_checked file (checked (plain_file file)) ≡ of_checked_with e.titles e.origins (checked e.file)
   by_ends (inl few) = all_of few
   by_ends (inr many) = front_of many
+
+-- a file that is accepted is written out whole, so its variables have the names of the whole plain file
+pub names_alike : (file : Written) (e : Expanded) (p : Program) → IsExpanded file e → checked e.file ≡ Ok p → names_of e.file ≡ names_of (plain_file file)
+names_alike file e p is gives = by is.ends
+  where
+    no_failure : (f : Failure) → checked e.file ≡ Err f → ⊥
+    no_failure f err = let same : Ok p ≡ Err f = sym gives ∙ err in cc
+
+    by : (length file.items ≤ e.front) ⊎ (256 < length e.titles) → names_of e.file ≡ names_of (plain_file file)
+    by (inl few) = ap (λ (items : List Item). names_of (record { items = items })) (whole_items file e is few)
+    by (inr many) = let found = failing file e is many in absurd (no_failure found.0 (fails_with e.file found.0 found.2))
 
 by_checked : (file : Written) (e : Expanded) (found : Result Program Failure) → IsExpanded file e → checked e.file ≡ found → of_obstacle file (obstacle file.items) ≡ of_checked_with e.titles e.origins found
 by_checked file e found is gives = ap (of_obstacle file) is.possible ∙ by_ends file e is is.ends ∙ ap (of_checked_with e.titles e.origins) gives

@@ -10,6 +10,7 @@ use Rattle.replay.specs.Beginnings.{shows_rules}
 use Rattle.drl_parse.specs.Parsed.{parsed, parsed_by}
 use Rattle.replay.specs.declared.refusal.RefusalCode.TheVariants.{Missing}
 use Rattle.replay.specs.Checkpoints.{checkpoint_of, rules_shown}
+use Rattle.replay.specs.Names.{names_read}
 use Rattle.replay.specs.Wanted.{wanted_by_name, wanted_by_number}
 use Rattle.replay.proofs.Tables.{behind_one, by_table, one_report, one_saved}
 
@@ -85,6 +86,15 @@ rules_by true file e = rw (long_taken file_limit file e, e) refl
 pub rules_in_read : (o : Option (List ℕ)) (read : List ℕ) → (o ≢ None) → IfSome o (λ file. read ≡ take (file_limit + 1) file) → wanted_rules o ≡ rules_shown read
 rules_in_read None read found h = absurd (found refl)
 rules_in_read (Some file) read found h = sym (ap rules_shown h ∙ rules_by (nat_lt file_limit (length file)) file refl)
+
+-- and the names of variables
+names_by : (long : Bool) (file : List ℕ) → nat_lt file_limit (length file) ≡ long → names_read (take (file_limit + 1) file) ≡ names_read file
+unfolding parsed parsed_by names_read
+names_by false file e = ap names_read (take_all (file_limit + 1) file (short_file file_limit (length file) e))
+names_by true file e = rw (long_taken file_limit file e, e) refl
+
+pub names_taken : (file : List ℕ) → names_read (take (file_limit + 1) file) ≡ names_read file
+names_taken file = names_by (nat_lt file_limit (length file)) file refl
 
 pub rules_found : (name : List ℕ) (told : Option Files) (files : Files) (read : List ℕ) → told ≡ Some files → IsOnShelf told name → IfSome (file_told told name) (λ file. read ≡ take (file_limit + 1) file)
     → wanted_rules (files name) ≡ rules_shown read

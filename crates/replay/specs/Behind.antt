@@ -4,7 +4,7 @@ use Rattle.fx_io.specs.Lines.{lines_of}
 use Rattle.fx_io.specs.Outside.{append}
 use Rattle.script_read.specs.declared.asked.Change.{Change}
 use Rattle.checkpoint.specs.declared.image.Image.{Image}
-use Rattle.engine.specs.declared.lines.OutLine.{OutLine}
+use Rattle.answer_lines.specs.declared.lines.OutLine.{OutLine}
 use Rattle.image_laws.specs.Fitting.{Fits}
 use Rattle.image_laws.specs.Images.{IsImageOf}
 use Rattle.rule_model.specs.declared.life.LifeTable.{LifeTable}

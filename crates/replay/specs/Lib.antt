@@ -4,6 +4,7 @@ pub mod Certificates
 pub mod Titles
 pub mod Refusals
 pub mod Checkpoints
+pub mod Names
 pub mod Beginnings
 pub mod RuleFiles
 pub mod Wanted

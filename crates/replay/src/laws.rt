@@ -5,7 +5,7 @@ ghost use Rattle.checkpoint.specs.Bytes.{image_bytes, IsImage};
 ghost use Rattle.gen_load.specs.Rules.{rules_text};
 ghost use Rattle.rule_model.specs.declared.program.Program.{Program};
 ghost use Rattle.rule_world.specs.Worlds.{World};
-ghost use Rattle.engine.specs.declared.lines.OutLine.{OutLine};
+ghost use Rattle.answer_lines.specs.declared.lines.OutLine.{OutLine};
 ghost use Rattle.script_run.specs.Firings.{Counts, Fires, Gives, all_fired, firings};
 ghost use Rattle.replay.specs.declared.rule_file.Reading.{Reading};
 ghost use Rattle.replay.specs.declared.rule_file.Reading.TheVariants.{Accepted};

@@ -2,6 +2,7 @@
 //! whether the file is accepted, how long the events of its types matter, or the image of a run, from which another run goes on. It also runs
 //! over a generated load, and writes a summary.
 //! It knows the outside by its traits alone, so that its answer is a matter of proof.
+//! Calls that allocate answer `NoMemory` where memory is refused, the top call status 7.
 #![tactic(auto)]
 
 mod beginning;
@@ -24,7 +25,7 @@ pub use beginning::Beginning;
 pub use checkpoint_file::{CheckpointFault, IMAGE_MAX, read_image};
 pub use refusal::{Refusal, RefusalCode, whole_file};
 pub use refused_checkpoint::{CheckpointCode, refuse_checkpoint};
-pub use rule_file::{FileFault, Reading, read_rules, read_whole};
+pub use rule_file::{FileFault, Reading, RulesRead, read_named_rules, read_rules, read_whole};
 pub use running::begun;
 pub use saving::can_go_on;
 pub use saying::{refuse, say};

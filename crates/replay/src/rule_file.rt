@@ -2,13 +2,16 @@ ghost use Rattle.std.specs.Prelude.{◌≡◌, ◌<◌, ◌≤◌, ◌-◌, ℕ,
 ghost use Rattle.fx_io.specs.Outside.{Rose, file_told, IsMissing, IsOnShelf};
 ghost use Rattle.drl_parse.specs.Parsed.{Parsed, GivesParsed as GivesFile};
 ghost use Rattle.drl_check.specs.Answers.{FailsCheck};
+ghost use Rattle.drl_check.specs.Outcomes.{checked};
+ghost use Rattle.drl_names.specs.Names.{names_of};
+ghost use Rattle.replay.specs.Names.{names_read};
 ghost use Rattle.drl_check.specs.Checks.{Failure};
 ghost use Rattle.drl_grammar.specs.declared.written.Written.{Written as WrittenFile};
 ghost use Rattle.subrules.specs.Faults.{obstacle};
 ghost use Rattle.subrules.specs.Outcomes.{IsExpanded, IsRefusal};
 ghost use Rattle.rule_world.specs.Programs.{IsRunnable};
 ghost use Rattle.rule_model.specs.declared.program.Program.{Program as ProgramData};
-ghost use Rattle.replay.specs.Refusals.{of_parsed, of_obstacle, of_checked_with, reading, IsRefusedReading, IsSoundReading};
+ghost use Rattle.replay.specs.Refusals.{of_parsed, of_obstacle, of_checked_with, plain_file, reading, IsRefusedReading, IsSoundReading};
 ghost use Rattle.drl_show.specs.Shown.{shown};
 ghost use Rattle.replay.specs.Checkpoints.{rules_shown};
 ghost use Rattle.replay.specs.Titles.{renamed, with_titles};
@@ -17,7 +20,8 @@ ghost use Rattle.replay.specs.declared.rule_file.FileFault.TheVariants.{NoMemory
 
 use crate::refusal::{Refusal, RefusalCode, whole_file};
 use drl_check::{CheckFault, check};
-use drl_grammar::Written;
+use drl_grammar::{File, Written};
+use drl_names::{RuleNames, names};
 use drl_parse::{ParseFault, parse};
 use drl_show::show;
 use fx_base::{Copies, NoMemory, Seq, Text};
@@ -211,6 +215,7 @@ fn renamed(alloc: Global, rules: Vec<Rule>, titles: &[Text]) -> Result<Vec<Rule>
 fn read_expanded(alloc: Global, expanded: &Expanded) -> Result<Reading, NoMemory>
     ensures reading { IfOk result (λ found. (file : WrittenFile) → IsExpanded file expanded.now → found ≡ of_obstacle file (obstacle file.items)) }
     ensures sound { IfOk result IsSoundReading }
+    ensures accepted { IfOk result (λ found. (IsRefusedReading found → ⊥) → (p : ProgramData) × (checked expanded.now.file ≡ Ok p)) }
 {
     match check(alloc, &expanded.file) {
         Ok(program) => {
@@ -224,14 +229,38 @@ fn read_expanded(alloc: Global, expanded: &Expanded) -> Result<Reading, NoMemory
     }
 }
 
-// What a file is.
-fn read_file(alloc: Global, file: &Written) -> Result<Reading, NoMemory>
-    ensures reading { IfOk result (λ found. found ≡ of_obstacle file.now (obstacle file.now.items)) }
-    ensures sound { IfOk result IsSoundReading }
+// The names of the variables of a file, where they are wanted.
+fn wanted_names(alloc: Global, file: &File, named: bool) -> Result<Seq<RuleNames>, NoMemory>
+    ensures { named ≡ true → IfOk result (λ all. all ≡ names_of file.now) }
+{
+    if named {
+        names(alloc, file)
+    } else {
+        Ok(Seq::from_vec(Vec::new(alloc)))
+    }
+}
+
+// What a file is, and the names of its variables, where they are wanted.
+#[tactic(auto, using(crate::proofs::Expanding::names_alike))]
+fn read_file(
+    alloc: Global,
+    file: &Written,
+    named: bool,
+) -> Result<(Reading, Seq<RuleNames>), NoMemory>
+    ensures reading { IfOk result (λ r. r.0 ≡ of_obstacle file.now (obstacle file.now.items)) }
+    ensures sound { IfOk result (λ r. IsSoundReading r.0) }
+    ensures names { named ≡ true → IfOk result (λ r. (IsRefusedReading r.0 → ⊥) → r.1 ≡ names_of (plain_file file.now)) }
 {
     match expand(alloc, file) {
-        Ok(expanded) => read_expanded(alloc, &expanded),
-        Err(fault) => Ok(Reading::Refused(expand_refusal(fault)?)),
+        Ok(expanded) => {
+            let reading = read_expanded(alloc, &expanded)?;
+            let names = wanted_names(alloc, &expanded.file, named)?;
+            Ok((reading, names))
+        }
+        Err(fault) => {
+            let refusal = expand_refusal(fault)?;
+            Ok((Reading::Refused(refusal), Seq::from_vec(Vec::new(alloc))))
+        }
     }
 }
 
@@ -246,24 +275,60 @@ fn shown_text(alloc: Global, file: &Written, shows: bool) -> Result<Vec<u8>, NoM
     }
 }
 
+/// A rule file that was read, once.
+#[derive(Drop)]
+pub struct RulesRead {
+    /// What its bytes are.
+    pub reading: Reading,
+    /// The text of its rules, where it is accepted and the text was to be shown.
+    pub text: Vec<u8>,
+    /// The names of its rules' variables, where it is accepted and they were wanted.
+    pub names: Seq<RuleNames>,
+}
+
+/// Reads what the bytes of a rule file are, the text of its rules, where that is to be shown, and the names of their variables, where these are
+/// wanted.
+#[tactic(auto, unfolding(crate::specs::Checkpoints::rules_shown, crate::specs::Names::names_read))]
+pub fn read_named_rules(
+    alloc: Global,
+    bytes: &[u8],
+    shows: bool,
+    named: bool,
+) -> Result<RulesRead, NoMemory>
+    ensures reading { IfOk result (λ read. read.reading ≡ reading bytes.now) }
+    ensures sound { IfOk result (λ read. IsSoundReading read.reading) }
+    ensures text { shows ≡ true → IfOk result (λ read. (IsRefusedReading read.reading → ⊥) → read.text.items ≡ rules_shown bytes.now) }
+    ensures names { named ≡ true → IfOk result (λ read. (IsRefusedReading read.reading → ⊥) → read.names ≡ names_read bytes.now) }
+{
+    match parse(alloc, bytes) {
+        Ok(file) => {
+            let text = shown_text(alloc, &file, shows)?;
+            let (reading, names) = read_file(alloc, &file, named)?;
+            Ok(RulesRead {
+                reading,
+                text,
+                names,
+            })
+        }
+        Err(fault) => {
+            let refusal = parse_refusal(fault)?;
+            Ok(RulesRead {
+                reading: Reading::Refused(refusal),
+                text: Vec::new(alloc),
+                names: Seq::from_vec(Vec::new(alloc)),
+            })
+        }
+    }
+}
+
 /// What the bytes of a rule file are, and the text of the rules of one that is accepted, where that is to be shown. They are read once.
-#[tactic(auto, unfolding(crate::specs::Checkpoints::rules_shown))]
 pub fn read_rules(alloc: Global, bytes: &[u8], shows: bool) -> Result<(Reading, Vec<u8>), NoMemory>
     ensures reading { IfOk result (λ read. read.0 ≡ reading bytes.now) }
     ensures sound { IfOk result (λ read. IsSoundReading read.0) }
     ensures text { shows ≡ true → IfOk result (λ read. (IsRefusedReading read.0 → ⊥) → read.1.items ≡ rules_shown bytes.now) }
 {
-    match parse(alloc, bytes) {
-        Ok(file) => {
-            let text = shown_text(alloc, &file, shows)?;
-            let reading = read_file(alloc, &file)?;
-            Ok((reading, text))
-        }
-        Err(fault) => {
-            let refusal = parse_refusal(fault)?;
-            Ok((Reading::Refused(refusal), Vec::new(alloc)))
-        }
-    }
+    let RulesRead { reading, text, .. } = read_named_rules(alloc, bytes, shows, false)?;
+    Ok((reading, text))
 }
 
 /// What the bytes of a rule file are.

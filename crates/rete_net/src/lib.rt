@@ -1,6 +1,6 @@
 //! The network of a program: a node for each distinct front of its rules' conditions. It answers for a change of the facts and a move of
 //! the clock what changes in the rows of which rules. It stands on the nodes of conditions and their gates, and assumes nothing of the
-//! outside.
+//! outside. Calls that allocate answer `NoMemory` where memory is refused.
 #![tactic(auto)]
 
 mod alpha_index;

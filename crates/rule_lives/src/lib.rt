@@ -1,7 +1,7 @@
 //! How long an event can still matter, inferred from the rules (Walzer, Breddin, Groch 2008; Drools Fusion 5 User Guide, memory
 //! management for events): the networks of temporal tests, how far the solutions of a network reach, the lives of patterns and types,
 //! which facts are kept by them, and the laws that lives are long enough and that what a step makes names only what is kept. It has
-//! definitions and these laws alone: what infers lives and what forgets events stands on it.
+//! definitions and these laws alone: what infers lives and what forgets events stands on it. It takes no memory.
 #![tactic(auto)]
 
 ghost use Rattle.rule_lives.specs.Law.{OfRule, OfPrefix};

@@ -1,5 +1,6 @@
 //! Reads the command that a line of the script asks for, by the form in JSON that each command has.
 //! It stands on the reading of `serde_json` and assumes nothing of a line; its caller cuts the lines.
+//! Calls that allocate answer `NoMemory` where memory is refused.
 #![tactic(auto)]
 
 mod asked;

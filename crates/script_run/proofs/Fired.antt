@@ -1,9 +1,9 @@
 -- The firings of a fire command, one by one.
 use Rattle.script_run.proofs.Common.{◌≡◌, ℕ, zero, suc, ◌||◌, Bool, true, false, List, [], ◌++◌, Option, Some, None, refl, sym, ◌∙◌, ap, append_assoc, is_some}
 use Rattle.script_run.proofs.Common.{flat_map-append, list_any-append, append-nil, Program, World, OutLine, Goes, Stops, Fires, Firings, all_fired, limit_met}
-use Rattle.script_run.proofs.Common.{onto_lines, none_left, then_fires, wants_one, one_less, RunSetting, fire_step, Does, EndsFirings, line_text, lines_text}
-use Rattle.script_run.proofs.Common.{limit_text, has_fault, is_fault}
-use Rattle.engine.specs.declared.lines.Fired.TheVariants.{No, Yes}
+use Rattle.script_run.proofs.Common.{onto_lines, none_left, then_fires, wants_one, one_less, RunSetting, fire_step, Does, EndsFirings, written_line, written_lines}
+use Rattle.script_run.proofs.Common.{written_limit, has_fault, is_fault}
+use Rattle.answer_lines.specs.declared.lines.Fired.TheVariants.{No, Yes}
 use Rattle.engine.specs.Answers.{FiringAnswers}
 use Rattle.line_run.specs.declared.turn.Turn.{Turn}
 use Rattle.script_run.specs.Firings.{firings}
@@ -46,25 +46,25 @@ onto_onto a b (limit_met lines) = ap limit_met (sym (append_assoc a b lines))
 pub record Remains (setting : RunSetting) (number : ℕ) (all : Firings) (most : Option ℕ) (left : ℕ) (v : World) (before after : List ℕ) (bad : Bool) : Type 0 where
   pub lines : List OutLine
   pub all-is : all ≡ onto_lines lines (firings setting.fires setting.program most left v)
-  pub text : after ≡ before ++ lines_text setting.program number lines
+  pub text : after ≡ before ++ written_lines setting.form setting.program number lines
   pub faulty : bad ≡ has_fault lines
 
 -- one firing more
 pub next_remains : (setting : RunSetting) (number : ℕ) (all : Firings) (most : Option ℕ) (left n : ℕ) (v : World) (before after : List ℕ) (bad : Bool) (f : List OutLine × World) (after' : List ℕ) (bad' : Bool)
-    → Remains setting number all most left v before after bad → wants_one most ≡ true → left ≡ suc n → setting.fires setting.program v ≡ Some f → after' ≡ after ++ lines_text setting.program number f.0 → bad' ≡ (bad || has_fault f.0)
+    → Remains setting number all most left v before after bad → wants_one most ≡ true → left ≡ suc n → setting.fires setting.program v ≡ Some f → after' ≡ after ++ written_lines setting.form setting.program number f.0 → bad' ≡ (bad || has_fault f.0)
     → Remains setting number all (one_less most) n f.1 before after' bad'
 next_remains setting number all most left n v before after bad f after' bad' r wants at e t b = record {
   lines = r.lines ++ f.0;
   all-is = r.all-is ∙ ap (onto_lines r.lines) (fires_some setting.fires setting.program most left n v f wants at e) ∙ onto_onto r.lines f.0 (firings setting.fires setting.program (one_less most) n f.1);
-  text = t ∙ ap (λ z. z ++ lines_text setting.program number f.0) r.text ∙ append_assoc before (lines_text setting.program number r.lines) (lines_text setting.program number f.0)
-      ∙ ap (λ z. before ++ z) (sym (flat_map-append (line_text setting.program number) r.lines f.0));
+  text = t ∙ ap (λ z. z ++ written_lines setting.form setting.program number f.0) r.text ∙ append_assoc before (written_lines setting.form setting.program number r.lines) (written_lines setting.form setting.program number f.0)
+      ∙ ap (λ z. before ++ z) (sym (flat_map-append (written_line setting.form setting.program number) r.lines f.0));
   faulty = b ∙ ap (λ z. z || has_fault f.0) r.faulty ∙ sym (list_any-append is_fault r.lines f.0);
 }
 
 -- no more is fired
 over_remains : (setting : RunSetting) (number : ℕ) (all : Firings) (most : Option ℕ) (left : ℕ) (v : World) (before after : List ℕ) (bad : Bool) (stands : World → Type 0)
     → Remains setting number all most left v before after bad → firings setting.fires setting.program most left v ≡ all_fired [] v left → stands v
-    → Does stands (fire_step setting.program setting.limit number all) before after (Goes bad left)
+    → Does stands (fire_step setting number all) before after (Goes bad left)
 over_remains setting number all most left v before after bad stands r e st =
     let is : all ≡ all_fired r.lines v left = r.all-is ∙ ap (onto_lines r.lines) e ∙ ap (λ z. all_fired z v left) (append-nil r.lines) in
     rw is (r.text, st, ap (λ b. Goes b left) r.faulty)
@@ -72,34 +72,34 @@ over_remains setting number all most left v before after bad stands r e st =
 -- the command wants no more
 pub enough_remains : (setting : RunSetting) (number : ℕ) (all : Firings) (most : Option ℕ) (left : ℕ) (v : World) (before after : List ℕ) (bad : Bool) (stands : World → Type 0)
     → Remains setting number all most left v before after bad → wants_one most ≡ false → stands v
-    → Does stands (fire_step setting.program setting.limit number all) before after (Goes bad left)
+    → Does stands (fire_step setting number all) before after (Goes bad left)
 enough_remains setting number all most left v before after bad stands r enough st =
     over_remains setting number all most left v before after bad stands r (fires_enough setting.fires setting.program most left v enough) st
 
 -- nothing is pending any more
 pub done_remains : (setting : RunSetting) (number : ℕ) (all : Firings) (most : Option ℕ) (left : ℕ) (v : World) (before after : List ℕ) (bad : Bool) (stands : World → Type 0)
     → Remains setting number all most left v before after bad → wants_one most ≡ true → setting.fires setting.program v ≡ None → stands v
-    → Does stands (fire_step setting.program setting.limit number all) before after (Goes bad left)
+    → Does stands (fire_step setting number all) before after (Goes bad left)
 done_remains setting number all most left v before after bad stands r wants e st =
     over_remains setting number all most left v before after bad stands r (fires_none setting.fires setting.program most left v wants e) st
 
 -- a match is pending, and no firing is left
 limit_remains : (setting : RunSetting) (number : ℕ) (all : Firings) (most : Option ℕ) (left : ℕ) (v : World) (before after after' : List ℕ) (bad : Bool) (f : List OutLine × World) (stands : World → Type 0)
-    → Remains setting number all most left v before after bad → wants_one most ≡ true → left ≡ 0 → setting.fires setting.program v ≡ Some f → after' ≡ after ++ limit_text setting.limit
-    → Does stands (fire_step setting.program setting.limit number all) before after' Stops
+    → Remains setting number all most left v before after bad → wants_one most ≡ true → left ≡ 0 → setting.fires setting.program v ≡ Some f → after' ≡ after ++ written_limit setting.form number setting.limit
+    → Does stands (fire_step setting number all) before after' Stops
 limit_remains setting number all most left v before after after' bad f stands r wants at e t =
     let is : all ≡ limit_met r.lines = r.all-is ∙ ap (onto_lines r.lines) (fires_over setting.fires setting.program most left v f wants at e) ∙ ap limit_met (append-nil r.lines) in
-    rw is (t ∙ ap (λ z. z ++ limit_text setting.limit) r.text ∙ append_assoc before (lines_text setting.program number r.lines) (limit_text setting.limit), refl)
+    rw is (t ∙ ap (λ z. z ++ written_limit setting.form number setting.limit) r.text ∙ append_assoc before (written_lines setting.form setting.program number r.lines) (written_limit setting.form number setting.limit), refl)
 
 -- the loop of firings has ended with none left, and the command wants one
 pub end_remains : (setting : RunSetting) (number : ℕ) (all : Firings) (most : Option ℕ) (left : ℕ) (v : World) (before after after' : List ℕ) (bad : Bool) (turn : Turn) (stands : World → Type 0)
-    → Remains setting number all most left v before after bad → wants_one most ≡ true → left ≡ 0 → stands v → EndsFirings setting.limit (setting.fires setting.program v) bad after after' turn
-    → Does stands (fire_step setting.program setting.limit number all) before after' turn
+    → Remains setting number all most left v before after bad → wants_one most ≡ true → left ≡ 0 → stands v → EndsFirings (written_limit setting.form number setting.limit) (setting.fires setting.program v) bad after after' turn
+    → Does stands (fire_step setting number all) before after' turn
 end_remains setting number all most left v before after after' bad turn stands r wants at st h = here (setting.fires setting.program v) refl h
   where
-    here : (o : Option (List OutLine × World)) → setting.fires setting.program v ≡ o → EndsFirings setting.limit o bad after after' turn → Does stands (fire_step setting.program setting.limit number all) before after' turn
+    here : (o : Option (List OutLine × World)) → setting.fires setting.program v ≡ o → EndsFirings (written_limit setting.form number setting.limit) o bad after after' turn → Does stands (fire_step setting number all) before after' turn
     here None e k =
-        let d : Does stands (fire_step setting.program setting.limit number all) before after (Goes bad left) = done_remains setting number all most left v before after bad stands r wants e st in
+        let d : Does stands (fire_step setting number all) before after (Goes bad left) = done_remains setting number all most left v before after bad stands r wants e st in
         rw (k.0, k.1, sym at) d
     here (Some f) e k = rw k.1 (limit_remains setting number all most left v before after after' bad f stands r wants at e k.0)
 
@@ -116,9 +116,9 @@ pub no_answer : (o : Option (List OutLine × World)) (v : World) (S : World → 
 no_answer None v S h = (refl, h.1)
 no_answer (Some f) v S h = absurd (let e : No ≡ Yes f.0 = h.0 in cc)
 
-pub none_pending : (limit : ℕ) (o : Option (List OutLine × World)) (faulty : Bool) (text : List ℕ) → false ≡ is_some o → EndsFirings limit o faulty text text (Goes faulty 0)
-none_pending limit None faulty text e = (refl, refl)
-none_pending limit (Some f) faulty text e = absurd (let k : false ≡ true = e in cc)
+pub none_pending : (told : List ℕ) (o : Option (List OutLine × World)) (faulty : Bool) (text : List ℕ) → false ≡ is_some o → EndsFirings told o faulty text text (Goes faulty 0)
+none_pending told None faulty text e = (refl, refl)
+none_pending told (Some f) faulty text e = absurd (let k : false ≡ true = e in cc)
 
 -- nothing is pending where the limit was not met, for a command that wants all firings
 pub settled : (fires : Fires) (p : Program) (left : ℕ) (w : World) (lines : List OutLine) (v : World) (more : ℕ) → firings fires p None left w ≡ all_fired lines v more → fires p v ≡ None

@@ -14,7 +14,7 @@ use Rattle.script_run.specs.Firings.{firings}
 use Rattle.line_run.specs.Parts.{EndsLine, first_part, run_part_at, progress_behind}
 use Rattle.script_run.specs.Parts.{run_on}
 use Rattle.line_run.specs.Run.{run as run_lines}
-use Rattle.script_run.specs.Run.{run, line_step, at_most, closed, fire_by, met_step, told_step}
+use Rattle.script_run.specs.Run.{run, line_step, at_most, closed, fire_by, is_fire_line, met_step, told_step}
 use Rattle.line_run.proofs.Ahead.{run_goes, run_stops, then_run-then_run}
 
 abbrev comes_of : Outcome → Option RunState
@@ -73,7 +73,7 @@ firings_within fires p most (suc n) w =
     if_fires (suc n) (wants_one most) (then_fires (fires p w) w (suc n) (firings fires p (one_less most) n)) (all_fired [] w (suc n))
     (then_within n (fires p w) w (firings fires p (one_less most) n) (λ v. firings_within fires p (one_less most) n v)) (omega arith)
 
-abbrev StepWithin : ℕ → LineEffect → Type 0
+abbrev pub StepWithin : ℕ → LineEffect → Type 0
 StepWithin most (goes_on done) = done.left ≤ most
 StepWithin most (stops text) = Unit {0}
 
@@ -81,7 +81,7 @@ if_step : (n : ℕ) (flag : Bool) (a b : LineEffect) → StepWithin n a → Step
 if_step n true a b h k = h
 if_step n false a b h k = k
 
-fire_within : (setting : RunSetting) (number n : ℕ) (r : Firings) → FiresWithin n r → StepWithin n (fire_step setting.program setting.limit number r)
+fire_within : (setting : RunSetting) (number n : ℕ) (r : Firings) → FiresWithin n r → StepWithin n (fire_step setting number r)
 fire_within setting number n (all_fired lines w left) h = h
 fire_within setting number n (limit_met lines) h = tt
 
@@ -93,12 +93,12 @@ by_within : (setting : RunSetting) (live : Option ℕ) (number n : ℕ) (w : Wor
 by_within setting None number n w most = fire_within setting number n (firings setting.fires setting.program most n w) (firings_within setting.fires setting.program most n w)
 by_within setting (Some each) number n w most =
     let fired : Firings = firings setting.fires setting.program (Some (at_most each most)) n w in
-    met_within setting each number n most (fire_step setting.program setting.limit number fired)
+    met_within setting each number n most (fire_step setting number fired)
     (fire_within setting number n fired (firings_within setting.fires setting.program (Some (at_most each most)) n w))
 
-closed_within : (live : Option ℕ) (number n : ℕ) (effect : LineEffect) → StepWithin n effect → StepWithin n (closed live number effect)
-closed_within live number n (goes_on done) h = h
-closed_within live number n (stops text) h = tt
+closed_within : (setting : RunSetting) (number had : ℕ) (fires : Bool) (n : ℕ) (effect : LineEffect) → StepWithin n effect → StepWithin n (closed setting number had fires effect)
+closed_within setting number had fires n (goes_on done) h = h
+closed_within setting number had fires n (stops text) h = tt
 
 command_within : (setting : RunSetting) (number n : ℕ) (w : World) (c : Command) → StepWithin n (command_step setting number n w c)
 command_within setting number n w (Change change) = omega arith
@@ -110,11 +110,13 @@ asked_within setting number n w (asks command) = command_within setting number n
 asked_within setting number n w bad_json = omega arith
 asked_within setting number n w bad_command = omega arith
 
+pub told_within : (setting : RunSetting) (number n : ℕ) (w : World) (line : List ℕ) → StepWithin n (told_step setting number n w line)
+told_within setting number n w line =
+    if_step n (nat_lt 65536 (length line)) _ _ (omega arith) (if_step n (is_line_blank line) _ _ (omega arith) (asked_within setting number n w (asked line)))
+
 step_within : (setting : RunSetting) (number n : ℕ) (w : World) (line : List ℕ) → StepWithin n (line_step setting number n w line)
 unfolding line_step
-step_within setting number n w line =
-    closed_within setting.live number n (told_step setting number n w line)
-    (if_step n (nat_lt 65536 (length line)) _ _ (omega arith) (if_step n (is_line_blank line) _ _ (omega arith) (asked_within setting number n w (asked line))))
+step_within setting number n w line = closed_within setting number n (is_fire_line line) n (told_step setting number n w line) (told_within setting number n w line)
 
 pub run_within : (setting : RunSetting) (s t : RunState) (xs : List (List ℕ)) → (run setting s xs).comes_to ≡ Some t → t.progress.left ≤ s.progress.left
 unfolding run_lines

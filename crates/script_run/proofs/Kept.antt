@@ -10,7 +10,7 @@ use Rattle.script_read.specs.declared.asked.Command.{Command}
 use Rattle.script_read.specs.declared.asked.Command.TheVariants.{Change, Fire, Held}
 use Rattle.script_run.specs.Firings.{firings}
 use Rattle.line_run.specs.Run.{run as run_lines}
-use Rattle.script_run.specs.Run.{run, line_step, at_most, closed, fire_by, met_step, told_step}
+use Rattle.script_run.specs.Run.{run, line_step, at_most, closed, fire_by, is_fire_line, met_step, told_step}
 use Rattle.line_run.proofs.Ahead.{run_goes, run_stops}
 use Rattle.script_run.proofs.Joined.{no_more}
 
@@ -53,7 +53,7 @@ module _ (setting : RunSetting) (Holds : World → Type 0)
   if_step true a b h k = h
   if_step false a b h k = k
 
-  fire_to : (number : ℕ) (r : Firings) → FiresTo r → StepsTo (fire_step setting.program setting.limit number r)
+  fire_to : (number : ℕ) (r : Firings) → FiresTo r → StepsTo (fire_step setting number r)
   fire_to number (all_fired lines w left) h = h
   fire_to number (limit_met lines) h = tt
 
@@ -65,11 +65,11 @@ module _ (setting : RunSetting) (Holds : World → Type 0)
   by_to None number n w most h = fire_to number (firings setting.fires setting.program most n w) (firings_to most n w h)
   by_to (Some each) number n w most h =
       let fired : Firings = firings setting.fires setting.program (Some (at_most each most)) n w in
-      met_to each number most (fire_step setting.program setting.limit number fired) (fire_to number fired (firings_to (Some (at_most each most)) n w h))
+      met_to each number most (fire_step setting number fired) (fire_to number fired (firings_to (Some (at_most each most)) n w h))
 
-  closed_to : (live : Option ℕ) (number : ℕ) (effect : LineEffect) → StepsTo effect → StepsTo (closed live number effect)
-  closed_to live number (goes_on done) h = h
-  closed_to live number (stops text) h = tt
+  closed_to : (number had : ℕ) (fires : Bool) (effect : LineEffect) → StepsTo effect → StepsTo (closed setting number had fires effect)
+  closed_to number had fires (goes_on done) h = h
+  closed_to number had fires (stops text) h = tt
 
   command_to : (number n : ℕ) (w : World) (c : Command) → Holds w → StepsTo (command_step setting number n w c)
   command_to number n w (Change change) h = changes w change h
@@ -84,7 +84,7 @@ module _ (setting : RunSetting) (Holds : World → Type 0)
   step_to : (number n : ℕ) (w : World) (line : List ℕ) → Holds w → StepsTo (line_step setting number n w line)
   unfolding line_step
   step_to number n w line h =
-      closed_to setting.live number (told_step setting number n w line) (if_step (nat_lt 65536 (length line)) _ _ h (if_step (is_line_blank line) _ _ h (asked_to number n w (asked line) h)))
+      closed_to number n (is_fire_line line) (told_step setting number n w line) (if_step (nat_lt 65536 (length line)) _ _ h (if_step (is_line_blank line) _ _ h (asked_to number n w (asked line) h)))
 
   pub run_keeps : (s t : RunState) (lines : List (List ℕ)) → Holds s.world → (run setting s lines).comes_to ≡ Some t → Holds t.world
   unfolding run_lines

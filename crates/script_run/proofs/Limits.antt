@@ -2,7 +2,7 @@
 use Rattle.script_run.proofs.Common.{◌≡◌, ◌≤◌, ◌+◌, ◌-◌, ◌++◌, ◌||◌, ℕ, zero, suc, Bool, true, false, List, [], ◌∷◌, length, nat_lt, Option, Some, None, refl, sym, ap, ap₂, subst, ◌∙◌}
 use Rattle.script_run.proofs.Common.{arith, if◌then◌else◌, World, OutLine, Program, Fires, Firings, all_fired, limit_met, none_left, onto_lines, then_fires}
 use Rattle.script_run.proofs.Common.{wants_one, one_less, RunSetting, RunState, Outcome, LineEffect, goes_on, stops, state_after, step_in, fire_step}
-use Rattle.script_run.proofs.Common.{command_step, asked_step, first_state, whole_run, at_end, then_run, lines_text, has_fault, empty_world}
+use Rattle.script_run.proofs.Common.{command_step, asked_step, first_state, whole_run, at_end, then_run, written_lines, has_fault, is_some, empty_world}
 use Rattle.std.proofs.lemmas.Option.{same_Some}
 use Rattle.script_read.specs.Asked.{Asked, asks, bad_json, bad_command, asked}
 use Rattle.script_read.specs.Blank.{is_line_blank}
@@ -11,9 +11,9 @@ use Rattle.script_read.specs.declared.asked.Command.TheVariants.{Change, Fire, H
 use Rattle.script_run.specs.Firings.{firings}
 use Rattle.script_run.specs.Limits.{with_limit, IsSameRun}
 use Rattle.line_run.specs.Run.{run as run_lines}
-use Rattle.script_run.specs.Run.{run, line_step, at_most, closed, end_text, fire_by, met_lines, met_step, told_step}
+use Rattle.script_run.specs.Run.{run, line_step, at_most, closed, end_text, fire_by, fired_of, is_fire_line, met_lines, met_step, told_step}
 use Rattle.line_run.proofs.Ahead.{run_goes, run_stops}
-use Rattle.script_run.proofs.Joined.{no_more, run_within}
+use Rattle.script_run.proofs.Joined.{no_more, run_within, StepWithin, told_within}
 
 -- ---- firings, of which so many and so many were left before
 
@@ -88,20 +88,23 @@ if_steps : (m n : ℕ) (flag : Bool) (a b c d : LineEffect) → SameSteps m n a 
 if_steps m n true a b c d h k = h
 if_steps m n false a b c d h k = k
 
+made_is : (m n k l : ℕ) → m + l ≡ n + k → k ≤ m → l ≤ n → m - k ≡ n - l
+made_is m n k l sum low less = grind (arith, sum, low, less)
+
 module _ (setting : RunSetting) (limit : ℕ) where
   abbrev other : RunSetting
   other = with_limit limit setting
 
-  fire_same : (number m n : ℕ) (r q : Firings) → SameFirings m n r q → SameSteps m n (fire_step setting.program setting.limit number r) (fire_step other.program other.limit number q)
+  fire_same : (number m n : ℕ) (r q : Firings) → SameFirings m n r q → SameSteps m n (fire_step setting number r) (fire_step other number q)
   fire_same number m n (all_fired a v k) (all_fired b w l) h =
-      (ap (λ (z : List OutLine). lines_text setting.program number z) h.0, h.1, ap has_fault h.0, h.2)
+      (ap (λ (z : List OutLine). written_lines setting.form setting.program number z) h.0, h.1, ap has_fault h.0, h.2)
   fire_same number m n (all_fired a v k) (limit_met b) h = tt
   fire_same number m n (limit_met a) (all_fired b w l) h = tt
   fire_same number m n (limit_met a) (limit_met b) h = tt
 
   met_same : (each number m n : ℕ) (most : Option ℕ) (a b : LineEffect) → SameSteps m n a b → SameSteps m n (met_step setting each number most a) (met_step other each number most b)
   met_same each number m n most (goes_on a) (goes_on b) h =
-      (ap₂ (λ (text : List ℕ) (w : World). text ++ met_lines (setting.fires setting.program w) each number most) h.0 h.1, h.1, h.2, h.3)
+      (ap₂ (λ (text : List ℕ) (w : World). text ++ met_lines setting.form (setting.fires setting.program w) each number most) h.0 h.1, h.1, h.2, h.3)
   met_same each number m n most (goes_on a) (stops text) h = tt
   met_same each number m n most (stops text) (goes_on b) h = tt
   met_same each number m n most (stops text) (stops more) h = tt
@@ -111,14 +114,21 @@ module _ (setting : RunSetting) (limit : ℕ) where
       fire_same number m n (firings setting.fires setting.program most m w) (firings setting.fires setting.program most n w) (firings_same setting.fires setting.program most m n w)
   by_same (Some each) number m n w most =
       let few : Option ℕ = Some (at_most each most) in
-      met_same each number m n most (fire_step setting.program setting.limit number (firings setting.fires setting.program few m w)) (fire_step other.program other.limit number (firings setting.fires setting.program few n w))
+      met_same each number m n most (fire_step setting number (firings setting.fires setting.program few m w)) (fire_step other number (firings setting.fires setting.program few n w))
       (fire_same number m n (firings setting.fires setting.program few m w) (firings setting.fires setting.program few n w) (firings_same setting.fires setting.program few m n w))
 
-  closed_same : (live : Option ℕ) (number m n : ℕ) (a b : LineEffect) → SameSteps m n a b → SameSteps m n (closed live number a) (closed live number b)
-  closed_same live number m n (goes_on a) (goes_on b) h = (ap (λ (text : List ℕ). text ++ end_text live number) h.0, h.1, h.2, h.3)
-  closed_same live number m n (goes_on a) (stops text) h = tt
-  closed_same live number m n (stops text) (goes_on b) h = tt
-  closed_same live number m n (stops text) (stops more) h = tt
+  fired_same : (fires : Bool) (m n k l : ℕ) (v w : World) → v ≡ w → m - k ≡ n - l → fired_of setting fires m k v ≡ fired_of other fires n l w
+  fired_same true m n k l v w e made = ap₂ (λ (fired : ℕ) (u : World). Some (fired, is_some (setting.fires setting.program u))) made e
+  fired_same false m n k l v w e made = refl
+
+  closed_same : (number m n : ℕ) (fires : Bool) (a b : LineEffect) → StepWithin m a → StepWithin n b → SameSteps m n a b
+      → SameSteps m n (closed setting number m fires a) (closed other number n fires b)
+  closed_same number m n fires (goes_on a) (goes_on b) low less h =
+      let fired = fired_same fires m n a.left b.left a.world b.world h.1 (made_is m n a.left b.left h.3 low less) in
+      (ap₂ (λ (text : List ℕ) (made : Option (ℕ × Bool)). text ++ end_text setting setting.live number made) h.0 fired, h.1, h.2, h.3)
+  closed_same number m n fires (goes_on a) (stops text) low less h = tt
+  closed_same number m n fires (stops text) (goes_on b) low less h = tt
+  closed_same number m n fires (stops text) (stops more) low less h = tt
 
   command_same : (number m n : ℕ) (w : World) (c : Command) → SameSteps m n (command_step setting number m w c) (command_step other number n w c)
   command_same number m n w (Change change) = (refl, refl, refl, omega arith)
@@ -133,7 +143,7 @@ module _ (setting : RunSetting) (limit : ℕ) where
   step_same : (number m n : ℕ) (w : World) (line : List ℕ) → SameSteps m n (line_step setting number m w line) (line_step other number n w line)
   unfolding line_step
   step_same number m n w line =
-      closed_same setting.live number m n (told_step setting number m w line) (told_step other number n w line)
+      closed_same number m n (is_fire_line line) (told_step setting number m w line) (told_step other number n w line) (told_within setting number m w line) (told_within other number n w line)
       (if_steps m n (nat_lt 65536 (length line)) _ _ _ _ (refl, refl, refl, omega arith)
       (if_steps m n (is_line_blank line) _ _ _ _ (refl, refl, refl, omega arith) (asked_same number m n w (asked line))))
 
@@ -180,9 +190,6 @@ module _ (setting : RunSetting) (limit : ℕ) where
           (behind m n c.left d.left c.text d.text (run setting (state_after (at_left lines faulted w m) c) xs) (run other (state_after (at_left lines faulted w n) d) xs) same.0 same.3 ends)
       here (stops text) b is also same rest = λ s t e f. absurd (no_more s s (sym (ap comes_of (run_stops (step_in setting) (at_left lines faulted w m) x text is xs)) ∙ e))
       here (goes_on c) (stops text) is also same rest = λ s t e f. absurd (no_more s t (sym (ap comes_of (run_stops (step_in other) (at_left lines faulted w n) x text also xs)) ∙ f))
-
-made_is : (m n k l : ℕ) → m + l ≡ n + k → k ≤ m → l ≤ n → m - k ≡ n - l
-made_is m n k l sum low less = grind (arith, sum, low, less)
 
 pub same_run : (setting : RunSetting) (limit : ℕ) (lines : List (List ℕ)) (s t : RunState) → (whole_run setting lines).comes_to ≡ Some s
     → (whole_run (with_limit limit setting) lines).comes_to ≡ Some t → IsSameRun setting.limit limit (whole_run setting lines) (whole_run (with_limit limit setting) lines) s t

@@ -1,41 +1,58 @@
 -- The step of a line, by what the line is, and the line that closes it.
-use Rattle.script_run.proofs.Common.{◌≡◌, ℕ, ◌<◌, ◌++◌, true, List, length, Option, refl, sym, ap, ◌∙◌, append_assoc, subst, World, Goes, Stops, fault_text}
+use Rattle.script_run.proofs.Common.{◌≡◌, ℕ, ◌<◌, ◌++◌, true, List, length, Option, refl, sym, ap, ◌∙◌, append_assoc, subst, World, Goes, Stops, written_fault, Bool, false}
 use Rattle.script_run.proofs.Common.{RunSetting, LineEffect, goes_on, stops, fault_step, Does}
 use Rattle.std.proofs.lemmas.Bool.{lt-ltb}
 use Rattle.line_run.specs.declared.turn.Turn.{Turn}
 use Rattle.script_run.specs.declared.fault.LineCode.TheVariants.{LineLong}
-use Rattle.script_run.specs.Run.{closed, end_text, line_step, met_lines, met_step, told_step}
+use Rattle.script_run.specs.Run.{closed, end_text, fired_of, is_fire_line, line_step, met_lines, met_step, told_step}
 use Rattle.script_run.specs.Turns.{Closes}
 
-too_long : (setting : RunSetting) (number left : ℕ) (w : World) (line : List ℕ) → 65536 < length line → told_step setting number left w line ≡ fault_step number left w LineLong
+too_long : (setting : RunSetting) (number left : ℕ) (w : World) (line : List ℕ) → 65536 < length line → told_step setting number left w line ≡ fault_step setting.form number left w LineLong
 too_long setting number left w line h = rw (lt-ltb 65536 (length line) h) refl
 
+-- and it is no fire command
+long_fires_not : (line : List ℕ) → 65536 < length line → is_fire_line line ≡ false
+long_fires_not line h = rw (lt-ltb 65536 (length line) h) refl
+
 -- a line that is too long is a fault
-pub long_step : (setting : RunSetting) (number left : ℕ) (w : World) (line : List ℕ) → 65536 < length line → (before after : List ℕ) (stands : World → Type 0)
-    → after ≡ before ++ fault_text number LineLong → stands w → Does stands (told_step setting number left w line) before after (Goes true left)
+long_step : (setting : RunSetting) (number left : ℕ) (w : World) (line : List ℕ) → 65536 < length line → (before after : List ℕ) (stands : World → Type 0)
+    → after ≡ before ++ written_fault setting.form number LineLong → stands w → Does stands (told_step setting number left w line) before after (Goes true left)
 long_step setting number left w line h before after stands text st =
-    let d : Does stands (fault_step number left w LineLong) before after (Goes true left) = (text, st, refl) in
+    let d : Does stands (fault_step setting.form number left w LineLong) before after (Goes true left) = (text, st, refl) in
     subst (λ (step : LineEffect). Does stands step before after (Goes true left)) (sym (too_long setting number left w line h)) d
 
 -- what closes a turn closes its line
-closed_turn : (stands : World → Type 0) (live : Option ℕ) (number : ℕ) (effect : LineEffect) (before middle after : List ℕ) (turn : Turn)
-    → Does stands effect before middle turn → Closes live number turn middle after → Does stands (closed live number effect) before after turn
-closed_turn stands live number (goes_on done) before middle after turn h end =
-    let is : after ≡ middle ++ end_text live number = rw h.2 at end in
-    (is ∙ ap (λ (z : List ℕ). z ++ end_text live number) h.0 ∙ append_assoc before done.text (end_text live number), h.1, h.2)
-closed_turn stands live number (stops text) before middle after turn h end = let is : after ≡ middle = rw h.1 at end in (is ∙ h.0, h.1)
+closed_turn : (stands : World → Type 0) (setting : RunSetting) (number had : ℕ) (fires : Bool) (effect : LineEffect) (before middle after : List ℕ) (turn : Turn)
+    → Does stands effect before middle turn → Closes setting number had fires stands turn middle after → Does stands (closed setting number had fires effect) before after turn
+closed_turn stands setting number had fires (goes_on done) before middle after turn h end =
+    let text : List ℕ = end_text setting setting.live number (fired_of setting fires had done.left done.world) in
+    let closes : Closes setting number had fires stands (Goes done.faulty done.left) middle after = rw h.2 at end in
+    let is : after ≡ middle ++ text = closes done.world h.1 in
+    (is ∙ ap (λ (z : List ℕ). z ++ text) h.0 ∙ append_assoc before done.text text, h.1, h.2)
+closed_turn stands setting number had fires (stops text) before middle after turn h end =
+    let closes : Closes setting number had fires stands Stops middle after = rw h.1 at end in
+    (closes ∙ h.0, h.1)
 
-pub closes : (setting : RunSetting) (number left : ℕ) (w : World) (line before middle after : List ℕ) (stands : World → Type 0) (turn : Turn)
-    → Does stands (told_step setting number left w line) before middle turn → Closes setting.live number turn middle after → Does stands (line_step setting number left w line) before after turn
+pub closes : (setting : RunSetting) (number left : ℕ) (w : World) (line before middle after : List ℕ) (stands : World → Type 0) (fires : Bool) (turn : Turn) → fires ≡ is_fire_line line
+    → Does stands (told_step setting number left w line) before middle turn → Closes setting number left fires stands turn middle after → Does stands (line_step setting number left w line) before after turn
 unfolding line_step
-closes setting number left w line before middle after stands turn h end = closed_turn stands setting.live number (told_step setting number left w line) before middle after turn h end
+closes setting number left w line before middle after stands fires turn is h end =
+    subst (λ (b : Bool). Does stands (closed setting number left b (told_step setting number left w line)) before after turn) is
+    (closed_turn stands setting number left fires (told_step setting number left w line) before middle after turn h end)
+
+-- a line that is too long
+pub long_closes : (setting : RunSetting) (number left : ℕ) (w : World) (line before middle after : List ℕ) (stands : World → Type 0) → 65536 < length line
+    → middle ≡ before ++ written_fault setting.form number LineLong → stands w → Closes setting number left false stands (Goes true left) middle after
+    → Does stands (line_step setting number left w line) before after (Goes true left)
+long_closes setting number left w line before middle after stands h text st end =
+    closes setting number left w line before middle after stands false (Goes true left) (sym (long_fires_not line h)) (long_step setting number left w line h before middle stands text st) end
 
 -- what is said of the limit for each command is behind what its firings print
 pub met_there : (stands : World → Type 0) (setting : RunSetting) (each number : ℕ) (most : Option ℕ) (effect : LineEffect) (before middle after : List ℕ) (turn : Turn) → (turn ≡ Stops → ⊥)
-    → ((v : World) → stands v → after ≡ middle ++ met_lines (setting.fires setting.program v) each number most) → Does stands effect before middle turn
+    → ((v : World) → stands v → after ≡ middle ++ met_lines setting.form (setting.fires setting.program v) each number most) → Does stands effect before middle turn
     → Does stands (met_step setting each number most effect) before after turn
 met_there stands setting each number most (goes_on done) before middle after turn on told h =
-    let text : List ℕ = met_lines (setting.fires setting.program done.world) each number most in
+    let text : List ℕ = met_lines setting.form (setting.fires setting.program done.world) each number most in
     (told done.world h.1 ∙ ap (λ (z : List ℕ). z ++ text) h.0 ∙ append_assoc before done.text text, h.1, h.2)
 met_there stands setting each number most (stops text) before middle after turn on told h = absurd (on h.1)
 

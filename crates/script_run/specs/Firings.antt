@@ -4,7 +4,7 @@ use Rattle.rule_model.specs.declared.life.LifeTable.{LifeTable}
 use Rattle.rule_model.specs.declared.program.Program.{Program}
 use Rattle.rule_world.specs.Worlds.{World}
 use Rattle.script_read.specs.declared.asked.Change.{Change}
-use Rattle.engine.specs.declared.lines.OutLine.{OutLine}
+use Rattle.answer_lines.specs.declared.lines.OutLine.{OutLine}
 
 -- the lines of a change in a world, and the next world
 abbrev pub Gives : Type 0

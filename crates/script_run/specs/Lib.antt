@@ -1,4 +1,5 @@
 pub mod Texts
+pub mod Written
 pub mod Firings
 pub mod Run
 pub mod Parts

@@ -2,15 +2,17 @@
 use Rattle.std.specs.Prelude.{ℕ, ◌++◌, ◌==◌, Bool, true, false, List, [], ◌∷◌, slice_get, Option, Some, None, if◌then◌else◌, codes}
 use Rattle.std.specs.Fmt.{decimal, signed_decimal}
 use Rattle.std.specs.List.{flat_map, list_any}
+use Rattle.fx_base.specs.declared.ids.FactId.{FactId}
+use Rattle.fx_base.specs.declared.ids.TypeId.{TypeId}
 use Rattle.rule_model.specs.declared.program.Program.{Program}
 use Rattle.rule_model.specs.declared.program.TypeInfo.{TypeInfo}
 use Rattle.rule_model.specs.declared.program.Rule.{Rule}
-use Rattle.engine.specs.declared.lines.OutLine.{OutLine}
-use Rattle.engine.specs.declared.lines.OutLine.TheVariants.{New, Fire, Fault}
-use Rattle.engine.specs.declared.lines.Cell.{Cell}
+use Rattle.answer_lines.specs.declared.lines.OutLine.{OutLine}
+use Rattle.answer_lines.specs.declared.lines.OutLine.TheVariants.{New, Fire, Fault, Inserted, Modified, Retracted, FiredFor}
+use Rattle.answer_lines.specs.declared.lines.Cell.{Cell}
 use Rattle.rule_world.specs.CodeNames.{code_name}
 use Rattle.script_run.specs.declared.fault.LineCode.{LineCode}
-use Rattle.engine.specs.declared.lines.Cell.TheVariants as cell
+use Rattle.answer_lines.specs.declared.lines.Cell.TheVariants as cell
 use Rattle.script_run.specs.declared.fault.LineCode.TheVariants as fault
 
 abbrev pub type_name : Option TypeInfo → List ℕ
@@ -58,20 +60,29 @@ met_text number each = codes "limit " ++ decimal number ++ codes " " ++ decimal 
 abbrev pub done_text : ℕ → List ℕ
 done_text number = codes "done " ++ decimal number ++ 10 ∷ []
 
--- a line that a line of the script with this number gives
+-- a fact of a type is new
+abbrev pub new_text : Program → FactId → TypeId → List ℕ
+new_text p id ty = codes "new #" ++ decimal id.0 ++ codes " " ++ type_name (slice_get p.types ty.0) ++ 10 ∷ []
+
+-- a line that a line of the script with this number gives; a run that prints text has no lines in full, which are objects
 unfoldable pub line_text : Program → ℕ → OutLine → List ℕ
-line_text p number (New id ty) = codes "new #" ++ decimal id.0 ++ codes " " ++ type_name (slice_get p.types ty.0) ++ 10 ∷ []
+line_text p number (New id ty) = new_text p id ty
 line_text p number (Fire rule cells) =
     codes "fire \"" ++ flat_map quoted_byte (rule_name (slice_get p.rules rule.0)) ++ codes "\"" ++ flat_map cell_text cells ++ 10 ∷ []
 line_text p number (Fault code) = fault_text number (fault.Refused code)
-
-abbrev pub lines_text : Program → ℕ → List OutLine → List ℕ
-lines_text p number lines = flat_map (line_text p number) lines
+line_text p number (Inserted f) = new_text p f.id f.ty
+line_text p number (Modified f) = []
+line_text p number (Retracted id ty) = []
+line_text p number (FiredFor rule clock facts values) = []
 
 abbrev pub is_fault : OutLine → Bool
 is_fault (New id ty) = false
 is_fault (Fire rule cells) = false
 is_fault (Fault code) = true
+is_fault (Inserted f) = false
+is_fault (Modified f) = false
+is_fault (Retracted id ty) = false
+is_fault (FiredFor rule clock facts values) = false
 
 abbrev pub has_fault : List OutLine → Bool
 has_fault lines = list_any is_fault lines
@@ -79,9 +90,3 @@ has_fault lines = list_any is_fault lines
 -- so many events of a type of this name are kept
 abbrev pub held_line : List ℕ → ℕ → List ℕ
 held_line name number = codes "held " ++ name ++ codes " " ++ decimal number ++ 10 ∷ []
-
--- so many of each event type, in their order: each takes the next number
-abbrev pub held_text : List TypeInfo → List ℕ → List ℕ
-held_text [] numbers = []
-held_text (ty ∷ types) [] = []
-held_text (ty ∷ types) (number ∷ numbers) = if ty.event then held_line ty.name number ++ held_text types numbers else held_text types (number ∷ numbers)

@@ -1,24 +1,24 @@
 -- What a line does to an engine that stands for worlds.
 use Rattle.std.specs.Prelude.{◌≡◌, ◌≤◌, ◌+◌, ◌*◌, ◌^◌, ℕ, ◌++◌, Bool, List, Option, Some, None, Result}
 use Rattle.rule_world.specs.Worlds.{World}
-use Rattle.engine.specs.declared.lines.OutLine.{OutLine}
+use Rattle.answer_lines.specs.declared.lines.OutLine.{OutLine}
 use Rattle.line_run.specs.declared.fault.RunFault.{RunFault}
 use Rattle.line_run.specs.declared.turn.Turn.{Turn}
 use Rattle.line_run.specs.declared.turn.Turn.TheVariants.{Goes, Stops}
 use Rattle.line_run.specs.declared.turn.Ended.{Ended}
 use Rattle.line_run.specs.Turns.{TakesUpTo}
-use Rattle.script_run.specs.Run.{end_text}
-use Rattle.script_run.specs.Texts.{limit_text}
+use Rattle.script_run.specs.Run.{RunSetting, end_text, fired_of}
 
--- no firing is left: the limit is met where a match is pending
-abbrev pub EndsFirings : ℕ → Option (List OutLine × World) → Bool → List ℕ → List ℕ → Turn → Type 0
-EndsFirings limit None faulty before after turn = (after ≡ before) × (turn ≡ Goes faulty 0)
-EndsFirings limit (Some f) faulty before after turn = (after ≡ before ++ limit_text limit) × (turn ≡ Stops)
+-- no firing is left: the limit is met where a match is pending, which this tells
+abbrev pub EndsFirings : List ℕ → Option (List OutLine × World) → Bool → List ℕ → List ℕ → Turn → Type 0
+EndsFirings told None faulty before after turn = (after ≡ before) × (turn ≡ Goes faulty 0)
+EndsFirings told (Some f) faulty before after turn = (after ≡ before ++ told) × (turn ≡ Stops)
 
--- a turn after which the run goes on is closed
-abbrev pub Closes : Option ℕ → ℕ → Turn → List ℕ → List ℕ → Type 0
-Closes live number (Goes faulty left) before after = after ≡ before ++ end_text live number
-Closes live number Stops before after = after ≡ before
+-- A turn after which the run goes on is closed, in each world for which the engine stands then; so many firings were left before it.
+abbrev pub Closes : RunSetting → ℕ → ℕ → Bool → (World → Type 0) → Turn → List ℕ → List ℕ → Type 0
+Closes setting number had fires stands (Goes faulty left) before after =
+    (w : World) → stands w → after ≡ before ++ end_text setting setting.live number (fired_of setting fires had left w)
+Closes setting number had fires stands Stops before after = after ≡ before
 
 -- the tags given, and those that the firings that are left may give, are at most so many
 abbrev pub Within : ℕ → ℕ → Turn → Type 0

@@ -12,6 +12,7 @@ ghost use Rattle.script_run.specs.Run.{setting_of, run as run_lines, whole_run};
 ghost use Rattle.script_run.specs.Turns.{TakesScript};
 ghost use Rattle.script_run.specs.Unfinished.{Long};
 
+use crate::form::Form;
 use crate::obeying::{Obeying, boxed_scratch};
 use engine::Engine;
 use fx_io::{Sink, Source};
@@ -75,6 +76,7 @@ pub fn run_from<E: Engine, S: Source<K>, K: Sink>(
         engine,
         limit,
         live: None,
+        form: Form::Text,
         scratch,
     };
     match run_lines(alloc, taker, at, SCRIPT_MAX, script, out, silent) {

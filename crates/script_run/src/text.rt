@@ -1,11 +1,11 @@
-ghost use Rattle.std.specs.Prelude.{◌≡◌, ◌++◌, ◌||◌, IfOk, OnOk, slice_get};
+ghost use Rattle.std.specs.Prelude.{◌≡◌, ◌++◌, OnOk, slice_get};
 ghost use Rattle.std.specs.Fmt.{decimal, signed_decimal};
 ghost use Rattle.std.specs.List.{flat_map};
-ghost use Rattle.script_run.specs.Texts.{type_name, rule_name, quoted_byte, cell_text, done_text, fault_text, limit_text, met_text, line_text, lines_text, is_fault, has_fault};
+ghost use Rattle.script_run.specs.Texts.{type_name, rule_name, quoted_byte, cell_text, done_text, fault_text, limit_text, met_text, line_text, new_text};
 
 use crate::fault::LineCode;
 use engine::{Cell, OutLine};
-use fx_base::NoMemory;
+use fx_base::{FactId, NoMemory, TypeId};
 use itoa::Buffer;
 use rule_model::{Program, Rule, TypeInfo};
 
@@ -87,6 +87,19 @@ fn push_cells(text: &mut Vec<u8>, cells: &[Cell]) -> Result<(), NoMemory>
     Ok(())
 }
 
+// Appends the line of a new fact.
+fn push_new(text: &mut Vec<u8>, program: &Program, id: FactId, ty: TypeId) -> Result<(), NoMemory>
+    ensures { OnOk result (text.new.items ≡ text.old.items ++ new_text program.now id ty) }
+{
+    text.extend_from_slice(b"new #")?;
+    push_number(text, id.0)?;
+    text.extend_from_slice(b" ")?;
+    let name = name_of_type(program.types.as_slice(), ty.0 as usize);
+    text.extend_from_slice(name.as_bytes())?;
+    text.push(b'\n')?;
+    Ok(())
+}
+
 /// Appends the line of a faulty line of the script.
 pub(crate) fn push_fault(text: &mut Vec<u8>, number: u64, code: LineCode) -> Result<(), NoMemory>
     ensures { OnOk result (text.new.items ≡ text.old.items ++ fault_text number code) }
@@ -131,27 +144,18 @@ pub(crate) fn push_done(text: &mut Vec<u8>, number: u64) -> Result<(), NoMemory>
     Ok(())
 }
 
-// Appends a line, and answers whether it is a fault.
+/// Appends the line of text of a line of an engine.
 #[tactic(auto, unfolding(crate::specs::Texts::line_text))]
-fn push_line(
+pub(crate) fn push_line(
     text: &mut Vec<u8>,
     program: &Program,
     number: u64,
     line: &OutLine,
-) -> Result<bool, NoMemory>
-    ensures text { OnOk result (text.new.items ≡ text.old.items ++ line_text program.now number line.now) }
-    ensures fault { IfOk result (λ faulty. faulty ≡ is_fault line.now) }
+) -> Result<(), NoMemory>
+    ensures { OnOk result (text.new.items ≡ text.old.items ++ line_text program.now number line.now) }
 {
     match line {
-        OutLine::New { id, ty } => {
-            text.extend_from_slice(b"new #")?;
-            push_number(text, id.0)?;
-            text.extend_from_slice(b" ")?;
-            let name = name_of_type(program.types.as_slice(), ty.0 as usize);
-            text.extend_from_slice(name.as_bytes())?;
-            text.push(b'\n')?;
-            Ok(false)
-        }
+        OutLine::New { id, ty } => push_new(text, program, *id, *ty),
         OutLine::Fire { rule, cells } => {
             text.extend_from_slice(b"fire \"")?;
             let name = name_of_rule(program.rules.as_slice(), rule.0 as usize);
@@ -159,29 +163,10 @@ fn push_line(
             text.extend_from_slice(b"\"")?;
             push_cells(text, cells.as_slice())?;
             text.push(b'\n')?;
-            Ok(false)
+            Ok(())
         }
-        OutLine::Fault(code) => {
-            push_fault(text, number, LineCode::Refused(*code))?;
-            Ok(true)
-        }
+        OutLine::Fault(code) => push_fault(text, number, LineCode::Refused(*code)),
+        OutLine::Inserted(fact) => push_new(text, program, fact.id, fact.ty),
+        OutLine::Modified(_) | OutLine::Retracted { .. } | OutLine::FiredFor { .. } => Ok(()),
     }
-}
-
-/// Appends lines, and answers whether one of them is a fault.
-pub(crate) fn push_lines(
-    text: &mut Vec<u8>,
-    program: &Program,
-    number: u64,
-    lines: &[OutLine],
-) -> Result<bool, NoMemory>
-    ensures text { OnOk result (text.new.items ≡ text.old.items ++ lines_text program.now number lines.now) }
-    ensures fault { IfOk result (λ faulty. faulty ≡ has_fault lines.now) }
-{
-    let mut faulty = false;
-    for line in lines {
-        let bad = push_line(text, program, number, line)?;
-        faulty = faulty || bad;
-    }
-    Ok(faulty)
 }

@@ -52,7 +52,7 @@ pub use Rattle.session_laws.proofs.Faults.{presented, promise_refused, retract_a
 pub use Rattle.session_laws.proofs.Faults.{safe_again, safe_left, safe_less, safe_new, safe_numbers}
 pub use Rattle.session_laws.proofs.Forgotten.{no_keys, safe_fewer, stands_less, stands_same}
 pub use Rattle.session_laws.proofs.Inserting.{held_again, numbers_await, present_awaits, released_free}
-pub use Rattle.session_laws.proofs.Knowing.{followed_sound, new_no_more, one_more_known, asked_known, fire_line_known, merely_known, none_more, promise_no_more}
+pub use Rattle.session_laws.proofs.Knowing.{followed_sound, new_no_more, one_more_known, asked_known, line_known, revision_known, new_known, retraction_known, merely_known, none_more, promise_no_more}
 pub use Rattle.session_laws.proofs.Knowing.{standing_sound, top_known}
 pub use Rattle.session_laws.proofs.Leaving.{AreGone, no_tags, none_gone, turn_gone}
 pub use Rattle.session_laws.proofs.Looking.{modify_fault_is, retract_fault_is}
@@ -71,7 +71,7 @@ pub use Rattle.session_laws.proofs.Tried.{on_ok_weaker, tried_done, no_lines, on
 pub use Rattle.session_laws.proofs.Tried.{done_lines, none_done, one_done, refused_stands, refused_writes, tried_stands, tried_writes}
 pub use Rattle.session_laws.specs.Counts.{AreCounts}
 pub use Rattle.session_laws.specs.Following.{instant_of, facts_at_clock, facts_at, instant_at}
-pub use Rattle.session_laws.specs.Gives.{cells, does_all, fire_line, fires, gives}
+pub use Rattle.session_laws.specs.Gives.{cells, does_all, fires_in, gives_in}
 pub use Rattle.session_laws.specs.Leading.{MovesSession, StayKnown, AllWantKnown, AllFit}
 pub use Rattle.session_laws.specs.Places.{newest, IsNewestTag, planned}
 pub use Rattle.session_laws.specs.Refreshed.{IsRefreshed, no_rule_rows, over, rows_at}

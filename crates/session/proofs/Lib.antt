@@ -1,3 +1,4 @@
 mod Common
 mod OfImage
 mod Stops
+mod Answering

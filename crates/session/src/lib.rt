@@ -1,9 +1,12 @@
 //! The engine: it keeps the facts of a program that some rule can still need, its clock, the network of its rules and an agenda, and
-//! answers the lines of each change and firing. What it answers is the world's, which keeps every fact.
+//! answers the lines of each change and firing, in brief or in full. What it answers is the world's, which keeps every fact.
+//! Calls that allocate answer `NoMemory` where memory is refused.
 #![tactic(auto)]
 
+mod copying;
 mod counting;
 mod course;
+mod detailed;
 mod firing;
 pub mod laws;
 mod moving;
@@ -16,7 +19,8 @@ mod settling;
 mod state;
 mod steps;
 
-pub use engine::{Cell, Engine, Fired, Lines, OutLine};
+pub use detailed::DetailedSession;
+pub use engine::{Cell, Detail, Engine, Fired, Lines, OutLine};
 pub use rule_world::Code;
 pub use session::Session;
 pub use session_laws::{Memory, Setting};

@@ -1,4 +1,4 @@
-ghost use Rattle.std.specs.Prelude.{◌≡◌, ◌+◌, ◌<◌, ◌^◌, ◌≤ℤ◌, ◌+ℤ◌, ◌-ℤ◌, ◌==◌, ◌&&◌, not, ℕ, pos, true, false, None, Some, length, nat_lt, slice_get, is_some, cond, IfOk, OnOk, OnErr};
+ghost use Rattle.std.specs.Prelude.{◌≡◌, ◌+◌, ◌<◌, ◌^◌, ◌≤ℤ◌, ◌+ℤ◌, ◌-ℤ◌, ◌==◌, ◌&&◌, ◌++◌, not, ℕ, pos, true, false, None, Some, length, nat_lt, slice_get, is_some, cond, IfOk, OnOk, OnErr};
 ghost use Rattle.rule_model.specs.Lives.{AreShort, IsShortLife};
 ghost use Rattle.rule_model.specs.declared.step.Step.TheVariants.{Insert, Modify, Retract, At, Promise, Begin};
 ghost use Rattle.rule_model.specs.Candidates.{is_present};
@@ -7,15 +7,18 @@ ghost use Rattle.rule_world.specs.Programs.{IsRunnable};
 ghost use Rattle.rule_world.specs.Worlds.{with_values, is_of_type, modify_fault, revised as revised_fact};
 ghost use Rattle.retention.specs.Retentions.{lingers};
 ghost use Rattle.forgetting.specs.Sights.{end_of_life, ends_by};
+ghost use Rattle.session_laws.specs.Gives.{modified_lines, revision};
 ghost use Rattle.session_laws.specs.Leading.{MovesSession};
 ghost use Rattle.session_laws.specs.Places.{IsNewestTag, newest};
 ghost use Rattle.session_laws.specs.Standing.{Runs, StaysSound};
 ghost use Rattle.session_laws.specs.Waiting.{with_timer, without_timer};
 ghost use Rattle.std.specs.FinMap as map;
 
+use crate::copying::copy_of;
 use crate::refreshing::{follow, take_all, take_fact};
 use crate::state::State;
 use due_queue::DueQueue;
+use engine::{Detail, OutLine};
 use fact_store::FactStore;
 use fx_base::{Copies, EntryId, Fact, FactId, Facts, Millis, NoMemory, Seq, Tag, TypeId, Value};
 use retention::Retention;
@@ -55,6 +58,24 @@ fn revised(
         tag,
         times: fact.times,
     })
+}
+
+// Tells the version that a modification made, of which in brief nothing is said.
+fn tell_modified(
+    alloc: Global,
+    detail: Detail,
+    fact: &Fact,
+    lines: &mut Vec<OutLine>,
+) -> Result<(), NoMemory>
+    ensures { OnOk result (lines.new.items ≡ lines.old.items ++ modified_lines detail (Some fact.now)) }
+{
+    match detail {
+        Detail::Brief => Ok(()),
+        Detail::Full => {
+            lines.push(OutLine::Modified(copy_of(alloc, fact)?))?;
+            Ok(())
+        }
+    }
 }
 
 /// Holds one fact more, whose tag is new. Where memory is refused, nothing changes.
@@ -262,7 +283,7 @@ impl State {
         self.settle(alloc, setting, memory, left.as_slice())
     }
 
-    /// Modifies the plain fact of the id, which has this tag and is there.
+    /// Modifies the plain fact of the id, which has this tag and is there, and adds the line of that.
     pub(crate) fn take_sets(
         &mut self,
         alloc: Global,
@@ -271,18 +292,21 @@ impl State {
         id: FactId,
         tag: Tag,
         sets: Seq<(usize, Value)>,
+        lines: &mut Vec<OutLine>,
     ) -> Result<(), NoMemory>
         requires runs { Runs setting.now }
         requires low { self.old.next_tag < 2 ^ 63 }
         requires tag { IsNewestTag self.old.facts id.0 tag }
         requires plain { modify_fault setting.now.program (newest self.old id.0) ≡ None }
         ensures stands { OnOk result (MovesSession setting.now memory.old self.old (Modify id sets) memory.new self.new) }
+        ensures lines { OnOk result (lines.new.items ≡ lines.old.items ++ modified_lines setting.now.detail (revision self.old.next_tag sets (map.get self.old.facts tag.0))) }
         ensures tags { OnOk result (self.new.next_tag ≡ self.old.next_tag + 1) }
         ensures sound { OnOk result (StaysSound setting.now.program memory.old self.old memory.new self.new) }
     {
         let next = Tag(self.next_tag);
         let before = self.facts.fact(tag).unwrap();
         let after = revised(alloc, before, sets, next)?;
+        tell_modified(alloc, setting.detail, &after, lines)?;
         self.next_tag += 1;
         put_fact(&mut self.facts, after)?;
         let moment = self.course.moment(self.clock);

@@ -15,10 +15,12 @@ ghost use Rattle.image_fitting.specs.Plain.{FitsPlainly, FitsByRows};
 ghost use Rattle.session_laws.specs.Restoring.{IsMatched, IsRestored};
 ghost use Rattle.session_laws.specs.Saving.{IsSessionSaved};
 ghost use Rattle.session_laws.specs.Standing.{Runs};
+ghost use Rattle.answer_lines.specs.declared.lines.Detail.TheVariants.{Brief};
 ghost use Rattle.checkpoint.specs.declared.image.Image.{Image as ImageData};
 ghost use Rattle.session.specs.Restores.{AreOfImage};
 ghost use Rattle.session.specs.Sessions.{SessionStands};
 
+use crate::copying::copy_of;
 use crate::course::Course;
 use crate::restoring::{Restored, agenda_of};
 use crate::running::Running;
@@ -26,9 +28,9 @@ use crate::session::Session;
 use crate::state::State;
 use agenda::Agenda;
 use checkpoint::{FiredMatch, Image, RunPart};
-use engine::ResumeFault;
+use engine::{Detail, ResumeFault};
 use fact_store::FactStore;
-use fx_base::{Copies, Fact, NoMemory, Seq};
+use fx_base::{Fact, NoMemory, Seq};
 use image_fitting::fits_plainly;
 use image_fitting::laws::an_image_fits_by_tests_and_rows;
 use rete_net::{LoadFault, Rete};
@@ -122,20 +124,6 @@ fn boxed(alloc: Global, state: State, memory: Memory) -> Result<(Box<State>, Box
     ensures memory { IfOk result (λ r. r.1.value ≡ memory) }
 {
     Ok((Box::new(alloc, state)?, Box::new(alloc, memory)?))
-}
-
-// A copy of a fact.
-fn copy_of(alloc: Global, fact: &Fact) -> Result<Fact, NoMemory>
-    ensures { IfOk result (λ copy. copy ≡ fact.now) }
-{
-    Ok(Fact {
-        id: fact.id,
-        ty: fact.ty,
-        entry: fact.entry,
-        fields: fact.fields.copy(alloc)?,
-        tag: fact.tag,
-        times: fact.times,
-    })
 }
 
 // Copies of these facts, in their order.
@@ -251,8 +239,9 @@ impl Session {
         self.state.copied(alloc, run, entries, &self.memory.net)
     }
 
-    /// A session of a program, with a safe table of lives, in each lawful world of which the image is that. `Unfit`: exactly where the image
-    /// does not fit. It costs what the image holds, times the logarithm, and no step of a fact; the facts of the image go into the session.
+    /// A session of a program, with a safe table of lives, in each lawful world of which the image is that. Its lines tell in brief. `Unfit`:
+    /// exactly where the image does not fit. It costs what the image holds, times the logarithm, and no step of a fact; the facts of the image
+    /// go into the session.
     pub fn resume(
         alloc: Global,
         program: Program,
@@ -264,6 +253,28 @@ impl Session {
         ensures stands { IfOk result (λ s. (w : World) → IsLawful program w → IsImageOf program lives w image → SessionStands s w) }
         ensures program { IfOk result (λ s. s.setting.program ≡ program) }
         ensures table { IfOk result (λ s. s.setting.lives ≡ lives) }
+        ensures detail { IfOk result (λ s. s.setting.detail ≡ Brief) }
+        ensures next { IfOk result (λ s. s.state.value.next_tag ≡ image.next_tag) }
+        ensures fits { OnOk result (Fits program lives image) }
+        ensures unfit { IsErrOf result ResumeFault.Unfit → Fits program lives image → ⊥ }
+    {
+        Session::resume_with_detail(alloc, program, lives, Detail::Brief, image)
+    }
+
+    /// The same, with lines that tell so much.
+    pub fn resume_with_detail(
+        alloc: Global,
+        program: Program,
+        lives: LifeTable,
+        detail: Detail,
+        image: Image,
+    ) -> Result<Session, ResumeFault>
+        requires runnable { IsRunnable program }
+        requires table { IsSafeTable program lives }
+        ensures stands { IfOk result (λ s. (w : World) → IsLawful program w → IsImageOf program lives w image → SessionStands s w) }
+        ensures program { IfOk result (λ s. s.setting.program ≡ program) }
+        ensures table { IfOk result (λ s. s.setting.lives ≡ lives) }
+        ensures detail { IfOk result (λ s. s.setting.detail ≡ detail) }
         ensures next { IfOk result (λ s. s.state.value.next_tag ≡ image.next_tag) }
         ensures fits { OnOk result (Fits program lives image) }
         ensures unfit { IsErrOf result ResumeFault.Unfit → Fits program lives image → ⊥ }
@@ -273,7 +284,14 @@ impl Session {
         if !plain {
             return Err(ResumeFault::Unfit);
         }
-        let setting = Running::new(alloc, Setting { program, lives })?;
+        let setting = Running::new(
+            alloc,
+            Setting {
+                program,
+                lives,
+                detail,
+            },
+        )?;
         let (state, memory) = restored(alloc, setting.setting(), image)?;
         let (state, memory) = boxed(alloc, state, memory)?;
         Ok(Session {

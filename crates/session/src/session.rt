@@ -9,7 +9,7 @@ use crate::state::State;
 use agenda::Agenda;
 use change_read::asked_step;
 use checkpoint::{Image, RunPart};
-use engine::{Engine, Fired, Lines, ResumeFault};
+use engine::{Detail, Engine, Fired, Lines, ResumeFault};
 use fx_base::{Millis, NoMemory, Seq};
 use rete_net::Rete;
 use retention::Retention;
@@ -29,7 +29,7 @@ pub(crate) fn saliences_of(alloc: Global, rules: &[Rule]) -> Result<Vec<i64>, No
     Ok(all)
 }
 
-/// An engine of a program. It keeps, under their tags, the present facts that some rule can still need, the
+/// An engine of a program, whose lines tell in brief, or in full as those of `DetailedSession`. It keeps, under their tags, the present facts that some rule can still need, the
 /// moments at which events expire, the clock, what the entry points have reached, whether the world has begun, an agenda, the network of
 /// its rules, and the events whose lives end.
 #[derive(Drop)]
@@ -48,16 +48,36 @@ impl Session {
     ghost use Rattle.engine.specs.Known.{are_known, is_known_firing};
     ghost use Rattle.engine.specs.Counts.{HasEach};
     ghost use Rattle.session_laws.specs.Counts.{held_counts};
-    ghost use Rattle.session_laws.specs.Gives.{gives, fires};
+    ghost use Rattle.answer_lines.specs.declared.lines.Detail.TheVariants.{Brief};
+    ghost use Rattle.session_laws.specs.Gives.{gives_in, fires_in};
     ghost use Rattle.session.specs.Sessions.{SessionStands};
 
-    /// An engine in the empty world of a program, with a safe table of lives.
+    /// An engine in the empty world of a program, with a safe table of lives. Its lines tell in brief.
     pub fn new(alloc: Global, program: Program, lives: LifeTable) -> Result<Session, NoMemory>
         requires runnable { IsRunnable program }
         requires table { IsSafeTable program lives }
         ensures stands { IfOk result (λ s. SessionStands s empty_world) }
         ensures program { IfOk result (λ s. s.setting.program ≡ program) }
         ensures table { IfOk result (λ s. s.setting.lives ≡ lives) }
+        ensures detail { IfOk result (λ s. s.setting.detail ≡ Brief) }
+        ensures next { IfOk result (λ s. s.state.value.next_tag ≡ 1) }
+    {
+        Session::with_detail(alloc, program, lives, Detail::Brief)
+    }
+
+    /// The same, with lines that tell so much.
+    pub fn with_detail(
+        alloc: Global,
+        program: Program,
+        lives: LifeTable,
+        detail: Detail,
+    ) -> Result<Session, NoMemory>
+        requires runnable { IsRunnable program }
+        requires table { IsSafeTable program lives }
+        ensures stands { IfOk result (λ s. SessionStands s empty_world) }
+        ensures program { IfOk result (λ s. s.setting.program ≡ program) }
+        ensures table { IfOk result (λ s. s.setting.lives ≡ lives) }
+        ensures detail { IfOk result (λ s. s.setting.detail ≡ detail) }
         ensures next { IfOk result (λ s. s.state.value.next_tag ≡ 1) }
     {
         let saliences = saliences_of(alloc, program.rules.as_slice())?;
@@ -67,7 +87,14 @@ impl Session {
         let kept = State::new(alloc, agenda);
         let state = Box::new(alloc, kept)?;
         let retention = Retention::new(alloc);
-        let setting = Running::new(alloc, Setting { program, lives })?;
+        let setting = Running::new(
+            alloc,
+            Setting {
+                program,
+                lives,
+                detail,
+            },
+        )?;
         let memory = Box::new(alloc, Memory { net, retention })?;
         Ok(Session {
             setting,
@@ -79,11 +106,12 @@ impl Session {
     /// The lines of a change, or its fault, which leaves the world as it is.
     pub fn apply(self, alloc: Global, change: &Change) -> Result<(Session, Lines), NoMemory>
         requires { self.state.value.next_tag ≤ 2 ^ 62 }
-        ensures lines { IfOk result (λ r. (w : World) → SessionStands self w → r.1 ≡ (gives self.setting.program w change.now).0) }
-        ensures next { IfOk result (λ r. (w : World) → SessionStands self w → SessionStands r.0 (gives self.setting.program w change.now).1) }
+        ensures lines { IfOk result (λ r. (w : World) → SessionStands self w → r.1 ≡ (gives_in self.setting.detail self.setting.program w change.now).0) }
+        ensures next { IfOk result (λ r. (w : World) → SessionStands self w → SessionStands r.0 (gives_in self.setting.detail self.setting.program w change.now).1) }
         ensures known { IfOk result (λ r. are_known self.setting.program r.1 ≡ true) }
         ensures program { IfOk result (λ r. r.0.setting.program ≡ self.setting.program) }
         ensures table { IfOk result (λ r. r.0.setting.lives ≡ self.setting.lives) }
+        ensures detail { IfOk result (λ r. r.0.setting.detail ≡ self.setting.detail) }
         ensures tags { IfOk result (λ r. r.0.state.value.next_tag ≤ self.state.value.next_tag + 1) }
     {
         let Session {
@@ -110,10 +138,11 @@ impl Session {
     /// pending.
     pub fn fire_one(self, alloc: Global) -> Result<(Session, Fired), NoMemory>
         requires { self.state.value.next_tag ≤ 2 ^ 62 }
-        ensures answers { IfOk result (λ r. (w : World) → SessionStands self w → FiringAnswers (fires self.setting.program w) r.1 w (SessionStands r.0)) }
+        ensures answers { IfOk result (λ r. (w : World) → SessionStands self w → FiringAnswers (fires_in self.setting.detail self.setting.program w) r.1 w (SessionStands r.0)) }
         ensures known { IfOk result (λ r. is_known_firing self.setting.program r.1 ≡ true) }
         ensures program { IfOk result (λ r. r.0.setting.program ≡ self.setting.program) }
         ensures table { IfOk result (λ r. r.0.setting.lives ≡ self.setting.lives) }
+        ensures detail { IfOk result (λ r. r.0.setting.detail ≡ self.setting.detail) }
         ensures tags { IfOk result (λ r. r.0.state.value.next_tag ≤ self.state.value.next_tag + 16) }
     {
         let Session {
@@ -122,11 +151,11 @@ impl Session {
             mut memory,
         } = self;
         let inside = setting.setting();
-        match state.plan(alloc, &inside.program)? {
-            Some(plan) => {
+        match state.plan(alloc, inside)? {
+            Some(firing) => {
                 let mut lines = Vec::new(alloc);
                 let kept = &mut *state;
-                kept.fire(alloc, inside, &mut *memory, plan, &mut lines)?;
+                kept.fire(alloc, inside, &mut *memory, firing, &mut lines)?;
                 Ok((
                     Session {
                         setting,
@@ -149,7 +178,7 @@ impl Session {
 
     /// Whether a match is pending. Takes no memory.
     pub fn due(&self) -> bool
-        ensures { (w : World) → SessionStands self.now w → result ≡ is_some (fires self.now.setting.program w) }
+        ensures { (w : World) → SessionStands self.now w → result ≡ is_some (fires_in self.now.setting.detail self.now.setting.program w) }
     {
         self.state.top().is_some()
     }
@@ -191,9 +220,9 @@ impl Session {
 impl Engine for Session {
     ghost use Rattle.session_laws.specs.Counts.{held_counts};
     ghost use Rattle.session_laws.specs.Gives.{gives as session_gives, fires as session_fires};
-    ghost use Rattle.session.specs.Sessions.{SessionStands};
+    ghost use Rattle.session.specs.Sessions.{StandsInBrief};
 
-    ghost stands = { SessionStands };
+    ghost stands = { StandsInBrief };
 
     ghost made_with = { λ s. s.setting.program };
 

@@ -4,14 +4,16 @@ ghost use Rattle.rule_model.specs.declared.step.Step.TheVariants.{Insert, Modify
 ghost use Rattle.rule_model.specs.Types.{is_event, is_observed, is_reference};
 ghost use Rattle.rule_world.specs.Events.{most_millis, times_of};
 ghost use Rattle.rule_world.specs.Programs.{IsRunnable};
-ghost use Rattle.engine.specs.declared.lines.OutLine.{OutLine as OutLineData};
-ghost use Rattle.engine.specs.declared.lines.OutLine.TheVariants.{Fault};
+ghost use Rattle.answer_lines.specs.declared.lines.OutLine.{OutLine as OutLineData};
+ghost use Rattle.answer_lines.specs.declared.lines.OutLine.TheVariants.{Fault};
+ghost use Rattle.session_laws.specs.Gives.{new_line, retracted_lines};
 ghost use Rattle.session_laws.specs.Leading.{AllWantKnown, has_known_places, StandsAfter, StandsAfterAll, StayKnown, Tries, WantsKnown, Writes, WritesAll, WritesFor};
 ghost use Rattle.session_laws.specs.Standing.{Runs, StaysSound};
 ghost use Rattle.session_laws.specs.Places.{insert_fault_in};
 
+use crate::copying::copy_of;
 use crate::state::State;
-use engine::OutLine;
+use engine::{Detail, OutLine};
 use fx_base::{EntryId, Fact, FactId, Millis, NoMemory, Seq, Tag, Times, TypeId, Value};
 use rule_model::{Program, Step};
 use rule_world::{Code, clock_after, clock_at, floor, new_times, promise_at};
@@ -42,6 +44,37 @@ fn refuse(code: Code, lines: &mut Vec<OutLine>) -> Result<(), NoMemory>
 {
     lines.push(OutLine::Fault(code))?;
     Ok(())
+}
+
+// The line of a new fact, which in full is copied.
+fn line_of_new(alloc: Global, detail: Detail, fact: &Fact) -> Result<OutLine, NoMemory>
+    ensures { IfOk result (λ line. line ≡ new_line detail fact.now) }
+{
+    match detail {
+        Detail::Brief => Ok(OutLine::New {
+            id: fact.id,
+            ty: fact.ty,
+        }),
+        Detail::Full => Ok(OutLine::Inserted(copy_of(alloc, fact)?)),
+    }
+}
+
+// Tells a retraction, of which in brief nothing is said.
+fn tell_retracted(
+    detail: Detail,
+    ty: TypeId,
+    id: FactId,
+    lines: &mut Vec<OutLine>,
+) -> Result<(), NoMemory>
+    ensures { OnOk result (lines.new.items ≡ lines.old.items ++ retracted_lines detail ty id) }
+{
+    match detail {
+        Detail::Brief => Ok(()),
+        Detail::Full => {
+            lines.push(OutLine::Retracted { id, ty })?;
+            Ok(())
+        }
+    }
 }
 
 // Steps and their faults.
@@ -97,17 +130,15 @@ impl State {
     {
         match self.times_for(&setting.program, ty, entry, fields.as_slice()) {
             Ok(times) => {
-                let id = FactId(self.next_id);
-                let tag = Tag(self.next_tag);
-                lines.push(OutLine::New { id, ty })?;
                 let fact = Fact {
-                    id,
+                    id: FactId(self.next_id),
                     ty,
                     entry,
                     fields,
-                    tag,
+                    tag: Tag(self.next_tag),
                     times,
                 };
+                lines.push(line_of_new(alloc, setting.detail, &fact)?)?;
                 self.take_new(alloc, setting, memory, fact)
             }
             Err(code) => refuse(code, lines),
@@ -133,7 +164,7 @@ impl State {
         ensures known { has_known_places setting.now.program (Modify id sets) ≡ true → OnOk result (StayKnown setting.now.program lines.old.items lines.new.items) }
     {
         match self.modifiable(&setting.program, id) {
-            Ok(tag) => self.take_sets(alloc, setting, memory, id, tag, sets),
+            Ok(tag) => self.take_sets(alloc, setting, memory, id, tag, sets, lines),
             Err(code) => refuse(code, lines),
         }
     }
@@ -162,8 +193,12 @@ impl State {
             return refuse(Code::ReferenceFixed, lines);
         }
         match self.tag_of(ty, id) {
-            Some(tag) => self.take_away(alloc, setting, memory, ty, id, tag),
+            Some(tag) => {
+                tell_retracted(setting.detail, ty, id, lines)?;
+                self.take_away(alloc, setting, memory, ty, id, tag)
+            }
             None if setting.program.is_event(ty) => {
+                tell_retracted(setting.detail, ty, id, lines)?;
                 self.take_away_forgotten(alloc, setting, memory, ty, id)
             }
             None => refuse(Code::Absent, lines),

@@ -3,12 +3,12 @@ use Rattle.session_laws.proofs.Common.{◌≡◌, inl, inr, not, true, List, [],
 use Rattle.session_laws.proofs.Common.{Rule, Step, HaveDistinctTags, IsLawful, Holds, bound_in, matches, has_match, step_of, IsRunnable, In, rows, World}
 use Rattle.session_laws.proofs.Common.{only_present, present, snapshot, pending, first_pending, marked, steps_fit, found_fits, kept_lawful, kept_rows}
 use Rattle.session_laws.proofs.Common.{firing_lawful, of_map, has_pending, first_is_pending, IsMatchOf, rule_of, in_place, same_stays, OutLine, version_of}
-use Rattle.session_laws.proofs.Common.{step_or_overflow, wanted, actions_of, fires_match, fires_with, AllFit}
+use Rattle.session_laws.proofs.Common.{Detail, step_or_overflow, wanted, actions_of, fires_match, fires_with, AllFit}
 use Rattle.std.proofs.lemmas.Bool.{and_parts}
 use Rattle.std.specs.Prelude.{Ok, slice_get}
 use Rattle.session_laws.proofs.Doing.{all_lawful}
 use Rattle.session_laws.proofs.Members.{version_in}
-use Rattle.session_laws.specs.Gives.{fires}
+use Rattle.session_laws.specs.Gives.{fires_in}
 
 -- ---- the versions with the tags
 
@@ -45,17 +45,17 @@ wanted_fits p w m runnable l h = wanted_of p w m runnable l (rule_of p (snapshot
     is_match : has_match (matches p (snapshot w)) m ≡ true
     is_match = (and_parts (has_match (matches p (snapshot w)) m) (not (has_match w.fired m)) (sym (has_pending p w m) ∙ h)).0
 
-match_fired : (p : Program) (w : World) (m : Match) → IsRunnable p → IsLawful p w → has_match (pending p w) m ≡ true → IsLawful p (fires_match p w m).1
-match_fired p w m runnable l h =
-    all_lawful p w l.ordered (marked w m) (wanted (present p w) m.row (actions_of (slice_get p.rules m.rule.0))) (wanted_fits p w m runnable l h) (firing_lawful p w m l h)
+match_fired : (d : Detail) (p : Program) (w : World) (m : Match) → IsRunnable p → IsLawful p w → has_match (pending p w) m ≡ true → IsLawful p (fires_match d p w m).1
+match_fired d p w m runnable l h =
+    all_lawful p w l.ordered d (marked w m) (wanted (present p w) m.row (actions_of (slice_get p.rules m.rule.0))) (wanted_fits p w m runnable l h) (firing_lawful p w m l h)
     (same_stays w (marked w m) refl refl)
 
-pub fires_lawful : (p : Program) (w : World) (lines : List OutLine) (next : World) → IsRunnable p → IsLawful p w → fires p w ≡ Some (lines, next) → IsLawful p next
-unfolding fires
-fires_lawful p w lines next runnable l e = by (first_pending p w) refl e
+pub fires_lawful : (d : Detail) (p : Program) (w : World) (lines : List OutLine) (next : World) → IsRunnable p → IsLawful p w → fires_in d p w ≡ Some (lines, next) → IsLawful p next
+unfolding fires_in
+fires_lawful d p w lines next runnable l e = by (first_pending p w) refl e
   where
-    by : (found : Option Match) → first_pending p w ≡ found → fires_with p w found ≡ Some (lines, next) → IsLawful p next
+    by : (found : Option Match) → first_pending p w ≡ found → fires_with d p w found ≡ Some (lines, next) → IsLawful p next
     by None h k = absurd cc
     by (Some m) h k =
-        let n : (fires_match p w m).1 ≡ next = cc in
-        subst (IsLawful p) n (match_fired p w m runnable l (first_is_pending p w m h))
+        let n : (fires_match d p w m).1 ≡ next = cc in
+        subst (IsLawful p) n (match_fired d p w m runnable l (first_is_pending p w m h))

@@ -2,12 +2,12 @@
 use Rattle.session_laws.proofs.Common.{◌≡◌, ℕ, Bool, true, false, List, Option, Some, None, Result, Err, refl, ◌∙◌, ap, subst, Fact, FactId, Program, TypeInfo}
 use Rattle.session_laws.proofs.Common.{Step, is_event, is_event_type, Code, EventFixed, ReferenceFixed, Absent, sets_fit, IsLawful, IsOrdered, IsRunnable}
 use Rattle.session_laws.proofs.Common.{event_by, found_fits, World, found, is_of_type, Change, Given, entry_asked, fields_step, insert_step, modify_step}
-use Rattle.session_laws.proofs.Common.{type_named, asked_fits, stands, type_stands, Memory, Setting, FitsWorld, IsOfPlain, newest, Contents, Runs, Standing}
+use Rattle.session_laws.proofs.Common.{Detail, type_named, asked_fits, stands, type_stands, Memory, Setting, FitsWorld, IsOfPlain, newest, Contents, Runs, Standing}
 use Rattle.std.specs.Prelude.{if◌then◌else◌}
 use Rattle.rule_world.specs.Kinds.{step_fits}
 use Rattle.script_read.specs.declared.asked.Change.TheVariants.{Insert, Modify, Retract, Advance, At, Promise, Begin}
 use Rattle.change_read.specs.Changes.{change_step}
-use Rattle.session_laws.specs.Gives.{gives}
+use Rattle.session_laws.specs.Gives.{gives_in}
 use Rattle.session_laws.proofs.Doing.{does_lawful, plain_fit}
 use Rattle.session_laws.proofs.Looking.{same_of_type}
 use Rattle.rule_model.specs.declared.step.Step.TheVariants as step
@@ -62,6 +62,6 @@ change_fits p w change runnable o asked e =
     let fit : step_fits p (found p w) asked ≡ true = asked_fits p w.begun (found p w) change asked runnable.some_entry e in
     record { plain = fits_plain p w asked fit; fits = λ none. found_fits p w asked o fit }
 
-pub gives_lawful : (p : Program) (w : World) (change : Change) → IsRunnable p → IsLawful p w → IsLawful p (gives p w change).1
-unfolding gives
-gives_lawful p w change runnable l = does_lawful p w (change_step p w.begun (found p w) change) l (change_fits p w change runnable l.ordered)
+pub gives_lawful : (d : Detail) (p : Program) (w : World) (change : Change) → IsRunnable p → IsLawful p w → IsLawful p (gives_in d p w change).1
+unfolding gives_in
+gives_lawful d p w change runnable l = does_lawful d p w (change_step p w.begun (found p w) change) l (change_fits p w change runnable l.ordered)

@@ -32,9 +32,10 @@ pub use Rattle.condition_rows.specs.Looks.{HasAllOf, empty_snapshot}
 pub use Rattle.condition_rows.specs.Sets.{rows_of, candidates_of, held, has_partner}
 pub use Rattle.due_queue.specs.Timers.{Timers, has_come, TakesDue, is_due, due_cmp, moment_of}
 pub use Rattle.engine.specs.Answers.{FiringAnswers}
-pub use Rattle.engine.specs.declared.lines.Fired.TheVariants.{No, Yes}
-pub use Rattle.engine.specs.declared.lines.OutLine.{OutLine}
-pub use Rattle.engine.specs.declared.lines.OutLine.TheVariants.{Fault, New}
+pub use Rattle.answer_lines.specs.declared.lines.Fired.TheVariants.{No, Yes}
+pub use Rattle.answer_lines.specs.declared.lines.Detail.{Detail}
+pub use Rattle.answer_lines.specs.declared.lines.OutLine.{OutLine}
+pub use Rattle.answer_lines.specs.declared.lines.OutLine.TheVariants.{Fault}
 pub use Rattle.fact_store.proofs.Members.{from_list, from_map, tags_rise}
 pub use Rattle.fact_store.proofs.Stored.{tied, itself}
 pub use Rattle.fact_store.specs.Held.{HeldFacts, facts_of, tag_of, IsNewest, CountsType, HoldsNone, is_held_with_id, is_of}
@@ -151,7 +152,7 @@ pub use Rattle.script_read.specs.declared.given.Given.{Given}
 pub use Rattle.session_laws.specs.Counts.{AreCounts, facts_of_type}
 pub use Rattle.session_laws.specs.Following.{LeadsStep, instant_of, LeadsOn, NeverFalls, HasAtHand, Instant, IsReady, facts_at, ComesLast}
 pub use Rattle.session_laws.specs.Gives.{version_of, actions_of, does, fire_line, fires_with, step_lines, step_or_overflow, tries_with, wanted, does_all}
-pub use Rattle.session_laws.specs.Gives.{fires_match, refused, tries}
+pub use Rattle.session_laws.specs.Gives.{fires_match, new_line, refused, tries}
 pub use Rattle.session_laws.specs.Leading.{AllFit, FitsWorld, IsOfPlain, StandsAfter, WritesFor, AllWantKnown, StayKnown, Suits, Tries, WantsKnown, Writes}
 pub use Rattle.session_laws.specs.Leading.{has_known_places}
 pub use Rattle.session_laws.specs.Places.{newest, IsNewestTag, IsSafe, held_at, planned, insert_fault_in, planned_for}

@@ -3,25 +3,25 @@ use Rattle.session_laws.proofs.Common.{◌≡◌, ◌&&◌, not, inl, inr, ℕ, 
 use Rattle.session_laws.proofs.Common.{◌∙◌, ap, list_all, TypeId, Value, Fact, Program, TypeInfo, Step, Insert, Modify, Retract, Advance, At, Promise, Begin}
 use Rattle.session_laws.proofs.Common.{is_event, is_event_type, Code, set_fits, sets_fit, IsLawful, IsOrdered, World, fact_of, step_fault, event_by}
 use Rattle.session_laws.proofs.Common.{found_there, step_lawful, Stays, fits_later, same_stays, stays_on, step_stays, type_stays, does, tries_with, AllFit}
-use Rattle.session_laws.proofs.Common.{FitsWorld, IsOfPlain}
+use Rattle.session_laws.proofs.Common.{Detail, FitsWorld, IsOfPlain}
 use Rattle.rule_world.specs.Kinds.{step_fits}
 use Rattle.rule_world.proofs.Fitting.{sets_of_type}
 use Rattle.session_laws.specs.Gives.{does_all}
 
 -- a step that is done, or a fault
-pub does_lawful : (p : Program) (w : World) (wanted : Result Step Code) → IsLawful p w → FitsWorld p w wanted → IsLawful p (does p w wanted).1
-does_lawful p w (Err code) l fits = l
-does_lawful p w (Ok step) l fits = by (step_fault p w step) refl
+pub does_lawful : (d : Detail) (p : Program) (w : World) (wanted : Result Step Code) → IsLawful p w → FitsWorld p w wanted → IsLawful p (does d p w wanted).1
+does_lawful d p w (Err code) l fits = l
+does_lawful d p w (Ok step) l fits = by (step_fault p w step) refl
   where
-    by : (fault : Option Code) → step_fault p w step ≡ fault → IsLawful p (tries_with p w step fault).1
+    by : (fault : Option Code) → step_fault p w step ≡ fault → IsLawful p (tries_with d p w step fault).1
     by None none = step_lawful p w step l ((fits step refl).fits none) none
     by (Some code) e = l
 
-pub does_stays : (p : Program) (w : World) (wanted : Result Step Code) → IsOrdered p w → Stays w (does p w wanted).1
-does_stays p w (Err code) o = same_stays w w refl refl
-does_stays p w (Ok step) o = by (step_fault p w step)
+pub does_stays : (d : Detail) (p : Program) (w : World) (wanted : Result Step Code) → IsOrdered p w → Stays w (does d p w wanted).1
+does_stays d p w (Err code) o = same_stays w w refl refl
+does_stays d p w (Ok step) o = by (step_fault p w step)
   where
-    by : (fault : Option Code) → Stays w (tries_with p w step fault).1
+    by : (fault : Option Code) → Stays w (tries_with d p w step fault).1
     by None = step_stays p w step o
     by (Some code) = same_stays w w refl refl
 
@@ -68,9 +68,9 @@ module _ (p : Program) (v : World) (first : IsOrdered p v) where
     fits = λ none. fits_later p v u step first stays (fit step (inl (sym e))) none;
   }
 
-  pub all_lawful : (u : World) (plan : List (Result Step Code)) → AllFit p v plan → IsLawful p u → Stays v u → IsLawful p (does_all p u plan).1
+  pub all_lawful : (d : Detail) (u : World) (plan : List (Result Step Code)) → AllFit p v plan → IsLawful p u → Stays v u → IsLawful p (does_all d p u plan).1
   unfolding does_all
-  all_lawful u [] fit l stays = l
-  all_lawful u (wanted ∷ plan) fit l stays =
-      all_lawful (does p u wanted).1 plan (λ step i. fit step (inr i)) (does_lawful p u wanted l (next_fits u wanted plan fit l.ordered stays))
-      (stays_on v u (does p u wanted).1 stays (does_stays p u wanted l.ordered))
+  all_lawful d u [] fit l stays = l
+  all_lawful d u (wanted ∷ plan) fit l stays =
+      all_lawful d (does d p u wanted).1 plan (λ step i. fit step (inr i)) (does_lawful d p u wanted l (next_fits u wanted plan fit l.ordered stays))
+      (stays_on v u (does d p u wanted).1 stays (does_stays d p u wanted l.ordered))

@@ -5,7 +5,7 @@ use Rattle.session_laws.proofs.Common.{get-insert, get-retain_keys, list_any, na
 use Rattle.session_laws.proofs.Common.{TakesDue, is_due, HeldFacts, HoldsNone, IsNewest, tied, Code, EventObserved, ReferenceFixed, Absent, ClockBack, ClockEnd}
 use Rattle.session_laws.proofs.Common.{Program, Insert, Advance, At, Promise, clock_fault, new_fault, promise_fault, IsLawful, IsRunnable, World}
 use Rattle.session_laws.proofs.Common.{world_at_clock, only_present, is_of_type, retract_fault, settled, floor_by, Reached, is_event, is_observed, is_reference}
-use Rattle.session_laws.proofs.Common.{lateness_of, New, Memory, Setting, step_lines, IsSafe, insert_fault_in, newest, Contents, Mirrors, Standing, with_facts}
+use Rattle.session_laws.proofs.Common.{lateness_of, new_line, new_fact, times_of, Memory, Setting, step_lines, IsSafe, insert_fault_in, newest, Contents, Mirrors, Standing, with_facts}
 use Rattle.session_laws.proofs.Common.{reached_of, with_timer, without_timer, fact_left_at}
 use Rattle.std.specs.Prelude.{if◌then◌else◌, int_lt, nat_eq, option_map}
 use Rattle.rule_world.specs.Events.{most_millis}
@@ -58,6 +58,14 @@ module _ (s : Setting) (m : Memory) (k : Contents) (w : World) (st : Standing s 
   whole = st.seen.whole.mirrors
 
   module _ (ty : TypeId) (entry : EntryId) (fields : List Value) where
+    -- the new fact of the world has the session's numbers
+    numbered_is : (times : Times) → times ≡ times_of (slice_get s.program.types ty.0) k.clock fields → new_fact s.program w ty.0 entry.0 fields ≡ numbered k ty entry fields times
+    numbered_is times e =
+        ap (λ (n : ℕ). record { id = record { 0 = n }; ty = ty; entry = entry; fields = fields; tag = record { 0 = w.next_tag }; times = times_of (slice_get s.program.types ty.0) w.clock fields }) (sym whole.next_id)
+        ∙ ap (λ (n : ℕ). record { id = record { 0 = k.next_id }; ty = ty; entry = entry; fields = fields; tag = record { 0 = n }; times = times_of (slice_get s.program.types ty.0) w.clock fields }) (sym whole.next_tag)
+        ∙ ap (λ (z : ℤ). numbered k ty entry fields (times_of (slice_get s.program.types ty.0) z fields)) (sym whole.clock)
+        ∙ ap (numbered k ty entry fields) (sym e)
+
     pub insert_fault : (o : Option Code) → insert_fault_in s.program k ty.0 entry.0 fields ≡ o → step_fault s.program w (Insert ty entry fields) ≡ o
     unfolding step_fault floor
     insert_fault o e =
@@ -70,8 +78,9 @@ module _ (s : Setting) (m : Memory) (k : Contents) (w : World) (st : Standing s 
         ∙ ap (λ (b : Bool). if fixed && b then Some ReferenceFixed else of k.clock) (sym whole.begun) ∙ e
 
     -- the line of an insertion
-    pub insert_line : step_lines w (Insert ty entry fields) ≡ New (record { 0 = k.next_id }) ty ∷ []
-    insert_line = ap (λ n. New (record { 0 = n }) ty ∷ []) (sym whole.next_id)
+    pub insert_line : (times : Times) → times ≡ times_of (slice_get s.program.types ty.0) k.clock fields
+        → step_lines s.detail s.program w (Insert ty entry fields) ≡ new_line s.detail (numbered k ty entry fields times) ∷ []
+    insert_line times e = ap (λ f. new_line s.detail f ∷ []) (numbered_is times e)
 
   -- ---- moves of the clock
 

@@ -5,7 +5,7 @@ use Rattle.session_laws.proofs.Common.{∥∥₁_elim, FactId, TypeId, Value, Fa
 use Rattle.session_laws.proofs.Common.{ReferenceFixed, Match, Program, Rule, TypeInfo, Step, values_fit, bound_in, Bindings, matches, has_match, id_at, sets_of}
 use Rattle.session_laws.proofs.Common.{type_or_first, IsRunnable, In, World, is_of_type, snapshot, all_of, of_map, has_pending, rule_of, in_place, Change}
 use Rattle.session_laws.proofs.Common.{Given, entry_asked, fields_step, insert_step, modify_step, new_step, promise_step, retract_step, sets_step, type_named}
-use Rattle.session_laws.proofs.Common.{values_step, entry_within, asked_fits, OutLine, Memory, Setting, actions_of, fire_line, AllWantKnown, has_known_places}
+use Rattle.session_laws.proofs.Common.{values_step, entry_within, asked_fits, Detail, OutLine, append-nil, Memory, Setting, actions_of, new_line, AllWantKnown, has_known_places}
 use Rattle.session_laws.proofs.Common.{StayKnown, WantsKnown, planned, planned_for, held_at, IsNetOf, AreOfRules, Contents, Course, IsSound, ReachesNoMore}
 use Rattle.session_laws.proofs.Common.{Runs, Standing, reached_by, reached_of, nat_tests, moment_in, nothing_reached, is_event}
 use Rattle.std.proofs.lemmas.Bool.{and_from, and_parts, and_right}
@@ -23,7 +23,11 @@ use Rattle.engine.specs.Known.{is_known, are_known}
 use Rattle.session_laws.proofs.Promising.{HasPromise}
 use Rattle.session_laws.proofs.Stands.{HasStart}
 use Rattle.session_laws.proofs.Acting.{asked_step}
-use Rattle.session_laws.proofs.Firings.{plan_of, top_held, top_of}
+use Rattle.session_laws.proofs.Firings.{line_of, plan_of, top_held, top_of}
+use Rattle.session_laws.specs.Gives.{fire_line_by, modified_lines, retracted_lines}
+use Rattle.session_laws.specs.Places.{told}
+use Rattle.answer_lines.specs.declared.lines.Detail.TheVariants.{Brief, Full}
+use Rattle.answer_lines.specs.declared.lines.OutLine.TheVariants.{Modified, Retracted}
 use Rattle.rule_model.specs.declared.action.Action.TheVariants as action
 use Rattle.rule_model.specs.declared.step.Step.TheVariants as step
 
@@ -193,9 +197,37 @@ top_known p k plan runnable own = by (top_of k.agenda) own
 pub one_more_known : (p : Program) (lines : List OutLine) (line : OutLine) → is_known p line ≡ true → StayKnown p lines (lines ++ line ∷ [])
 one_more_known p lines line known before = list_all-append (is_known p) lines (line ∷ []) ∙ and_from (are_known p lines) (are_known p (line ∷ [])) before (and_from (is_known p line) true known refl)
 
--- the line of a match that is pending
-pub fire_line_known : (p : Program) (m : Memory) (k : Contents) (q : Match) → IsSound p m k → Some q ≡ top_of k.agenda → is_known p (fire_line p q) ≡ true
-fire_line_known p m k q sound top = lt-ltb q.rule.0 (length p.rules) (sound.pending q (top_held k.agenda q top))
+-- the line of a match of a rule that is there
+told_known : (s : Setting) (k : Contents) (q : Match) (d : Detail) → nat_lt q.rule.0 (length s.program.rules) ≡ true
+    → is_known s.program (fire_line_by d s.program k.clock (held_at k.facts) q) ≡ true
+told_known s k q Brief known = known
+told_known s k q Full known = known
+
+-- the line of the match that fires first
+pub line_known : (s : Setting) (m : Memory) (k : Contents) (line : OutLine) → IsSound s.program m k → Some line ≡ line_of s k (top_of k.agenda) → is_known s.program line ≡ true
+line_known s m k line sound own = by (top_of k.agenda) refl own
+  where
+    by : (o : Option Match) → o ≡ top_of k.agenda → Some line ≡ line_of s k o → is_known s.program line ≡ true
+    by None top e = absurd cc
+    by (Some q) top e =
+        let is : line ≡ told s k q = cc in
+        subst (λ (z : OutLine). is_known s.program z ≡ true) (sym is)
+        (told_known s k q s.detail (lt-ltb q.rule.0 (length s.program.rules) (sound.pending q (top_held k.agenda q top))))
+
+-- the line of an insertion of a type of the program
+pub new_known : (p : Program) (f : Fact) (d : Detail) → nat_lt f.ty.0 (length p.types) ≡ true → is_known p (new_line d f) ≡ true
+new_known p f Brief known = known
+new_known p f Full known = known
+
+-- the lines of a modification, and of a retraction
+pub revision_known : (p : Program) (lines : List OutLine) (d : Detail) (found : Option Fact) → StayKnown p lines (lines ++ modified_lines d found)
+revision_known p lines Brief found before = subst (λ z. are_known p z ≡ true) (sym (append-nil lines)) before
+revision_known p lines Full None before = subst (λ z. are_known p z ≡ true) (sym (append-nil lines)) before
+revision_known p lines Full (Some f) before = one_more_known p lines (Modified f) refl before
+
+pub retraction_known : (p : Program) (lines : List OutLine) (d : Detail) (ty : TypeId) (id : FactId) → StayKnown p lines (lines ++ retracted_lines d ty id)
+retraction_known p lines Brief ty id before = subst (λ z. are_known p z ≡ true) (sym (append-nil lines)) before
+retraction_known p lines Full ty id before = one_more_known p lines (Retracted id ty) refl before
 
 -- ---- a session that stands for a world is sound
 

@@ -21,6 +21,7 @@ pub mod Acting
 pub mod Asking
 pub mod Sessions
 pub mod Knowing
+pub mod Detailed
 pub mod Phases
 pub mod Clean
 pub mod Taken
@@ -36,6 +37,7 @@ pub mod Dropping
 pub mod Forgotten
 pub mod Moving_on
 pub mod Removing
+pub mod Telling
 pub mod Revising
 pub mod Passing
 pub mod Marking

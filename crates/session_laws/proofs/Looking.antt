@@ -125,6 +125,13 @@ module _ (s : Setting) (m : Memory) (k : Contents) (w : World) (runs : Runs s) (
     | inr h ↦ absurd (let n : true ≡ false = sym h.event ∙ plain h.fact h.there in cc)
   ]
 
+  -- what is modified is found as the world finds it
+  pub modified_found : (id : FactId) (sets : List (ℕ × Value)) → IsOfPlain s.program w (Modify id sets) → newest k id.0 ≡ found s.program w id.0
+  modified_found id sets plain = elim (looked s m k w runs st id.0) [
+    | inl same ↦ same
+    | inr h ↦ absurd (let n : true ≡ false = sym h.event ∙ plain h.fact h.there in cc)
+  ]
+
   pub retract_fault_is : (ty : TypeId) (id : FactId) (o : Option Code) → retract_fault s.program ty.0 (newest k id.0) ≡ o → step_fault s.program w (Retract ty id) ≡ o
   unfolding step_fault
   retract_fault_is ty id o e = elim (looked s m k w runs st id.0) [

@@ -5,9 +5,9 @@ use Rattle.session_laws.proofs.Common.{saliences, Code, World, empty_world, foun
 use Rattle.session_laws.proofs.Common.{lingers, ends_by, sight_of, start_law, Change, change_step, OutLine, No, Yes, FiringAnswers, Memory, Setting, does}
 use Rattle.session_laws.proofs.Common.{FitsWorld, StandsAfter, WritesFor, newest, rows_at, no_rule_rows, matches_by, over, IsRefreshed, Contents, Runs}
 use Rattle.session_laws.proofs.Common.{Standing, expiry_at, holding, Course, nothing_reached}
-use Rattle.session_laws.specs.Gives.{version_of, fires, gives}
+use Rattle.session_laws.specs.Gives.{version_of, fires_in, gives_in}
 use Rattle.session_laws.proofs.Asking.{change_fits, same_asked}
-use Rattle.session_laws.proofs.Firings.{FiresInto, WritesFiring, top_of, plan_of, due_fires, no_fire, yes_fire}
+use Rattle.session_laws.proofs.Firings.{FiresInto, WritesFiring, line_of, top_of, plan_of, due_fires, no_fire, yes_fire}
 use Rattle.session_laws.proofs.Rules.{found_at, is_found}
 use Rattle.session_laws.proofs.Stands.{contents}
 use Rattle.std.specs.FinMap as map_of
@@ -99,27 +99,28 @@ module _ (s : Setting) (m : Memory) (k : Contents) where
     asked_is : asked ≡ change_step s.program w.begun (found s.program w) change
     asked_is = is ∙ same_asked s m k w runs st change
 
-    given : does s.program w asked ≡ gives s.program w change
-    unfolding gives
-    given = ap (does s.program w) asked_is
+    given : does s.detail s.program w asked ≡ gives_in s.detail s.program w change
+    unfolding gives_in
+    given = ap (does s.detail s.program w) asked_is
 
-    pub change_lines : (lines : List OutLine) → WritesFor s m k asked [] lines → lines ≡ (gives s.program w change).0
+    pub change_lines : (lines : List OutLine) → WritesFor s m k asked [] lines → lines ≡ (gives_in s.detail s.program w change).0
     change_lines lines h = h w st (subst (FitsWorld s.program w) (sym asked_is) (change_fits s.program w change runs.runnable st.seen.whole.lawful.ordered)) ∙ ap (λ z. z.0) given
 
-    pub change_stands : (n : Memory) (t : Contents) → StandsAfter s m k asked n t → Standing s n t (gives s.program w change).1
+    pub change_stands : (n : Memory) (t : Contents) → StandsAfter s m k asked n t → Standing s n t (gives_in s.detail s.program w change).1
     change_stands n t h =
         subst (λ z. Standing s n t z.1) given (h w st (subst (FitsWorld s.program w) (sym asked_is) (change_fits s.program w change runs.runnable st.seen.whole.lawful.ordered)))
 
   module _ (w : World) (st : Standing s m k w) where
-    pub is_due : is_some (top_of k.agenda) ≡ is_some (fires s.program w)
-    unfolding fires
+    pub is_due : is_some (top_of k.agenda) ≡ is_some (fires_in s.detail s.program w)
+    unfolding fires_in
     is_due = due_fires s m k w st
 
-    pub fires_none : None ≡ plan_of s.program k (top_of k.agenda) → FiringAnswers (fires s.program w) No w (Standing s m k)
-    unfolding fires
+    pub fires_none : None ≡ plan_of s.program k (top_of k.agenda) → FiringAnswers (fires_in s.detail s.program w) No w (Standing s m k)
+    unfolding fires_in
     fires_none none = no_fire s m k w st (top_of k.agenda) refl none
 
-    pub fires_some : Runs s → (n : Memory) (t : Contents) (plan : List (Result Step Code)) (lines : List OutLine) → Some plan ≡ plan_of s.program k (top_of k.agenda)
-        → FiresInto s m k plan n t → WritesFiring s m k plan lines → FiringAnswers (fires s.program w) (Yes lines) w (Standing s n t)
-    unfolding fires
-    fires_some runs n t plan lines planned stands written = yes_fire s m k n t w plan lines (top_of k.agenda) runs st refl planned stands written
+    pub fires_some : Runs s → (n : Memory) (t : Contents) (line : OutLine) (plan : List (Result Step Code)) (lines : List OutLine) → Some line ≡ line_of s k (top_of k.agenda)
+        → Some plan ≡ plan_of s.program k (top_of k.agenda) → FiresInto s m k plan n t → WritesFiring s m k line plan lines
+        → FiringAnswers (fires_in s.detail s.program w) (Yes lines) w (Standing s n t)
+    unfolding fires_in
+    fires_some runs n t line plan lines says planned stands written = yes_fire s m k n t w line plan lines (top_of k.agenda) runs st refl says planned stands written

@@ -1,18 +1,18 @@
 -- Steps that are possible, or refused, one after the other.
 use Rattle.session_laws.proofs.Common.{◌≡◌, inr, List, [], ◌∷◌, ◌++◌, Some, None, Result, Ok, Err, refl, sym, ◌∙◌, ap, subst, append_assoc, OnOk, append-nil}
 use Rattle.session_laws.proofs.Common.{Code, Program, Step, IsOrdered, World, step_fault, stepped, step_lawful, Stays, same_stays, stays_on, OutLine, Fault}
-use Rattle.session_laws.proofs.Common.{Memory, Setting, does, refused, step_lines, tries, tries_with, AllFit, StandsAfter, Suits, Tries, Writes, WritesFor}
+use Rattle.session_laws.proofs.Common.{Detail, Memory, Setting, does, refused, step_lines, tries, tries_with, AllFit, StandsAfter, Suits, Tries, Writes, WritesFor}
 use Rattle.session_laws.proofs.Common.{Contents, Standing}
 use Rattle.session_laws.specs.Gives.{does_all}
 use Rattle.session_laws.specs.Leading.{MovesSession}
 use Rattle.session_laws.proofs.Doing.{does_stays, next_fits}
 
 -- a step without a fault is done, and one with a fault is refused
-pub is_done : (p : Program) (w : World) (step : Step) → step_fault p w step ≡ None → tries p w step ≡ (step_lines w step, stepped p w step)
-is_done p w step e = ap (tries_with p w step) e
+pub is_done : (d : Detail) (p : Program) (w : World) (step : Step) → step_fault p w step ≡ None → tries d p w step ≡ (step_lines d p w step, stepped p w step)
+is_done d p w step e = ap (tries_with d p w step) e
 
-pub is_refused : (p : Program) (w : World) (step : Step) (code : Code) → step_fault p w step ≡ Some code → tries p w step ≡ refused w code
-is_refused p w step code e = ap (tries_with p w step) e
+pub is_refused : (d : Detail) (p : Program) (w : World) (step : Step) (code : Code) → step_fault p w step ≡ Some code → tries d p w step ≡ refused w code
+is_refused d p w step code e = ap (tries_with d p w step) e
 
 module _ (s : Setting) (m : Memory) (k : Contents) (step : Step) where
   -- in each world that the step suits it has no fault; in each it has this one
@@ -25,23 +25,23 @@ module _ (s : Setting) (m : Memory) (k : Contents) (step : Step) where
   pub tried_done : (n : Memory) (t : Contents) → IsFaultless → MovesSession s m k step n t → Tries s m k step n t
   tried_done n t faultless moves w st suits =
       let none : step_fault s.program w step ≡ None = faultless w st suits in
-      subst (λ (z : List OutLine × World). Standing s n t z.1) (sym (is_done s.program w step none))
+      subst (λ (z : List OutLine × World). Standing s n t z.1) (sym (is_done s.detail s.program w step none))
       (moves w st none (step_lawful s.program w step st.seen.whole.lawful (suits.fits none) none))
 
-  pub done_lines : (before after lines : List OutLine) → IsFaultless → ((w : World) → Standing s m k w → step_lines w step ≡ lines) → after ≡ before ++ lines → Writes s m k step before after
+  pub done_lines : (before after lines : List OutLine) → IsFaultless → ((w : World) → Standing s m k w → Suits s.program w step → step_lines s.detail s.program w step ≡ lines) → after ≡ before ++ lines → Writes s m k step before after
   done_lines before after lines faultless is e w st suits =
-      e ∙ ap (λ z. before ++ z) (sym (is w st)) ∙ ap (λ (z : List OutLine × World). before ++ z.0) (sym (is_done s.program w step (faultless w st suits)))
+      e ∙ ap (λ z. before ++ z) (sym (is w st suits)) ∙ ap (λ (z : List OutLine × World). before ++ z.0) (sym (is_done s.detail s.program w step (faultless w st suits)))
 
-  pub no_lines : (before : List OutLine) → IsFaultless → ((w : World) → step_lines w step ≡ []) → Writes s m k step before before
-  no_lines before faultless is = done_lines before before [] faultless (λ w st. is w) (sym (append-nil before))
+  pub no_lines : (before : List OutLine) → IsFaultless → ((w : World) → step_lines s.detail s.program w step ≡ []) → Writes s m k step before before
+  no_lines before faultless is = done_lines before before [] faultless (λ w st suits. is w) (sym (append-nil before))
 
   module _ (code : Code) (fault : HasFault code) where
     pub refused_tries : (t : Contents) → t ≡ k → Tries s m k step m t
     refused_tries t e w st suits =
-        subst (λ (z : List OutLine × World). Standing s m t z.1) (sym (is_refused s.program w step code (fault w st suits))) (subst (λ (z : Contents). Standing s m z w) (sym e) st)
+        subst (λ (z : List OutLine × World). Standing s m t z.1) (sym (is_refused s.detail s.program w step code (fault w st suits))) (subst (λ (z : Contents). Standing s m z w) (sym e) st)
 
     pub refused_lines : (before after : List OutLine) → after ≡ before ++ Fault code ∷ [] → Writes s m k step before after
-    refused_lines before after e w st suits = e ∙ ap (λ (z : List OutLine × World). before ++ z.0) (sym (is_refused s.program w step code (fault w st suits)))
+    refused_lines before after e w st suits = e ∙ ap (λ (z : List OutLine × World). before ++ z.0) (sym (is_refused s.detail s.program w step code (fault w st suits)))
 
 -- ---- what is wanted
 
@@ -75,8 +75,8 @@ pub record SoFar (s : Setting) (w : World) (plan : List (Result Step Code)) (bef
   pub stands : Standing s m k world
   pub stays : Stays w world
   pub fit : AllFit s.program w rest
-  pub written : before ++ (does_all s.program w plan).0 ≡ lines ++ (does_all s.program world rest).0
-  pub left : (does_all s.program w plan).1 ≡ (does_all s.program world rest).1
+  pub written : before ++ (does_all s.detail s.program w plan).0 ≡ lines ++ (does_all s.detail s.program world rest).0
+  pub left : (does_all s.detail s.program w plan).1 ≡ (does_all s.detail s.program world rest).1
 
 module _ (s : Setting) (w : World) (plan : List (Result Step Code)) (before : List OutLine) where
   pub none_done : (m : Memory) (k : Contents) → Standing s m k w → AllFit s.program w plan → SoFar s w plan before before m k plan
@@ -87,22 +87,22 @@ module _ (s : Setting) (w : World) (plan : List (Result Step Code)) (before : Li
   unfolding does_all
   one_done lines later m n k t wanted rest o f stands written =
       let p = s.program in
-      let done = does p f.world wanted in
+      let done = does s.detail p f.world wanted in
       let ordered = f.stands.seen.whole.lawful.ordered in
       let fits = next_fits p w o f.world wanted rest f.fit ordered f.stays in
       record {
         world = done.1;
         stands = stands f.world f.stands fits;
-        stays = stays_on w f.world done.1 f.stays (does_stays p f.world wanted ordered);
+        stays = stays_on w f.world done.1 f.stays (does_stays s.detail p f.world wanted ordered);
         fit = λ step i. f.fit step (inr i);
-        written = f.written ∙ sym (append_assoc lines done.0 (does_all p done.1 rest).0) ∙ ap (λ z. z ++ (does_all p done.1 rest).0) (sym (written f.world f.stands fits));
+        written = f.written ∙ sym (append_assoc lines done.0 (does_all s.detail p done.1 rest).0) ∙ ap (λ z. z ++ (does_all s.detail p done.1 rest).0) (sym (written f.world f.stands fits));
         left = f.left;
       }
 
-  pub all_done_stands : (lines : List OutLine) (m : Memory) (k : Contents) → SoFar s w plan before lines m k [] → Standing s m k (does_all s.program w plan).1
+  pub all_done_stands : (lines : List OutLine) (m : Memory) (k : Contents) → SoFar s w plan before lines m k [] → Standing s m k (does_all s.detail s.program w plan).1
   unfolding does_all
   all_done_stands lines m k f = subst (Standing s m k) (sym f.left) f.stands
 
-  pub all_done_lines : (lines : List OutLine) (m : Memory) (k : Contents) → SoFar s w plan before lines m k [] → lines ≡ before ++ (does_all s.program w plan).0
+  pub all_done_lines : (lines : List OutLine) (m : Memory) (k : Contents) → SoFar s w plan before lines m k [] → lines ≡ before ++ (does_all s.detail s.program w plan).0
   unfolding does_all
   all_done_lines lines m k f = sym (append-nil lines) ∙ sym f.written

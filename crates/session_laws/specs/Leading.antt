@@ -10,7 +10,7 @@ use Rattle.rule_world.specs.declared.code.Code.{Code}
 use Rattle.rule_world.specs.Kinds.{step_fits}
 use Rattle.rule_world.specs.Lawful.{IsLawful}
 use Rattle.rule_world.specs.Worlds.{World, fact_of, found, stepped, step_fault}
-use Rattle.engine.specs.declared.lines.OutLine.{OutLine}
+use Rattle.answer_lines.specs.declared.lines.OutLine.{OutLine}
 use Rattle.engine.specs.Known.{are_known}
 use Rattle.session_laws.specs.Gives.{tries, does, does_all}
 use Rattle.session_laws.specs.declared.memory.Memory.{Memory}
@@ -43,11 +43,11 @@ pub record Suits (p : Program) (w : World) (step : Step) : Type 0 where
 
 -- of each world for which the first contents stand and that the step suits, the second ones stand for the next
 abbrev pub Tries : Setting → Memory → Contents → Step → Memory → Contents → Type 0
-Tries s m k step n t = (w : World) → Standing s m k w → Suits s.program w step → Standing s n t (tries s.program w step).1
+Tries s m k step n t = (w : World) → Standing s m k w → Suits s.program w step → Standing s n t (tries s.detail s.program w step).1
 
 -- and its lines are written behind those before
 abbrev pub Writes : Setting → Memory → Contents → Step → List OutLine → List OutLine → Type 0
-Writes s m k step before after = (w : World) → Standing s m k w → Suits s.program w step → after ≡ before ++ (tries s.program w step).0
+Writes s m k step before after = (w : World) → Standing s m k w → Suits s.program w step → after ≡ before ++ (tries s.detail s.program w step).0
 
 -- ---- what is wanted
 
@@ -57,11 +57,11 @@ FitsWorld p w wanted = (step : Step) → wanted ≡ Ok step → Suits p w step
 
 -- of each world for which the first contents stand, and which what is wanted fits, the second ones stand for the next
 abbrev pub StandsAfter : Setting → Memory → Contents → Result Step Code → Memory → Contents → Type 0
-StandsAfter s m k wanted n t = (w : World) → Standing s m k w → FitsWorld s.program w wanted → Standing s n t (does s.program w wanted).1
+StandsAfter s m k wanted n t = (w : World) → Standing s m k w → FitsWorld s.program w wanted → Standing s n t (does s.detail s.program w wanted).1
 
 -- and its lines are written
 abbrev pub WritesFor : Setting → Memory → Contents → Result Step Code → List OutLine → List OutLine → Type 0
-WritesFor s m k wanted before after = (w : World) → Standing s m k w → FitsWorld s.program w wanted → after ≡ before ++ (does s.program w wanted).0
+WritesFor s m k wanted before after = (w : World) → Standing s m k w → FitsWorld s.program w wanted → after ≡ before ++ (does s.detail s.program w wanted).0
 
 -- ---- a plan
 
@@ -70,10 +70,10 @@ abbrev pub AllFit : Program → World → List (Result Step Code) → Type 0
 AllFit p w plan = (step : Step) → In (Ok step) plan → step_fits p (fact_of w.facts) step ≡ true
 
 abbrev pub StandsAfterAll : Setting → Memory → Contents → List (Result Step Code) → Memory → Contents → Type 0
-StandsAfterAll s m k plan n t = (w : World) → Standing s m k w → AllFit s.program w plan → Standing s n t (does_all s.program w plan).1
+StandsAfterAll s m k plan n t = (w : World) → Standing s m k w → AllFit s.program w plan → Standing s n t (does_all s.detail s.program w plan).1
 
 abbrev pub WritesAll : Setting → Memory → Contents → List (Result Step Code) → List OutLine → List OutLine → Type 0
-WritesAll s m k plan before after = (w : World) → Standing s m k w → AllFit s.program w plan → after ≡ before ++ (does_all s.program w plan).0
+WritesAll s m k plan before after = (w : World) → Standing s m k w → AllFit s.program w plan → after ≡ before ++ (does_all s.detail s.program w plan).0
 
 -- ---- lines that name what the program has
 

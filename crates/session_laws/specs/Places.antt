@@ -5,6 +5,7 @@ use Rattle.fx_base.specs.declared.fact.Fact.{Fact}
 use Rattle.fx_base.specs.declared.value.Value.{Value}
 use Rattle.due_queue.specs.Timers.{Timers}
 use Rattle.fact_store.specs.Held.{HeldFacts, IsNewest, is_held_with_id}
+use Rattle.row_delta.specs.declared.row.Named.{Named}
 use Rattle.row_delta.specs.declared.row.Row.{Row}
 use Rattle.rule_model.specs.declared.action.Action.{Action}
 use Rattle.rule_world.specs.declared.code.Code.{Code}
@@ -16,7 +17,10 @@ use Rattle.rule_model.specs.Lent.{bound_in}
 use Rattle.rule_model.specs.Planned.{step_of}
 use Rattle.rule_model.specs.Snapshots.{floor_by}
 use Rattle.rule_model.specs.Types.{is_reference, lateness_of}
-use Rattle.session_laws.specs.Gives.{step_or_overflow}
+use Rattle.answer_lines.specs.declared.lines.OutLine.{OutLine}
+use Rattle.rule_model.specs.declared.matched.Match.{Match}
+use Rattle.session_laws.specs.Gives.{fire_line_by, step_or_overflow}
+use Rattle.session_laws.specs.declared.setting.Setting.{Setting}
 use Rattle.session_laws.specs.Standing.{Contents, reached_of}
 use Rattle.std.specs.FinMap as map
 
@@ -66,3 +70,11 @@ planned_for held row a = step_or_overflow (step_of (bound_in (held_at held) row)
 
 abbrev pub planned : HeldFacts → Row → List Action → List (Result Step Code)
 planned held row actions = list_map (planned_for held row) actions
+
+-- the fact that is kept of a name
+abbrev pub seen_at : HeldFacts → Named → Option Fact
+seen_at held n = held_at held n.tag
+
+-- the line of a match that fires, by what is kept
+abbrev pub told : Setting → Contents → Match → OutLine
+told s k m = fire_line_by s.detail s.program k.clock (held_at k.facts) m

@@ -9,8 +9,9 @@ use Rattle.rule_world.specs.Programs.{IsRunnable}
 use Rattle.rule_world.specs.Worlds.{World, moved, stepped, step_fault, first_pending, found, marked, present}
 use Rattle.script_read.specs.declared.asked.Change.{Change}
 use Rattle.change_read.specs.Changes.{change_step}
-use Rattle.engine.specs.declared.lines.OutLine.{OutLine}
-use Rattle.session_laws.specs.Gives.{gives, fires, does, does_all, tries_with, fires_match, fires_with, wanted, actions_of}
+use Rattle.answer_lines.specs.declared.lines.Detail.TheVariants.{Brief}
+use Rattle.answer_lines.specs.declared.lines.OutLine.{OutLine}
+use Rattle.session_laws.specs.Gives.{gives, gives_in, fires, fires_in, does, does_all, tries_with, fires_match, fires_with, wanted, actions_of}
 use Rattle.session_laws.proofs.Acting.{fires_lawful}
 use Rattle.session_laws.proofs.Asking.{gives_lawful}
 use Rattle.replay.specs.Behind.{IsSoundWorld, KeepWorlds}
@@ -30,33 +31,33 @@ step_counts p w (At moment) h = h
 step_counts p w (Promise entry from) h = h
 step_counts p w Begin h = h
 
-tries_counts : (p : Program) (w : World) (step : Step) (fault : Option Code) → CountsFromOne w → CountsFromOne (tries_with p w step fault).1
+tries_counts : (p : Program) (w : World) (step : Step) (fault : Option Code) → CountsFromOne w → CountsFromOne (tries_with Brief p w step fault).1
 tries_counts p w step None h = step_counts p w step h
 tries_counts p w step (Some code) h = h
 
-does_counts : (p : Program) (w : World) (asked : Result Step Code) → CountsFromOne w → CountsFromOne (does p w asked).1
+does_counts : (p : Program) (w : World) (asked : Result Step Code) → CountsFromOne w → CountsFromOne (does Brief p w asked).1
 does_counts p w (Err code) h = h
 does_counts p w (Ok step) h = tries_counts p w step (step_fault p w step) h
 
-all_counts : (p : Program) (w : World) (asked : List (Result Step Code)) → CountsFromOne w → CountsFromOne (does_all p w asked).1
+all_counts : (p : Program) (w : World) (asked : List (Result Step Code)) → CountsFromOne w → CountsFromOne (does_all Brief p w asked).1
 unfolding does_all
 all_counts p w [] h = h
-all_counts p w (one ∷ more) h = all_counts p (does p w one).1 more (does_counts p w one h)
+all_counts p w (one ∷ more) h = all_counts p (does Brief p w one).1 more (does_counts p w one h)
 
 gives_counts : (p : Program) (w : World) (change : Change) → CountsFromOne w → CountsFromOne (gives p w change).1
-unfolding gives
+unfolding gives_in
 gives_counts p w change h = does_counts p w (change_step p w.begun (found p w) change) h
 
-match_counts : (p : Program) (w : World) (m : Match) → CountsFromOne w → CountsFromOne (fires_match p w m).1
+match_counts : (p : Program) (w : World) (m : Match) → CountsFromOne w → CountsFromOne (fires_match Brief p w m).1
 match_counts p w m h = all_counts p (marked w m) (wanted (present p w) m.row (actions_of (slice_get p.rules m.rule.0))) h
 
 fires_counts : (p : Program) (w : World) (f : List OutLine × World) → CountsFromOne w → fires p w ≡ Some f → CountsFromOne f.1
-unfolding fires
+unfolding fires_in
 fires_counts p w f h e = by (first_pending p w) e
   where
-    by : (m : Option Match) → fires_with p w m ≡ Some f → CountsFromOne f.1
+    by : (m : Option Match) → fires_with Brief p w m ≡ Some f → CountsFromOne f.1
     by None e = absurd cc
-    by (Some m) e = let same : fires_match p w m ≡ f = cc in subst (λ (z : List OutLine × World). CountsFromOne z.1) same (match_counts p w m h)
+    by (Some m) e = let same : fires_match Brief p w m ≡ f = cc in subst (λ (z : List OutLine × World). CountsFromOne z.1) same (match_counts p w m h)
 
 pub worlds_kept : KeepWorlds gives fires
 worlds_kept = record { changes = changes; firings = firings }
@@ -64,9 +65,9 @@ worlds_kept = record { changes = changes; firings = firings }
     changes : (p : Program) (w : World) (change : Change) → IsRunnable p → IsSoundWorld p w → IsSoundWorld p (gives p w change).1
     changes p w change runnable h =
         let counts = gives_counts p w change (h.ids, h.tags) in
-        record { lawful = gives_lawful p w change runnable h.lawful; ids = counts.0; tags = counts.1 }
+        record { lawful = gives_lawful Brief p w change runnable h.lawful; ids = counts.0; tags = counts.1 }
 
     firings : (p : Program) (w : World) (f : List OutLine × World) → IsRunnable p → IsSoundWorld p w → fires p w ≡ Some f → IsSoundWorld p f.1
     firings p w f runnable h e =
         let counts = fires_counts p w f (h.ids, h.tags) e in
-        record { lawful = fires_lawful p w f.0 f.1 runnable h.lawful e; ids = counts.0; tags = counts.1 }
+        record { lawful = fires_lawful Brief p w f.0 f.1 runnable h.lawful e; ids = counts.0; tags = counts.1 }

@@ -1,4 +1,5 @@
 //! The programs `replay` and `desk`: the top calls with the engine `Session`. The contract of each is what the project promises of its runs.
+//! Where memory is refused, each answers status 7.
 #![tactic(auto)]
 
 mod desk_call;

@@ -1,6 +1,6 @@
 //! Written rule files written out to plain ones: alternatives to a rule for each of the ways in which they can be met, subtypes to
 //! types with all that they inherit.
-//! It takes any trees of the grammar, and assumes nothing of them.
+//! It takes any trees of the grammar, and assumes nothing of them. Calls that allocate answer `NoMemory` where memory is refused.
 #![tactic(auto)]
 
 mod counts;

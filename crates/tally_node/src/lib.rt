@@ -1,6 +1,6 @@
 //! The node of a `not`, of an `exists` and of an `accumulate`: it keeps for each row of the conditions before it a tally of the
 //! candidates that pass there. It stands on rows, their changes, patterns, accumulate functions, the memories of a node and what
-//! a node is given, and assumes nothing of the outside.
+//! a node is given, and assumes nothing of the outside. Calls that allocate answer `NoMemory` where memory is refused.
 #![tactic(auto)]
 
 mod count;

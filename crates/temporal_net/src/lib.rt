@@ -1,5 +1,6 @@
 //! Minimal networks: the greatest differences that a set of difference constraints allows, or a negative cycle
 //! that shows that nothing meets them all. It stands on `fx_base` and assumes nothing of the outside.
+//! Calls that allocate answer `NoMemory` where memory is refused.
 #![tactic(auto)]
 
 mod distance;

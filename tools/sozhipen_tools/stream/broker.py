@@ -20,6 +20,10 @@ class Unreachable(Exception):
     """The broker does not answer: whether it did what it was asked last is not known."""
 
 
+class RefusedByServer(Exception):
+    """The server of a broker refused what it was asked, and would again; it says why."""
+
+
 def until_reached(ask: Callable[[], T]) -> T:
     """The answer of a broker, however long it is away."""
     while True:
@@ -81,8 +85,16 @@ class Broker(ABC):
         """At most so many entries of a log, the first of those with numbers above `behind`."""
 
     @abstractmethod
+    def trim(self, log: str, number: int) -> None:
+        """Takes away entries with numbers below this one, as far as it is no work; never the last entry."""
+
+    @abstractmethod
     def state(self, name: str) -> State:
         """A value with its offset."""
+
+    @abstractmethod
+    def offset(self, name: str) -> int:
+        """The offset of a value alone."""
 
     @abstractmethod
     def keep(self, name: str, state: State) -> bool:
@@ -123,9 +135,17 @@ class MemoryBroker(Broker):
         with self.lock:
             return [entry for entry in self.logs.get(log, []) if entry.number > behind][:most]
 
+    def trim(self, log: str, number: int) -> None:
+        with self.lock:
+            there = self.logs.get(log, [])
+            self.logs[log] = [entry for entry in there[:-1] if entry.number >= number] + there[-1:]
+
     def state(self, name: str) -> State:
         with self.lock:
             return self.states.get(name, NOTHING)
+
+    def offset(self, name: str) -> int:
+        return self.state(name).offset
 
     def keep(self, name: str, state: State) -> bool:
         with self.lock:

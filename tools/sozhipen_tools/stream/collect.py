@@ -1,6 +1,6 @@
 """Prints what all partitions of a stream answer, in one order.
 
-    tools/run stream.collect --partitions N [--redis SERVER] [--behind NUMBER] [--follow | --rest]
+    tools/run stream.collect --partitions N [--redis SERVER | --jetstream SERVER] [--behind NUMBER] [--follow | --rest]
 
 A line is `NUMBER PARTITION ANSWER`, with the number of the line of the script that is answered; answers to one line
 come in the order of the partitions, and `done` lines are left out. What is printed ends at the last line up to which
@@ -19,9 +19,9 @@ from typing import Iterator, NamedTuple
 
 from ..words import Parser
 from .broker import Broker, answers_of, until_reached
+from .brokers import broker_of, broker_words
 from .engine import CLOSES
 from .entries import lines_in
-from .redis_broker import RedisBroker, redis_words
 
 ENTRIES = 100
 IDLE_SECONDS = 0.05
@@ -75,13 +75,13 @@ def asked() -> argparse.Namespace:
     parser.add_argument("--behind", metavar="NUMBER", type=int, default=0, help="the lines behind this one")
     parser.add_argument("--follow", action="store_true", help="go on as partitions answer")
     parser.add_argument("--rest", action="store_true", help="all answers that are there")
-    redis_words(parser)
+    broker_words(parser)
     return parser.parse_args()
 
 
 def main() -> int:
     words = asked()
-    broker, behind = RedisBroker(words.redis), words.behind
+    broker, behind = broker_of(words), words.behind
     if words.rest:
         write(collected(broker, words.partitions, behind, sys.maxsize))
         return 0

@@ -1,4 +1,4 @@
-"""A broker that is a Redis server, 5 or later: logs are streams whose ids are the numbers of the entries, a value and
+"""A broker that is a Redis server, 6.2 or later: logs are streams whose ids are the numbers of the entries, a value and
 its offset are a hash, leases are keys that expire.
 
 The server has to write each command to its disk before it replies (`--appendonly yes --appendfsync always`); otherwise
@@ -7,11 +7,11 @@ a crash of it takes back what it has acknowledged.
 
 from __future__ import annotations
 
-import argparse
-from typing import Any, NamedTuple, Optional, Sequence
+from typing import Any, Optional, Sequence
 
-from .broker import NOTHING, Broker, Entry, State, Unreachable
-from .resp import Connection, RefusedByServer, Word
+from .address import Address
+from .broker import NOTHING, Broker, Entry, RefusedByServer, State, Unreachable
+from .resp import Connection, Word
 
 APPEND = """
 local top = redis.call('XREVRANGE', KEYS[1], '+', '-', 'COUNT', 1)
@@ -35,25 +35,6 @@ RELEASE = "if redis.call('GET', KEYS[1]) == ARGV[1] then return redis.call('DEL'
 # What a server says that is loading what it has on its disk, busy, or out of memory or disk: it may pass.
 MAY_PASS = ("LOADING", "BUSY", "OOM", "MISCONF")
 SECONDS = 5.0
-
-
-class Address(NamedTuple):
-    """Where a server is."""
-    host: str
-    port: int
-
-
-def address_of(text: str) -> Address:
-    """The address that is written as PORT, on this machine, or as HOST:PORT."""
-    host, _, port = text.rpartition(":")
-    return Address(host or "127.0.0.1", int(port))
-
-
-def redis_words(parser: argparse.ArgumentParser) -> None:
-    """The words by which a tool takes the server and the number of partitions."""
-    parser.add_argument("--redis", metavar="SERVER", type=address_of, default=address_of("6379"),
-                        help="PORT, on 127.0.0.1, or HOST:PORT; otherwise 6379")
-    parser.add_argument("--partitions", metavar="N", type=int, required=True, help="the same for all of a stream")
 
 
 def number_of(name: bytes) -> int:
@@ -101,9 +82,16 @@ class RedisBroker(Broker):
         found = self.ask("XRANGE", log, f"{behind + 1}-0", "+", "COUNT", most)
         return [Entry(number_of(name), fields[1]) for name, fields in found]
 
+    def trim(self, log: str, number: int) -> None:
+        if least := min(number, self.last(log)):
+            self.ask("XTRIM", log, "MINID", f"{least}-0")
+
     def state(self, name: str) -> State:
         offset, image = self.ask("HMGET", name, "offset", "image")
         return NOTHING if offset is None else State(int(offset), image)
+
+    def offset(self, name: str) -> int:
+        return int(self.ask("HGET", name, "offset") or 0)
 
     def keep(self, name: str, state: State) -> bool:
         return bool(self.ask("EVAL", KEEP, 1, name, state.offset, state.image))

@@ -5,11 +5,9 @@ from __future__ import annotations
 import socket
 from typing import Any, Union
 
+from .broker import RefusedByServer
+
 Word = Union[bytes, str, int]
-
-
-class RefusedByServer(Exception):
-    """The server refused a command; it says why."""
 
 
 class Connection:

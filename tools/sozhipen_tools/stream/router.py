@@ -1,6 +1,6 @@
 """Gives each line of a script to the partition of its key.
 
-    tools/run stream.router --key FIELD --partitions N [--redis SERVER] [--lines N] RULES < SCRIPT
+    tools/run stream.router --key FIELD --partitions N [--redis SERVER | --jetstream SERVER] [--lines N] RULES < SCRIPT
 
 An `insert` with the field goes to the partition of its value; tables, and lines that move the clock or fire, go to all.
 Before each `fire` each partition is promised the latest start that was routed to any, for each entry point with a
@@ -26,8 +26,8 @@ from ..reference.meaning.script import (BadCommand, BadJson, Command, FireLine, 
                                         RetractLine, command_of)
 from ..words import Parser
 from .broker import Broker, Entry, script_of, until_reached
+from .brokers import broker_of, broker_words
 from .entries import Numbered, data_of, lines_in
-from .redis_broker import RedisBroker, redis_words
 from .starts import Starts
 
 CHUNK = 1 << 16
@@ -158,7 +158,7 @@ def asked() -> argparse.Namespace:
     parser.add_argument("rules", metavar="RULES")
     parser.add_argument("--key", metavar="FIELD", required=True, help="the field that has the key")
     parser.add_argument("--lines", metavar="N", type=int, default=100, help="the most lines of an entry")
-    redis_words(parser)
+    broker_words(parser)
     return parser.parse_args()
 
 
@@ -173,7 +173,7 @@ def main() -> int:
         return 3
     routes = Routes(program, words.key, words.partitions)
     try:
-        router = Router(RedisBroker(words.redis), words.partitions, words.lines)
+        router = Router(broker_of(words), words.partitions, words.lines)
         return 0 if routed_all(sys.stdin.buffer, routes, router) else 1
     except Mixed:
         print("router: the partitions have lines of another script, or another router writes to them", file=sys.stderr)

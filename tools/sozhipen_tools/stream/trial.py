@@ -1,22 +1,19 @@
 """Kills the router, the workers and the broker of a stream at random, and compares all answers with those of one run.
 
-    tools/run stream.trial [--kills N] [--workers N] [--partitions N] [--events N] [--desk PROGRAM] [--seed N]
+    tools/run stream.trial [--broker redis | --broker jetstream] [--kills N] [--workers N] [--partitions N] [--events N]
+        [--between SECONDS] [--patience SECONDS] [--desk PROGRAM] [--seed N]
 
-It starts a redis-server of its own on the loopback, in a folder that it removes. The stream has a table, events that
-come late, a `not` that waits and an accumulate. What each partition answers has to be, byte for byte, what one run
-over its lines answers, each line once; the firings of all partitions have to be those of one run over all lines; and a
-double answer and a lost one that are planted behind that have to be found. The status is 1 where not all is so, and 2
-without a redis-server.
+It starts a server of its own on the loopback, in a folder that it removes. Of the workers some are killed alone, and
+some with their desks, as where a machine is lost. The stream has a table, events that come late, a `not` that waits and
+an accumulate. What each partition answers has to be, byte for byte, what one run over its lines answers, each line
+once; the firings of all partitions have to be those of one run over all lines; and a double answer and a lost one that
+are planted behind that have to be found. The status is 1 where not all is so, and 2 without the server.
 """
 
 from __future__ import annotations
 
 import argparse
-import json
-import os
 import random
-import shutil
-import socket
 import subprocess
 import sys
 import tempfile
@@ -32,95 +29,15 @@ from ..reference.meaning.run import program_or_refusal
 from ..words import Parser
 from .answered import Answered, differences_of_all, firings, lines_of_partitions, one_run, planted
 from .broker import Unreachable
+from .brokers import KINDS
 from .engine import Engine
 from .entries import Numbered
-from .redis_broker import Address, RedisBroker
+from .load import RULES, script
+from .processes import Server, WorkerProcess
 from .router import Routes
 from .worker import Worker, desk_command
 
-RULES = """
-declare Most @reference place : String cents : long end
-declare Withdrawal @role( event ) @timestamp( at ) @expires( 1m )
-  at : long card : String place : String cents : long
-end
-declare Told @role( event ) @expires( 1m ) card : String end
-declare entry-point "ATM" @lateness( 2s ) end
-rule "two places" salience 10 when
-  $a : Withdrawal( $c : card, $p : place ) from entry-point "ATM"
-  Withdrawal( card == $c, place != $p, this after[0s,5s] $a ) from entry-point "ATM"
-  not( Told( card == $c ) )
-then insert( new Told( $c ) ); end
-rule "silent" when
-  $a : Withdrawal( $c : card, cents >= 100000 ) from entry-point "ATM"
-  not( Withdrawal( card == $c, this after[1ms,10s] $a ) from entry-point "ATM" )
-then end
-rule "much" when
-  $a : Withdrawal( $c : card, $p : place ) from entry-point "ATM"
-  Most( place == $p, $most : cents )
-  accumulate( Withdrawal( card == $c, $x : cents, this before[0s,20s] $a ) from entry-point "ATM";
-    $sum : sum( $x ); $sum > $most )
-then end
-"""
-PLACES = {"harbour": 150_000, "station": 120_000, "market": 220_000}
-CARDS = 400
-LATENESS = 2000
-WHO = ("worker", "worker", "router", "broker")
-PATIENCE_SECONDS = 40
-
-
-def line_of(do: str, **members: object) -> bytes:
-    return json.dumps({"do": do, **members}, separators=(",", ":")).encode()
-
-
-def withdrawal(draw: random.Random, at: int) -> bytes:
-    fields = {"at": at, "card": f"c{draw.randrange(CARDS)}", "place": draw.choice(sorted(PLACES)),
-              "cents": draw.choice([2000, 40_000, 120_000])}
-    return line_of("insert", type="Withdrawal", entry="ATM", fields=fields)
-
-
-def script(events: int, seed: int) -> list[bytes]:
-    """A table, and withdrawals in the order of their starts, behind the clock by less than the lateness; each 20th is
-    later than that."""
-    draw, start = random.Random(seed), 1_000_000
-    lines = [line_of("insert", type="Most", fields={"place": place, "cents": most}) for place, most in PLACES.items()]
-    lines += [line_of("begin"), line_of("at", ms=start)]
-    clock = start
-    for number in range(events):
-        start += draw.randrange(80)
-        if number % 10 == 0:
-            clock = max(clock, start + draw.randrange(LATENESS))
-            lines.append(line_of("at", ms=clock))
-        start = min(start, clock)
-        lines.append(withdrawal(draw, clock - LATENESS - 1 - draw.randrange(3000) if number % 20 == 19 else
-                                max(start, clock - LATENESS)))
-        start = max(start, clock - LATENESS)
-        if number % 25 == 24:
-            lines.append(line_of("fire"))
-    return [*lines, line_of("at", ms=clock + 15_000), line_of("fire")]
-
-
-def free_port() -> int:
-    with socket.socket() as taken:
-        taken.bind(("127.0.0.1", 0))
-        return int(taken.getsockname()[1])
-
-
-class Server:
-    """A redis-server that writes each command to its disk before it replies."""
-
-    def __init__(self, folder: Path) -> None:
-        self.folder, self.address = folder, Address("127.0.0.1", free_port())
-        self.start()
-
-    def start(self) -> None:
-        words = ["redis-server", "--port", str(self.address.port), "--bind", self.address.host, "--dir",
-                 str(self.folder), "--save", "", "--appendonly", "yes", "--appendfsync", "always"]
-        self.process = subprocess.Popen(words, stdout=subprocess.DEVNULL)
-
-    def kill(self) -> None:
-        self.process.kill()
-        self.process.wait()
-        self.start()
+WHO = ("worker", "machine", "router", "broker")
 
 
 class Feed(threading.Thread):
@@ -171,31 +88,25 @@ class Trial:
         self.engine = Engine(desk_command(words.desk), str(self.rules))
         self.lines = script(words.events, words.seed)
         self.draw = random.Random(words.seed)
-        self.server = Server(folder)
-        self.broker = RedisBroker(self.server.address)
-        self.same = ["--redis", str(self.server.address.port), "--partitions", str(words.partitions)]
-        routed = [*command_of("stream.router"), "--key", "card", *self.same, str(self.rules)]
-        self.feed = Feed(routed, self.lines, words.kills * words.between)
-        self.workers = [self.worker(name) for name in range(words.workers)]
-
-    def worker(self, name: int) -> subprocess.Popen[bytes]:
-        command = [*command_of("stream.worker"), *self.same, "--desk", str(self.words.desk or ""), "--lease", "500",
-                   "--entries", "20", f"w{name}", str(self.rules)]
-        if not self.words.desk:
-            del command[command.index("--desk"):command.index("--lease")]
-        return subprocess.Popen(command, env={**os.environ, "TMPDIR": str(self.folder)})
+        self.server = Server(words.broker, folder)
+        self.broker = self.server.broker()
+        same = [*self.server.words, "--partitions", str(words.partitions)]
+        self.feed = Feed([*command_of("stream.router"), "--key", "card", *same, str(self.rules)], self.lines,
+                         words.kills * words.between)
+        turns = [*same, "--lease", "500", "--entries", "20"]
+        self.workers = [WorkerProcess(f"w{number}", turns, self.rules, words.desk) for number in range(words.workers)]
 
     def kill(self, who: str) -> None:
-        """Kills one process, and starts it again."""
+        """Kills one process, or a worker with its desks, and starts it again."""
         if who == "broker":
             self.server.kill()
         elif who == "router":
             self.feed.kill()
         else:
-            name = self.draw.randrange(len(self.workers))
-            self.workers[name].kill()
-            self.workers[name].wait()
-            self.workers[name] = self.worker(name)
+            number = self.draw.randrange(len(self.workers))
+            worker = self.workers[number]
+            (worker.lose if who == "machine" else worker.kill)()
+            self.workers[number] = worker.again()
 
     def run(self) -> Counter[str]:
         """Kills until the stream is through; what was killed how often."""
@@ -207,14 +118,14 @@ class Trial:
             if who != "router" or self.feed.is_alive():
                 self.kill(who)
                 killed[who] += 1
-        self.feed.join(PATIENCE_SECONDS + self.words.kills * self.words.between)
+        self.feed.join(self.words.patience + self.words.kills * self.words.between)
         self.wait()
         return killed
 
     def wait(self) -> None:
         """Waits until all lines have their answers, or no more come."""
         reader = Worker(self.broker, self.engine, "")
-        end = time.monotonic() + PATIENCE_SECONDS
+        end = time.monotonic() + self.words.patience
         while time.monotonic() < end:
             try:
                 if reader.is_done(self.words.partitions):
@@ -227,9 +138,9 @@ class Trial:
         """Ends all processes."""
         self.broker.close()
         self.feed.end()
-        for process in (*self.workers, self.server.process):
-            process.kill()
-            process.wait()
+        for worker in self.workers:
+            worker.lose()
+        self.server.end()
 
     def faults(self) -> list[str]:
         """What is not as it has to be."""
@@ -253,11 +164,13 @@ class Trial:
 
 def asked() -> argparse.Namespace:
     parser = Parser(description=__doc__, formatter_class=argparse.RawDescriptionHelpFormatter)
+    parser.add_argument("--broker", choices=sorted(KINDS), default="redis")
     parser.add_argument("--kills", metavar="N", type=int, default=20)
     parser.add_argument("--workers", metavar="N", type=int, default=3)
     parser.add_argument("--partitions", metavar="N", type=int, default=4)
     parser.add_argument("--events", metavar="N", type=int, default=6000)
     parser.add_argument("--between", metavar="SECONDS", type=float, default=0.6, help="between two kills, on average")
+    parser.add_argument("--patience", metavar="SECONDS", type=float, default=40, help="how long the rest may take")
     parser.add_argument("--desk", metavar="PROGRAM")
     parser.add_argument("--seed", metavar="N", type=int, default=1)
     return parser.parse_args()
@@ -265,8 +178,8 @@ def asked() -> argparse.Namespace:
 
 def main() -> int:
     words = asked()
-    if shutil.which("redis-server") is None:
-        print("trial: there is no redis-server", file=sys.stderr)
+    if KINDS[words.broker].server() is None:
+        print(f"trial: there is no {KINDS[words.broker].program}", file=sys.stderr)
         return 2
     began = time.monotonic()
     with tempfile.TemporaryDirectory(prefix="trial-") as folder:

@@ -1,12 +1,13 @@
 """Answers the lines of a stream's partitions, whichever have lines that nobody is at.
 
-    tools/run stream.worker --partitions N [--redis SERVER] [--desk PROGRAM] [--limit N] [--until-done] NAME RULES
+    tools/run stream.worker --partitions N [--redis SERVER | --jetstream SERVER] [--desk PROGRAM] [--limit N]
+        [--lease MS] [--entries N] [--until-done] NAME RULES
 
 Any number of workers share the partitions, each under a name of its own, and each may be killed at any moment. A turn
 takes the lease of a partition, reads a batch of entries behind its image, runs them through a desk, puts the answers
 under the numbers of the entries, and then the next image with its offset in one step. A turn that was cut off is done
 again, with the same answers under the same numbers, so none is lost or doubled, even where two workers believe that
-they have the lease.
+they have the lease. SIGTERM and Ctrl+C end a worker behind its turn.
 
 Status 2 where a desk ends with a status with which it would end again: standard error has it.
 """
@@ -16,6 +17,7 @@ from __future__ import annotations
 import argparse
 import os
 import random
+import signal
 import sys
 import time
 from typing import Optional
@@ -23,8 +25,8 @@ from typing import Optional
 from ..places import BUILT_DESK, command_of
 from ..words import Parser
 from .broker import Broker, Unreachable, answers_of, lease_of, script_of, state_of
+from .brokers import broker_of, broker_words
 from .engine import Engine, Interrupted, Stopped
-from .redis_broker import RedisBroker, redis_words
 
 IDLE_SECONDS = 0.02
 
@@ -38,6 +40,11 @@ class Worker:
 
     def __init__(self, broker: Broker, engine: Engine, holder: str, lease: int = 2000, most: int = 200) -> None:
         self.broker, self.engine, self.holder, self.lease, self.most = broker, engine, holder, lease, most
+        self.is_ending = False
+
+    def end(self, *_: object) -> None:
+        """Begins no further turn."""
+        self.is_ending = True
 
     def turn(self, partition: int) -> bool:
         """Answers a batch of a partition, where it has lines and nobody else is at it; whether there was one."""
@@ -57,7 +64,8 @@ class Worker:
     def answer(self, partition: int) -> None:
         state = self.broker.state(state_of(partition))
         entries = self.broker.read(script_of(partition), state.offset, self.most)
-        if not entries:
+        # Where another worker is further, entries before these may have been taken away (stream.trim).
+        if not entries or self.broker.offset(state_of(partition)) != state.offset:
             return
         answers, behind = self.engine.turn(state, entries)
         there = self.broker.last(answers_of(partition))
@@ -73,7 +81,7 @@ class Worker:
     def round(self, partitions: int) -> bool:
         """A turn of each partition, in an order of its own; whether any had lines."""
         order = random.sample(range(partitions), partitions)
-        return any([self.turn(partition) for partition in order])
+        return any([self.turn(partition) for partition in order if not self.is_ending])
 
     def is_done(self, partitions: int) -> bool:
         """Whether all lines that are there have their answers."""
@@ -81,8 +89,8 @@ class Worker:
 
 
 def work(worker: Worker, partitions: int, until_done: bool) -> None:
-    """Turns without an end, or until all lines that are there have their answers."""
-    while True:
+    """Turns until the worker is to end, or all lines that are there have their answers."""
+    while not worker.is_ending:
         try:
             if not worker.round(partitions):
                 if until_done and worker.is_done(partitions):
@@ -103,7 +111,7 @@ def asked() -> argparse.Namespace:
                         "that was killed")
     parser.add_argument("--entries", metavar="N", type=int, default=200, help="the most entries of a turn")
     parser.add_argument("--until-done", action="store_true", help="end where all lines that are there have answers")
-    redis_words(parser)
+    broker_words(parser)
     return parser.parse_args()
 
 
@@ -117,7 +125,9 @@ def desk_command(program: Optional[str]) -> tuple[str, ...]:
 def main() -> int:
     words = asked()
     engine = Engine(desk_command(words.desk), words.rules, words.limit)
-    worker = Worker(RedisBroker(words.redis), engine, f"{words.name}.{os.getpid()}", words.lease, words.entries)
+    worker = Worker(broker_of(words), engine, f"{words.name}.{os.getpid()}", words.lease, words.entries)
+    signal.signal(signal.SIGTERM, worker.end)
+    signal.signal(signal.SIGINT, worker.end)
     try:
         work(worker, words.partitions, words.until_done)
     except (Stopped, Lost) as error:

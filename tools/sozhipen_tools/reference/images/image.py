@@ -9,8 +9,9 @@ its content. Nothing follows.
 from __future__ import annotations
 
 import builtins
+import os
 from dataclasses import dataclass
-from typing import Callable, TypeVar
+from typing import BinaryIO, Callable, TypeVar
 
 from ..meaning.trees import Value
 
@@ -26,6 +27,16 @@ class RunPart:
     lines: int
     firings: int
     faulty: bool
+
+
+@dataclass(frozen=True)
+class Head:
+    """What stands before the facts of an image, without the text of its rules: the lines and the firings so far,
+    whether a line was faulty, and the clock."""
+    lines: int
+    firings: int
+    faulty: bool
+    clock: int
 
 
 @dataclass(frozen=True)
@@ -224,3 +235,16 @@ class ImageReader:
 def decode(data: bytes) -> Image:
     """The image that has these bytes, or BadImage."""
     return ImageReader(data).image()
+
+
+def head_in(file: BinaryIO) -> Head:
+    """The head of the image in a file, without a look at the rest; or BadImage."""
+    front = ImageReader(file.read(len(HEAD) + 8))
+    if front.bytes(len(HEAD)) != HEAD:
+        raise BadImage
+    try:
+        file.seek(front.unsigned(), os.SEEK_CUR)
+    except (OSError, OverflowError):
+        raise BadImage from None
+    rest = ImageReader(file.read(25))
+    return Head(rest.unsigned(), rest.unsigned(), rest.flag(), rest.signed())

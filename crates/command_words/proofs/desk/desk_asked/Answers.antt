@@ -1,7 +1,7 @@
 use Rattle.command_words.proofs.Common.{IfSome, Option, ap, ◌∙◌, subst, sym, found_of, rows_of, is_simple, is_simple_and_free}
 use Rattle.std.proofs.lemmas.Result.{IfOk-weaker}
 use Rattle.command_words.specs.Desk.{HasLimit}
-use Rattle.command_words.specs.declared.desk.DeskAsked.{DeskAsked}
+use Rattle.command_words.specs.declared.desk.DeskWords.{DeskWords}
 use Rattle.command_words.proofs.Faults.{desk_simple, desk_simple_and_free}
 use Rattle.command_words.proofs.Limits.{desk_within}
 use Rattle.command_words.proofs.desk.desk_asked.Goals as goal
@@ -14,4 +14,4 @@ parse-requires-clause-free c = ap is_simple_and_free c.in_ok-command.ensures ∙
 
 pub returns-in-Some-clause-within : goal.returns-in-Some-clause-within
 returns-in-Some-clause-within c = IfOk-weaker c.asked_of.result _ _
-    (λ asked e. subst (λ (o : Option DeskAsked). IfSome o HasLimit) (sym e) (desk_within (rows_of (found_of c.in-Some.matches)))) c.asked_of.ensures
+    (λ asked e. subst (λ (o : Option DeskWords). IfSome o HasLimit) (sym e) (desk_within (rows_of (found_of c.in-Some.matches)))) c.asked_of.ensures

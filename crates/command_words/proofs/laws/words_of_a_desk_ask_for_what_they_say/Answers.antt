@@ -10,7 +10,9 @@ unfolding clap_on_literals desk_app matched_by number_in_digits limit_written de
 returns c = record {
   text = refl;
   all = refl;
-  no_text = refl;
+  objects = refl;
+  help = refl;
+  version = refl;
   no_rules = refl;
   zero = refl;
   two = refl;

@@ -1,4 +1,4 @@
-use Rattle.session.proofs.Common.{◌≡◌, ◌∙◌, ◌≤◌, ◌+◌, true, arith, sym, ap, subst, ∥∥₁_map, are_known, Contents, Memory, Setting, gives, newest, IsSound}
+use Rattle.session.proofs.Common.{◌≡◌, ◌∙◌, ◌≤◌, ◌+◌, true, arith, sym, ap, subst, ∥∥₁_map, are_known, Contents, Memory, Setting, gives_in, newest, IsSound}
 use Rattle.session.proofs.Common.{Standing, asked_known}
 use Rattle.session.proofs.Common.{change_lines, change_stands}
 use Rattle.session.proofs.session.Session.apply.Goals as goal
@@ -17,7 +17,7 @@ returns-clause-lines c w s =
     let taken = simp c.new-lines.ensures.items at c.in_ok-apply.ensures.lines in
     c.from_vec.ensures
     ∙ change_lines z m k c.setting-inside.ensures.runs c.args.change.now c.in_ok-asked.asked c.in_ok-asked.ensures w (subst (λ (x : Setting). Standing x m k w) (sym same) here) c.apply.new.lines.items taken
-    ∙ ap (λ (x : Setting). (gives x.program w c.args.change.now).0) same
+    ∙ ap (λ (x : Setting). (gives_in x.detail x.program w c.args.change.now).0) same
 
 pub returns-clause-next : goal.returns-clause-next
 returns-clause-next c w s =
@@ -27,7 +27,7 @@ returns-clause-next c w s =
     let here : Standing c.args.self.setting m k w = subst (λ (n : Memory). Standing c.args.self.setting n k w) (sym c.deref_mut.ensures.value) same_state in
     let z = c.setting-inside.result.now in
     let same = c.setting-inside.ensures.same in
-    subst (λ (x : Setting). Standing x c.apply.new.memory c.apply.new.self (gives x.program w c.args.change.now).1) same
+    subst (λ (x : Setting). Standing x c.apply.new.memory c.apply.new.self (gives_in x.detail x.program w c.args.change.now).1) same
     (change_stands z m k c.setting-inside.ensures.runs c.args.change.now c.in_ok-asked.asked c.in_ok-asked.ensures w (subst (λ (x : Setting). Standing x m k w) (sym same) here) c.apply.new.memory c.apply.new.self c.in_ok-apply.ensures.stands)
 
 pub returns-clause-known : goal.returns-clause-known

@@ -1,6 +1,7 @@
 use Rattle.session.proofs.Common.{◌≡◌, ◌∙◌, ◌+◌, Some, None, option_map, sym, subst, ap, to_z, of_z, w64, arith, on_ok_weaker, Fact, Modify, modify_fault}
 use Rattle.session.proofs.Common.{stepped, is_tag_among, HasLeft, IsNewestTag, newest, Contents, Standing, IsSound, clock_same, fresh_less, safe_again, got_new}
-use Rattle.session.proofs.Common.{contents, followed_sound, instant_of}
+use Rattle.session.proofs.Common.{◌++◌, Option, on_ok, contents, followed_sound, instant_of}
+use Rattle.session_laws.specs.Gives.{modified_lines, revision}
 use Rattle.session_laws.proofs.Revising.{modify_awaits, modify_leads_on}
 use Rattle.std.specs.FinMap as map
 use Rattle.session.proofs.Stops.{safe_given}
@@ -63,3 +64,12 @@ returns-clause-sound c = on_ok_weaker c.settle.result
 
 pub returns-clause-tags : goal.returns-clause-tags
 returns-clause-tags c = on_ok_weaker c.settle.result (λ h. h ∙ ap (λ (k : Contents). k.next_tag + 1) c.self.view_is) c.settle.ensures.tags
+
+pub returns-clause-lines : goal.returns-clause-lines
+returns-clause-lines c =
+    let d = c.args.setting.now.detail in
+    let old = c.args.lines.now.items in
+    let told : Contents → Type 0 = λ k. c.tell_modified.new.lines.items ≡ old ++ modified_lines d (revision k.next_tag c.args.sets (map.get k.facts c.args.tag.0)) in
+    let taken : Some c.unwrap-before.result.now ≡ map.get c.self.inside.facts c.args.tag.0 = ap (option_map (λ f. f.now)) (sym c.unwrap-before.ensures) ∙ c.fact.ensures in
+    on_ok c.settle.result (subst told c.self.view_is (c.in_ok-tell_modified.ensures ∙ ap (λ (f : Fact). old ++ modified_lines d (Some f)) c.in_ok-after.ensures
+    ∙ ap (λ (o : Option Fact). old ++ modified_lines d (revision c.self.inside.next_tag c.args.sets o)) taken))

@@ -1,0 +1,3 @@
+pub mod Floats
+pub mod Depths
+pub mod Ends

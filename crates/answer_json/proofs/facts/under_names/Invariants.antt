@@ -1,0 +1,8 @@
+use Rattle.std.proofs.Common.{◌≡◌, drop}
+use Rattle.serde_json.specs.Data.{no_members}
+use Rattle.serde_json.specs.View.{members_view}
+use Rattle.answer_json.specs.Facts.{with_fields}
+use Rattle.answer_json.proofs.facts.under_names.Given as goal
+
+abbrev pub invariant-loop-name : goal.invariant-loop-name
+invariant-loop-name l = with_fields (members_view l.map.entries) (drop l.name-index l.fields) l.rest ≡ with_fields no_members l.fields l.values

@@ -1,0 +1,8 @@
+use Rattle.std.proofs.Common.{◌≡◌, ◌++◌, drop}
+use Rattle.std.specs.Prelude.{map}
+use Rattle.serde_json.specs.View.{view}
+use Rattle.answer_json.specs.Firings.{bound_results}
+use Rattle.answer_json.proofs.firings.results_of.Given as goal
+
+abbrev pub invariant-loop-value : goal.invariant-loop-value
+invariant-loop-value l = map view l.all.items ++ bound_results l.left (drop l.value-index l.values) ≡ bound_results l.names l.values

@@ -1,0 +1,4 @@
+pub mod Objects
+pub mod Facts
+pub mod Firings
+pub mod Answers

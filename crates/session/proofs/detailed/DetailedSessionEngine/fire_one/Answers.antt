@@ -1,0 +1,13 @@
+use Rattle.session.proofs.Common.{◌≡◌, ◌∙◌, subst, fires_in, World}
+use Rattle.engine.specs.Answers.{FiringAnswers}
+use Rattle.answer_lines.specs.declared.lines.Detail.{Detail}
+use Rattle.answer_lines.specs.declared.lines.Detail.TheVariants.{Full}
+use Rattle.session.specs.Sessions.{SessionStands}
+use Rattle.session.proofs.Answering.{answers_for}
+use Rattle.session.proofs.detailed.DetailedSessionEngine.fire_one.Goals as goal
+
+pub returns-clause-answers : goal.returns-clause-answers
+returns-clause-answers c w st =
+    let after = c.in_ok-inside.inside in
+    answers_for _ c.in_ok-inside.fired w (SessionStands after) (λ v. (after.setting.detail ≡ Full) × SessionStands after v) (λ v stands. (c.in_ok-inside.ensures.detail ∙ st.0, stands))
+    (subst (λ (d : Detail). FiringAnswers (fires_in d c.args.self.inside.setting.program w) c.in_ok-inside.fired w (SessionStands after)) st.0 (c.in_ok-inside.ensures.answers w st.1))
