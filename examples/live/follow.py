@@ -4,15 +4,16 @@
     python3 examples/live/follow.py FOLDER [--words fire,fault] [--once]
 
 FOLDER is the keeper's. The answers are read while they are written; after a crash the keeper writes the same bytes
-again, so a place in them stays valid. A line with which the program ends, `limit 100000`, is not counted: the next
+again, so a place in them stays valid. A line `refused ..`, with which the program ends, is not counted: the next
 program has other bytes there. The place is saved in FOLDER/followed each time after lines were printed: a crash between
-the two prints these lines once more. Only lines that begin with one of the words are printed; without `--words`, all
-lines. With `--once` it ends at the last complete line.
+the two prints these lines once more. Only objects with a member of one of the words are printed, and lines of text that
+begin with one; without `--words`, all lines. With `--once` it ends at the last complete line.
 """
 
 from __future__ import annotations
 
 import argparse
+import json
 import os
 import sys
 import time
@@ -21,8 +22,8 @@ from pathlib import Path
 from typing import Iterator, Optional
 
 PAUSE = 0.2
-# How lines begin with which the program ends.
-LAST_WORDS = (b"limit ", b"refused ")
+# How a line begins with which the program ends.
+LAST_WORD = b"refused "
 
 
 @dataclass(frozen=True)
@@ -76,7 +77,7 @@ class Follower:
             following = self.following()
             data = self.data()
             lines = data[:data.rfind(b"\n") + 1].splitlines(keepends=True)
-            ended = lines.pop() if lines and lines[-1].startswith(LAST_WORDS) else b""
+            ended = lines.pop() if lines and lines[-1].startswith(LAST_WORD) else b""
             yield from (line.rstrip(b"\n") for line in lines)
             if lines:
                 self.keep(Place(self.place.segment, self.place.offset + sum(map(len, lines))))
@@ -88,6 +89,11 @@ class Follower:
             self.keep(Place(following, 0))
 
 
+def has_word(line: bytes, words: set[str]) -> bool:
+    """Whether an object has a member of one of the names, or a line of text begins with one."""
+    return not words.isdisjoint(json.loads(line) if line.startswith(b"{") else line.decode().split(" ", 1)[:1])
+
+
 def main() -> int:
     parser = argparse.ArgumentParser(usage=argparse.SUPPRESS, description=__doc__,
                                      formatter_class=argparse.RawDescriptionHelpFormatter)
@@ -95,11 +101,11 @@ def main() -> int:
     parser.add_argument("--words", default="", help="as fire,fault")
     parser.add_argument("--once", action="store_true")
     asked = parser.parse_args()
-    words = tuple(word.encode() + b" " for word in asked.words.split(",") if word)
+    words = {word for word in asked.words.split(",") if word}
     follower = Follower(asked.folder)
     while True:
         for line in follower.lines():
-            if not words or line.startswith(words):
+            if not words or has_word(line, words):
                 sys.stdout.buffer.write(line + b"\n")
                 sys.stdout.buffer.flush()
         if asked.once:

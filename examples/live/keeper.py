@@ -1,79 +1,62 @@
 #!/usr/bin/env python3
-"""Keeps a desk that loses nothing: logs each line of a script before the program reads it, and continues after a crash
-at any moment.
+"""Keeps a desk that loses nothing: each line of a script is on the disk before the program `desk` gets it.
 
-    python3 keeper.py PROGRAM RULES FOLDER [--lines N] [--limit N] < SCRIPT
+    python3 keeper.py PROGRAM RULES FOLDER [--lines N] [--keep K] [--limit N] [--text] < SCRIPT
 
-The folder has the log in segments of N lines (log/), the images of the program after them (image/), and the answers to
-each segment (answers/); each file is named by the number of the lines before it. Lines are appended to the log and
-flushed to the disk before the program gets them, together if they have arrived together. The last line of a segment is
-a mark, a line that is not JSON, whose fault ends the answers of the segment. When the script ends, so does the segment.
+Behind each N lines, and behind the last one, the log has a line `save`, which ends a segment. FOLDER has log/ and
+answers/ of each segment and the image/ before it, in files that are named by the number of lines before the segment;
+in log/ a second number says how many of these are the script's. The answers to the last segment are in a file that ends
+in `.part`. It gets its name when the segment is saved, and then the image does. With --keep, what log/ and image/ have
+before the last K images is removed.
 
-Beside the running program another one makes the image after each full segment, from the previous image and that
-segment. An image and complete answers get their names when they are on the disk. After a crash the same command
-resumes from the last image: the program gets the lines of the log after it once more, and gives the same answers.
-`taken N` on standard output says how many lines of the script are in the log then; the sender continues after these.
+After a crash the same command runs the lines behind the last image again, which answer the same bytes into the same
+file. Then `taken N` on standard output says how many lines of the script were logged: the sender goes on behind these.
 
-The status is the program's: 0 or 1 if the script ended. It is 2 if the program was killed or does not exist, if the
-disk refuses a write, or if another keeper has the folder. Standard error says what went wrong.
+The status is the program's, 0 or 1 if the script ended. It is 2 if there is no program, or it was killed or does not
+save, if the disk refuses a write, or if another keeper has FOLDER. Standard error says what went wrong.
 """
 
 from __future__ import annotations
 
 import argparse
 import fcntl
-import io
 import os
+import select
+import shutil
 import subprocess
 import sys
-import threading
-import time
+import tempfile
 from pathlib import Path
-from typing import BinaryIO, Callable, Iterator, cast
+from typing import Iterator
 
-MARK = b"end of a segment\n"
+SAVE = b'{"do":"save"}\n'
 READ_MAX = 1 << 16
-# Statuses of a program that was refused a read, a write or memory: another attempt may succeed.
-MAY_PASS = (5, 6, 7)
-FAILED = 2
-INTERRUPTED = 130
-
+FAILED, INTERRUPTED = 2, 130
+BROKEN = "see docs/OPERATING.md, *When something breaks*"
 WORDS = {
     2: "it does not accept these options",
     3: "the rule file is refused; `./try --where RULES` says where",
-    4: "the limit of firings is reached; with a higher --limit, up to 1000000, the same command goes on, and beyond that "
-       "`desk` from the last image (docs/LIVE.md, *Firings*)",
     5: "a read of the rule file, the image or the script failed; the same command goes on",
-    6: "it could not write its answers; the same command goes on",
+    6: "it could not write its answers or its image; the same command goes on",
     7: "it was refused memory; with more memory the same command goes on",
-    8: "one process reads at most 1 GiB of script; the same command goes on from the last image",
-    9: "the last image is refused; with the rule file that it was made with, the same command goes on; otherwise see "
-       "docs/OPERATING.md, *When something breaks*",
+    9: f"an image is refused; with the rule file that it was made with, the same command goes on; otherwise {BROKEN}",
 }
-
-
-def tell(text: str) -> None:
-    print(f"keeper: {text}", file=sys.stderr, flush=True)
-
-
-def told(status: int, said: str) -> str:
-    """How the program ended, with the line that it ended with."""
-    how = f"was killed by signal {-status}; the same command goes on" if status < 0 else \
-        f"ended with status {status}: {WORDS.get(status, 'which is none of its statuses')}"
-    return f"the program {how}" + (f" ({said})" if said else "")
-
-
-def refused(error: OSError) -> str:
-    """What the machine refused the keeper."""
-    return f"{error}; once that is fixed, the same command goes on"
 
 
 class Failure(Exception):
     """Why the keeper cannot go on."""
 
 
-class Gone(Exception):
-    """The program reads no more."""
+def failed(status: int, last: bytes) -> int:
+    """Tells how the program ended, with its last line where that says more; the keeper's status."""
+    how = f"was killed by signal {-status}; the same command goes on" if status < 0 else \
+        f"ended with status {status}: {WORDS.get(status, 'before its script did')}"
+    tell(f"the program {how}" + (f" ({last.decode('utf-8', 'replace').strip()})" if last[:8] == b"refused " else ""))
+    return status if status > 1 else FAILED
+
+
+def tell(text: str) -> None:
+    print(f"keeper: {text}", file=sys.stderr, flush=True)
 
 
 def on_disk(path: Path) -> None:
@@ -92,277 +75,170 @@ def put_in_place(part: Path, name: Path) -> None:
     on_disk(name.parent)
 
 
-def write_whole(file: io.RawIOBase, data: bytes) -> None:
-    """Writes all the bytes, where one write may take fewer."""
-    rest = memoryview(data)
-    while rest:
-        rest = rest[file.write(rest) or 0:]
+def number_of(path: Path) -> int:
+    """The number of lines before a segment or an image."""
+    return int(path.name.partition(".")[0])
 
 
-def in_background(work: Callable[[], None]) -> threading.Thread:
-    """Does the work in a thread. Where the disk refuses it something, the keeper ends, as in a crash."""
-    def guarded() -> None:
-        try:
-            work()
-        except OSError as error:
-            tell(refused(error))
-            os._exit(FAILED)
+class Keeper:
+    """What is kept of a run in a folder, which one keeper has at a time, and the program behind it."""
 
-    thread = threading.Thread(target=guarded, daemon=True)
-    thread.start()
-    return thread
-
-
-class Folder:
-    """What is kept of a run, by one keeper at a time."""
-
-    def __init__(self, path: Path) -> None:
+    def __init__(self, path: Path, size: int, keep: int) -> None:
         path.mkdir(parents=True, exist_ok=True)
-        self.lock = os.open(path, os.O_RDONLY)
+        self.size, self.keep, self.lock = size, keep, os.open(path, os.O_RDONLY)
         try:
             fcntl.flock(self.lock, fcntl.LOCK_EX | fcntl.LOCK_NB)
         except BlockingIOError:
             raise Failure(f"another keeper has {path}") from None
-        self.log, self.image, self.answers = (path / name for name in ("log", "image", "answers"))
-        for folder in (self.log, self.image, self.answers):
+        self.logs, self.answers, self.images = (path / name for name in ("log", "answers", "image"))
+        for folder in (self.logs, self.answers, self.images):
             folder.mkdir(exist_ok=True)
-            for part in folder.glob("*.part"):
-                part.unlink()
+        for old in path.glob("running-*"):
+            shutil.rmtree(old, ignore_errors=True)
+        # The program of a killed keeper ends with the pipe, maybe within a line, and puts an image behind answers that
+        # nobody got. So each program puts its images under a name of its own, and the keeper names what was saved.
+        self.running = Path(tempfile.mkdtemp(prefix="running-", dir=path), "image")
         on_disk(path)
 
-    @staticmethod
-    def name(lines: int) -> str:
-        return f"{lines:012}"
+    def named_images(self) -> list[Path]:
+        return sorted(self.images.glob("*[0-9]"), key=number_of)
 
-    @staticmethod
-    def numbers(folder: Path) -> list[int]:
-        return sorted(int(path.name) for path in folder.iterdir() if path.name.isdigit())
-
-    def last_image(self) -> int:
-        """The number of lines after which the last image is; 0 where there is none."""
-        return max(self.numbers(self.image), default=0)
-
-    def lines_of(self, segment: int) -> list[bytes]:
-        """The complete lines of a segment; what was cut off in writing is taken off the file."""
-        path = self.log / self.name(segment)
-        data = path.read_bytes() if path.exists() else b""
-        whole = data[:data.rfind(b"\n") + 1]
-        if len(whole) < len(data):
-            os.truncate(path, len(whole))
-        return whole.splitlines(keepends=True)
-
-
-class Answers:
-    """Takes what the program prints into a file for each segment, which gets its name when the segment is answered."""
-
-    def __init__(self, folder: Folder, out: BinaryIO, first: int) -> None:
-        self.folder, self.out, self.segment = folder, out, first
-        self.marks: list[tuple[bytes, int]] = []
-        self.changed = threading.Condition()
-        self.ended = False
-        self.last = b""
-        self.thread = in_background(self.take)
-
-    def await_mark(self, line: int) -> None:
-        """The mark of the segment in hand is this line."""
-        with self.changed:
-            self.marks.append((b"fault %d BadJson\n" % line, line))
-
-    def part(self) -> Path:
-        return self.folder.answers / (self.folder.name(self.segment) + ".part")
-
-    def take(self) -> None:
-        file = open(self.part(), "wb")
-        for text in self.out:
-            self.last = text
-            file.write(text)
-            file.flush()
-            with self.changed:
-                if self.marks and text == self.marks[0][0]:
-                    file.close()
-                    put_in_place(self.part(), self.folder.answers / self.folder.name(self.segment))
-                    self.segment = self.marks.pop(0)[1]
-                    file = open(self.part(), "wb")
-                    self.changed.notify_all()
-        file.close()
-        with self.changed:
-            self.ended = True
-            self.changed.notify_all()
-
-    def are_behind(self, lines: int) -> bool:
-        """Waits until the first so many lines are answered; false where the program ended before."""
-        with self.changed:
-            self.changed.wait_for(lambda: self.ended or self.segment >= lines)
-            return self.segment >= lines
-
-    def said(self) -> str:
-        """The line with which the program ended, after it has; nothing where that is an answer like others."""
-        self.thread.join()
-        return self.last.decode("utf-8", "replace").strip() if self.last.startswith((b"refused ", b"limit ")) else ""
-
-
-class Keeper:
-    def __init__(self, program: str, rules: str, folder: Folder, lines: int, limit: list[str]) -> None:
-        self.command, self.rules, self.folder, self.size = [program] + limit, rules, folder, lines
-        self.behind = folder.last_image()
-        self.process = subprocess.Popen(self.words(self.behind), stdin=subprocess.PIPE, stdout=subprocess.PIPE,
-                                        bufsize=0)
-        # Without buffers pipes are raw files.
-        self.input, output = cast(io.FileIO, self.process.stdin), cast(io.FileIO, self.process.stdout)
-        self.answers = Answers(folder, io.BufferedReader(output), self.behind)
-        self.full: list[tuple[int, int]] = []
-        self.some = threading.Condition()
-        in_background(self.make_images)
-        self.segment = self.count = self.behind
-        self.file: io.FileIO
-
-    def words(self, image: int) -> list[str]:
-        resumed = ["--resume", str(self.folder.image / self.folder.name(image))] if image else []
-        return self.command + resumed + [self.rules]
-
-    def begin(self) -> None:
-        """Gives the program what the log has after the image."""
-        segments = self.folder.numbers(self.folder.log)
-        taken = sum(line != MARK for segment in segments for line in self.folder.lines_of(segment))
-        print(f"taken {taken}", flush=True)
-        for segment in segments:
-            if segment >= self.behind:
-                self.segment = self.count = segment
-                self.give(self.folder.lines_of(segment))
-        self.open()
-
-    def open(self) -> None:
-        self.file = open(self.folder.log / self.folder.name(self.segment), "ab", buffering=0)
-        on_disk(self.folder.log)
-
-    def give(self, lines: list[bytes]) -> None:
-        """The program gets lines of one segment that are in the log."""
-        self.count += len(lines)
-        is_full = lines[-1:] == [MARK]
-        if is_full:
-            self.answers.await_mark(self.count)
-        try:
-            write_whole(self.input, b"".join(lines))
-        except BrokenPipeError:
-            raise Gone from None
-        if is_full:
-            with self.some:
-                self.full.append((self.segment, self.count))
-                self.some.notify()
-            self.segment = self.count
-
-    def take(self, lines: list[bytes]) -> None:
-        """Lines have come together. One that looks like a mark is told apart from one, and is as faulty."""
-        lines = [line.replace(b"\n", b" \n") if line == MARK else line for line in lines]
+    def start(self, words: list[str], rules: str) -> None:
+        """Starts the program from the last image, and runs the lines of the log behind it again."""
+        images = self.named_images()
+        if images:
+            shutil.copyfile(images[-1], self.running)
+        self.process = subprocess.Popen([*words, "--image", str(self.running), rules], stdin=subprocess.PIPE,
+                                        stdout=subprocess.PIPE, bufsize=0)
+        assert self.process.stdin and self.process.stdout
+        self.input, self.output, self.last, self.rest = self.process.stdin, self.process.stdout, [b"", b""], b""
+        os.set_blocking(self.input.fileno(), False)
+        lines = self.open(number_of(images[-1]) if images else 0)
         while lines:
-            room = max(1, self.size - (self.count - self.segment))
+            lines = self.give(lines)
+        if self.segment != max(map(number_of, self.logs.iterdir())):
+            raise Failure(f"{self.log.name} ends without `save`; {BROKEN}")
+        print(f"taken {self.before + self.count}", flush=True)
+
+    def open(self, segment: int) -> list[bytes]:
+        """Begins a segment. The lines that the log has of it already are on the disk then; what was cut off in writing
+        is taken off the file."""
+        self.segment, self.count, name = segment, 0, f"{segment:012}"
+        new = None if any(self.logs.iterdir()) else self.logs / f"{name}.{0:012}"
+        path = next(self.logs.glob(f"{name}.*"), new)
+        if path is None:
+            raise Failure(f"{self.logs} has no segment {name}; {BROKEN}")
+        self.before, self.log = int(path.suffix[1:]), open(path, "a+b")
+        self.log.seek(0)
+        *lines, rest = self.log.read().split(b"\n")
+        self.log.truncate(self.log.tell() - len(rest))
+        os.fsync(self.log.fileno())
+        on_disk(self.logs)
+        self.part = open(self.answers / f"{name}.part", "wb")
+        return [line + b"\n" for line in lines]
+
+    def script(self) -> Iterator[list[bytes]]:
+        """The lines of standard input, those together that came together; the last one may come without a newline."""
+        rest, data = b"", b"\n"
+        while data:
+            while self.output in select.select([self.output, sys.stdin], [], [])[0]:
+                self.take_answers()
+            data = os.read(sys.stdin.fileno(), READ_MAX)
+            *lines, rest = (rest + (data or rest and b"\n")).split(b"\n")
+            # One that looks like the keeper's own is told apart from it, and means the same.
+            yield [line + (b" \n" if line == SAVE.strip() else b"\n") for line in lines]
+
+    def take(self, lines: list[bytes], ends: bool = False) -> None:
+        """Lines came together, or the script ends: the log gets them, up to the end of a segment, then the program."""
+        while lines or ends and self.count:
+            room = max(1, self.size - self.count)
             part, lines = lines[:room], lines[room:]
-            self.log(part + [MARK] if len(part) == room else part)
+            part += [SAVE] if len(part) == room or ends else []
+            self.log.write(b"".join(part))
+            self.log.flush()
+            os.fsync(self.log.fileno())
+            self.give(part)
 
-    def log(self, lines: list[bytes]) -> None:
-        write_whole(self.file, b"".join(lines))
-        os.fsync(self.file.fileno())
-        self.give(lines)
-        if lines[-1] == MARK:
-            self.file.close()
-            self.open()
+    def give(self, lines: list[bytes]) -> list[bytes]:
+        """The program gets lines of the log, and answers them; what the log has of the segment that begins then."""
+        due, unanswered, self.count = memoryview(b"".join(lines)), len(lines), self.count + len(lines)
+        while unanswered > 0:
+            readable, writable, _ = select.select([self.output], [self.input] if due else [], [])
+            try:
+                due = due[os.write(self.input.fileno(), due):] if writable else due
+            except BrokenPipeError:
+                due = due[:0]
+            if readable:
+                unanswered -= self.take_answers()
+        return self.end_segment(self.segment + self.count) if lines[-1] == SAVE else []
 
-    def make_images(self) -> None:
-        """Makes the image after each full segment, one after the other; whoever is killed at it is begun again."""
-        while True:
-            with self.some:
-                self.some.wait_for(lambda: self.full)
-                first, last = self.full.pop(0)
-            name = self.folder.image / self.folder.name(last)
-            status = 0 if name.exists() else self.make_image(first, name)
-            while status < 0 or status in MAY_PASS:
-                time.sleep(1)
-                status = self.make_image(first, name)
-            if status > 1:
-                tell(f"no image could be made after line {last}, and none will be made later: status {status}")
-                return
+    def take_answers(self) -> int:
+        """Takes what the program answers, and tells how many lines that closes; EOFError where it answers no more."""
+        data = os.read(self.output.fileno(), READ_MAX)
+        if not data:
+            raise EOFError
+        *lines, self.rest = (self.rest + data).split(b"\n")
+        self.part.write(b"".join(line + b"\n" for line in lines))
+        self.part.flush()
+        self.last = (self.last + lines)[-2:]
+        return sum(line.startswith((b'{"done":', b"done ")) for line in lines)
 
-    def make_image(self, first: int, name: Path) -> int:
-        """Makes the image of this name from that after the first lines, so many, and from the segment after these."""
-        part = name.with_name(f"{name.name}.{os.getpid()}.part")
-        program, *words = self.words(first)
-        with open(self.folder.log / self.folder.name(first), "rb") as lines, open(part, "wb") as image:
-            status = subprocess.call([program, "--mode", "save"] + words, stdin=lines, stdout=image)
-        # Whoever goes on from the image does not answer again what stands before it.
-        if status in (0, 1) and self.answers.are_behind(int(name.name)):
-            put_in_place(part, name)
-        return status
+    def end_segment(self, end: int) -> list[bytes]:
+        """The line `save` of this number is answered: the answers get their name, and last the image, from which the
+        next keeper goes on."""
+        saved = [[b'{"line":%d,"saved":true}' % end, b'{"done":%d}' % end], [b"saved %d" % end, b"done %d" % end]]
+        if self.last not in saved:
+            raise Failure(f"the program does not save at line {end}: {b' '.join(self.last).decode()}")
+        self.log.close()
+        self.part.close()
+        put_in_place(Path(self.part.name), Path(self.part.name).with_suffix(""))
+        (self.logs / f"{end:012}.{self.before + self.count - 1:012}").touch()
+        on_disk(self.logs)
+        put_in_place(self.running, self.images / f"{end:012}")
+        images = self.named_images()
+        for path in (*self.logs.iterdir(), *images) if 0 < self.keep <= len(images) else ():
+            if number_of(path) < number_of(images[-self.keep]):
+                path.unlink()
+        return self.open(end)
 
-    def end(self) -> None:
-        """The script has ended: so does the segment, and with it its answers, which are complete then."""
-        if self.count > self.segment:
-            self.log([MARK])
-        self.answers.are_behind(self.count)
-        self.input.close()
-
-    def ended(self) -> int:
-        """The status, when the program has ended."""
-        status = self.process.wait()
-        said = self.answers.said()
-        if status not in (0, 1):
-            tell(told(status, said))
-        return FAILED if status < 0 else status
-
-
-def lines_of(source: BinaryIO) -> Iterator[list[bytes]]:
-    """The lines of a script, those together that have come together; the last one with a newline if it has none."""
-    rest = b""
-    while data := os.read(source.fileno(), READ_MAX):
-        *lines, rest = (rest + data).split(b"\n")
-        if lines:
-            yield [line + b"\n" for line in lines]
-    if rest:
-        yield [rest + b"\n"]
-
-
-def checked(program: str, rules: str) -> int:
-    """The status of a look at the rule file, before anything is kept; Failure where there is no program."""
-    try:
-        done = subprocess.run([program, "--mode", "check", rules], stdin=subprocess.DEVNULL, stdout=subprocess.PIPE,
-                              check=False)
-    except OSError as error:
-        raise Failure(f"there is no program {program}: {error.strerror}") from None
-    if done.returncode:
-        tell(told(done.returncode, done.stdout.decode("utf-8", "replace").strip()))
-    return FAILED if done.returncode < 0 else done.returncode
-
-
-def kept(asked: argparse.Namespace) -> int:
-    """Keeps the script; the status."""
-    if status := checked(asked.program, asked.rules):
-        return status
-    limit = [] if asked.limit is None else ["--limit", str(asked.limit)]
-    keeper = Keeper(asked.program, asked.rules, Folder(asked.folder), asked.lines, limit)
-    try:
-        keeper.begin()
-        for lines in lines_of(sys.stdin.buffer):
-            keeper.take(lines)
-        keeper.end()
-    except Gone:
-        pass
-    return keeper.ended()
+    def run(self, words: list[str], rules: str) -> int:
+        """Keeps the script; the status."""
+        try:
+            self.start(words, rules)
+            for lines in self.script():
+                self.take(lines)
+            self.take([], ends=True)
+            self.input.close()
+            while True:
+                self.take_answers()
+        except EOFError:
+            status = self.process.wait()
+            shutil.rmtree(self.running.parent, ignore_errors=True)
+        return status if self.input.closed and status in (0, 1) else failed(status, self.last[-1])
 
 
 def main() -> int:
-    about = "keeper.py PROGRAM RULES FOLDER [--lines N] [--limit N] < SCRIPT: keeps a desk that loses nothing."
+    about = "keeper.py PROGRAM RULES FOLDER [OPTIONS] < SCRIPT: keeps a desk that loses nothing."
     parser = argparse.ArgumentParser(usage=argparse.SUPPRESS, description=about)
-    parser.add_argument("program", metavar="PROGRAM", help="the built program")
+    parser.add_argument("program", metavar="PROGRAM", help="the program `desk`")
     parser.add_argument("rules", metavar="RULES", help="the rule file")
     parser.add_argument("folder", metavar="FOLDER", type=Path, help="where the log, the images and the answers are")
     parser.add_argument("--lines", metavar="N", type=int, default=10_000, help="the lines of a segment; 10000")
-    parser.add_argument("--limit", metavar="N", type=int, help="at most so many firings of the run")
+    parser.add_argument("--keep", metavar="K", type=int, default=0, help="how many images are kept; all")
+    parser.add_argument("--limit", metavar="N", type=int, default=100_000, help="the most firings of a line; 100000")
+    parser.add_argument("--text", action="store_true", help="the answers are lines of text")
     asked = parser.parse_args()
+    words = [asked.program, "--limit", str(asked.limit), *(["--text"] if asked.text else [])]
     try:
-        return kept(asked)
+        # Before anything is kept: whether there is a program, and whether it accepts the rules.
+        tried = subprocess.run([*words, asked.rules], stdin=subprocess.DEVNULL, stdout=subprocess.PIPE, check=False)
+        if tried.returncode:
+            return failed(tried.returncode, tried.stdout)
+        return Keeper(asked.folder, asked.lines, asked.keep).run(words, asked.rules)
     except Failure as failure:
         tell(str(failure))
     except OSError as error:
-        tell(refused(error))
+        tell(f"{error}; once that is fixed, the same command goes on")
     except KeyboardInterrupt:
         return INTERRUPTED
     return FAILED

@@ -135,8 +135,8 @@ class Session(Lines[Answer]):
             return None
 
     def kept(self, type_name: Optional[str] = None) -> list[Fact]:
-        """The facts that a `desk` keeps, those of a type or all, in the order of their numbers. NotKnown of another
-        program, ClientError where there is no such type."""
+        """The facts that a `desk` keeps, those of a type or all, in the order of their tags: as they came, or were
+        modified last. NotKnown of another program, ClientError where there is no such type."""
         of_type = {} if type_name is None else {"type": type_name}
         return self.accepted({"do": "facts", **of_type}).told_kept
 

@@ -17,10 +17,9 @@ from pathlib import Path
 from .places import clone
 from .words import Parser
 
-# The modules that are left out where a minute is all there is: runs over loads and cut scripts, with kills, of Java,
-# and of all that stands on the pages.
-SLOW = ("test_cuts", "test_java", "test_keeper", "test_measure", "test_pages",
-        "test_stream_trial")
+# The modules that are left out where a minute is all there is: runs over loads and cut scripts, of Java, of brokers with
+# kills, and of all that stands on the pages.
+SLOW = ("test_cuts", "test_java", "test_measure", "test_pages", "test_stream_trial")
 
 
 def asked(words: list[str], known: list[str]) -> list[str]:

@@ -5,6 +5,7 @@ import importlib.util
 import io
 import os
 import shlex
+import subprocess
 import sys
 import tempfile
 from pathlib import Path
@@ -38,6 +39,15 @@ def live(name: str) -> ModuleType:
     module = sys.modules[name] = importlib.util.module_from_spec(spec)
     spec.loader.exec_module(module)
     return module
+
+
+def saves(desk: str) -> bool:
+    """Whether there is this program, and it saves while it runs."""
+    if not os.access(desk, os.X_OK):
+        return False
+    with tempfile.TemporaryDirectory() as folder:
+        command = [desk, "--image", str(Path(folder, "image")), str(TOP / "examples" / "dear.drl")]
+        return b"saved" in subprocess.run(command, input=b'{"do":"save"}\n', capture_output=True, check=False).stdout
 
 
 def evaluator(folder: Path, tool: str = "reference.live") -> Path:

@@ -160,8 +160,8 @@ class Asked(Desk):
         session = self.desk(BILLS)
         session.insert("Order", ORDER)
         session.fire(1)
-        self.assertEqual(session.kept(), [Fact(1, "Order", {"number": 1, "cents": 4, "paid": True}),
-                                          Fact(2, "Bill", {"number": 1, "cents": 16}, rule="bill")])
+        self.assertEqual(session.kept(), [Fact(2, "Bill", {"number": 1, "cents": 16}, rule="bill"),
+                                          Fact(1, "Order", {"number": 1, "cents": 4, "paid": True})])
         self.assertEqual((session.kept("Bill"), session.lines), (session.facts[1:], 4))
         with self.assertRaisesRegex(ClientError, "UnknownType"):
             session.kept("Nothing")
@@ -202,7 +202,7 @@ class Asked(Desk):
         session.kill()
         again = session.restart()
         self.assertEqual((again.lines, [(fact.id, fact.entry) for fact in again.kept()]),
-                         (5, [(1, None), (2, None), (3, None)]))
+                         (5, [(2, None), (1, None), (3, None)]))
         counts = again.counts()
         self.assertEqual((counts["before"], counts["all_firings"], counts["pending"], counts["clock"]),
                          ({"lines": 5, "firings": 1, "faulty": False}, 1, 2, 0))

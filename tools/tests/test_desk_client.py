@@ -115,7 +115,7 @@ class OverDesk(Case):
         self.assertEqual([firing.facts[0]["ticks"] for fire in fires for firing in fire.firings], list(range(10)))
         self.assertEqual((session.insert("Clock", {"ticks": 7}).fact, session.fire(1).firings[0].facts[0]["ticks"]),
                          (Fact(2, "Clock", {"ticks": 7}), 7))
-        self.assertEqual((session.at(1).limit, session.counts()["firings"], session.close()), (None, {"tick": 11}, 0))
+        self.assertEqual((session.at(1).limit, session.known_counts()["firings"], session.close()), (None, {"tick": 11}, 0))
 
     def test_the_limit_as_a_value_ends_nothing_that_is_pending(self) -> None:
         session = self.desk(BEATS, limit=2)

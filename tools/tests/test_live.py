@@ -96,11 +96,18 @@ class Followed(unittest.TestCase):
         self.assertEqual(self.followed(), [b"new #4 Item"])
 
     def test_a_line_that_ends_the_program(self) -> None:
-        self.answers("000000000000.part", b"new #1 Item\nlimit 5\n")
+        self.answers("000000000000.part", b"limit 1 5\nrefused checkpoint TooLong\n")
         follower = follow.Follower(self.folder)
-        self.assertEqual([list(follower.lines()), list(follower.lines())], [[b"new #1 Item", b"limit 5"], []])
-        self.answers("000000000000.part", b"new #1 Item\nfire \"dear\" #1\n")
-        self.assertEqual(self.followed(), [b"fire \"dear\" #1"])
+        self.assertEqual([list(follower.lines()), list(follower.lines())],
+                         [[b"limit 1 5", b"refused checkpoint TooLong"], []])
+        self.answers("000000000000.part", b"limit 1 5\nsaved 2\n")
+        self.assertEqual(self.followed(), [b"saved 2"])
+
+    def test_words(self) -> None:
+        """A member of an object has the name, and no text in it; a line of text begins with the word."""
+        told = {b'{"fault":"BadJson","line":1}': True, b'{"at":0,"facts":[],"fire":"fault","line":2}': False,
+                b"fault 3 BadJson": True, b'fire "fault"': False, b"refused checkpoint TooLong": True}
+        self.assertEqual({line: follow.has_word(line, {"fault", "refused"}) for line in told}, told)
 
 
 if __name__ == "__main__":

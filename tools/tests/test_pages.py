@@ -14,13 +14,12 @@ import shutil
 import subprocess
 import sys
 import tempfile
-import time
 import unittest
 from dataclasses import dataclass
 from pathlib import Path
 from typing import Optional
 
-from support import DESK_PROGRAM, PROGRAM, TOP
+from support import DESK_PROGRAM, PROGRAM, TOP, evaluator, saves
 
 from sozhipen_tools.places import command_of
 from sozhipen_tools.reference.certificates.certify import proof_lines
@@ -29,6 +28,7 @@ from sozhipen_tools.reference.meaning.run import program_or_refusal, report
 from sozhipen_tools.stream.brokers import KINDS
 
 IS_BUILT = os.access(PROGRAM, os.X_OK)
+SAVES = saves(DESK_PROGRAM)
 PATHS = [TOP / "README.md", *sorted((TOP / "docs").glob("*.md")), TOP / "tools" / "README.md"]
 PAGES = {path.stem if path.parent != TOP / "tools" else "tools/README": path for path in PATHS}
 FENCE = re.compile(r"^( *)```(\w*)\n(.*?)^ *```$", re.M | re.S)
@@ -106,17 +106,20 @@ def refused_or_lives() -> list[tuple[Block, Block]]:
 
 
 class Tree:
-    """Links to the clone, with the program where its pages have it."""
+    """Links to the clone, with the programs where its pages have them; the second evaluator is there in place of a
+    `desk` that is not built."""
 
     def __init__(self) -> None:
         self.path = Path(tempfile.mkdtemp(prefix="pages-"))
         for entry in TOP.iterdir():
             if entry.name not in (".git", "crates"):
                 (self.path / entry.name).symlink_to(entry)
-        place = self.path / "crates" / "replay_main" / "out"
-        place.mkdir(parents=True)
+        replay, desk = (self.path / "crates" / name / "out" / name for name in ("replay_main", "desk_main"))
+        for place in (replay.parent, desk.parent):
+            place.mkdir(parents=True)
         if IS_BUILT:
-            (place / "replay_main").symlink_to(PROGRAM)
+            replay.symlink_to(PROGRAM)
+        desk.symlink_to(DESK_PROGRAM if SAVES else evaluator(desk.parent, "reference.desk"))
 
     def run(self, command: str, script: Optional[str] = None) -> subprocess.CompletedProcess[str]:
         words = ["bash", "-c", command]
@@ -193,15 +196,17 @@ class Commands(Pages):
                 self.assertEqual(self.tree.run(command).stdout, said, command)
 
     def test_a_live_run(self) -> None:
-        programs = [command_of("reference.desk"), *([[DESK_PROGRAM]] if os.access(DESK_PROGRAM, os.X_OK) else [])]
-        blocks = [block for block in BLOCKS["DESK"] if block.text.startswith("> ")]
-        self.assertEqual(len(blocks), 2)
-        for block, words in zip(blocks, ([], ["--text"])):
-            shown = block.text.splitlines(keepends=True)
+        programs = [command_of("reference.desk"), *([[DESK_PROGRAM]] if SAVES else [])]
+        blocks = [block.text for block in BLOCKS["DESK"] if block.text.startswith("> ")]
+        self.assertEqual(len(blocks), 3)
+        blocks[2] = blocks[0] + blocks[2]
+        for block, words in zip(blocks, ([], ["--text"], ["--image"])):
+            shown = block.splitlines(keepends=True)
             script = "".join(line[2:] for line in shown if line.startswith("> "))
             wanted = "".join(line for line in shown if not line.startswith("> "))
-            for program in programs:
-                command = shlex.join([*program, "--limit", "3", *words, "examples/endless.drl"])
+            for place, program in enumerate(programs):
+                named = [f"image{place}"] if words == ["--image"] else []
+                command = shlex.join([*program, "--limit", "3", *words, *named, "examples/endless.drl"])
                 self.assertEqual(self.tree.run(command, script).stdout, wanted, program)
 
     def test_caller(self) -> None:
@@ -285,11 +290,11 @@ class Commands(Pages):
         self.assertEqual(done.stdout, (TOP / "examples" / "smoke.out").read_text(encoding="utf-8"))
 
 
-@unittest.skipUnless(IS_BUILT, f"there is no program {PROGRAM}")
 class Operating(Pages):
     """The commands of whoever operates a desk, one after the other in one shell, over a small desk."""
     WITHDRAWALS = 60
     SEGMENT = 20
+    PROGRAM = "crates/desk_main/out/desk_main"
 
     def stream(self) -> list[str]:
         lines = []
@@ -301,47 +306,36 @@ class Operating(Pages):
         return [line + "\n" for line in lines]
 
     def keep(self, lines: list[str]) -> None:
-        """Sends lines to a keeper, and ends it when the images of the full segments are there."""
-        command = [sys.executable, "examples/live/keeper.py", PROGRAM, "examples/live/withdrawals.drl", "desk",
-                   "--lines", str(self.SEGMENT)]
-        keeper = subprocess.Popen(command, cwd=self.tree.path, stdin=subprocess.PIPE, stdout=subprocess.DEVNULL,
-                                  text=True)
-        assert keeper.stdin is not None
-        keeper.stdin.writelines(lines)
-        keeper.stdin.flush()
-        end = time.monotonic() + 60
-        while self.images() < len(lines) // self.SEGMENT and time.monotonic() < end:
-            time.sleep(0.1)
-        keeper.stdin.close()
-        self.assertEqual(keeper.wait(), 1)
-
-    def images(self) -> int:
-        return len([path for path in (self.tree.path / "desk" / "image").glob("*") if path.name.isdigit()])
+        command = shlex.join([sys.executable, "examples/live/keeper.py", self.PROGRAM, "examples/live/withdrawals.drl",
+                              "desk", "--lines", str(self.SEGMENT)])
+        self.assertEqual(self.tree.run(command, "".join(lines)).stdout, "taken 0\n")
 
     def test_commands(self) -> None:
         lines = self.stream()
-        self.keep(lines)
+        self.keep(lines + ["x\n"])
         rules = (TOP / "examples" / "live" / "withdrawals.drl").read_text(encoding="utf-8")
         for name, text in (("new.drl", rules.replace("100000", "120000")), ("lookback.jsonl", "".join(lines[:120])),
                            ("rest.jsonl", "".join(lines[120:]))):
             (self.tree.path / name).write_text(text, encoding="utf-8")
         commands = [block.text for block in BLOCKS["OPERATING"] if not block.language and not block.begins(*NOT_RUN)]
-        pruning = next(k for k, text in enumerate(commands) if "rm " in text)
+        pruning = next(k for k, text in enumerate(commands) if 'rm "$file"' in text)
+        fired = self.tree.run(self.block_of_follower() + " --once").stdout
         done = self.tree.run("".join(commands[:pruning] + commands[pruning + 1:] + [commands[pruning]]))
         self.assertEqual(done.stderr, "")
         self.assertEqual(done.stdout.splitlines().count("same"), 2)
-        self.assertRegex(done.stdout, r"^0\n +\d+ BadJson\n")
+        self.assertRegex(done.stdout, r'^{"clock":.*,"pending":0}\n{"done":192}\n +1 BadJson\n')
         self.assertIn('{"id": 5, "type": "Withdrawal"', done.stdout)
         self.assertIn("sozhipen_kept_facts", (self.tree.path / "desk.prom").read_text(encoding="utf-8"))
         answers = "".join(path.read_text() for path in sorted((self.tree.path / "desk2" / "answers").glob("[0-9]*")))
-        self.assertIn("fire ", answers)
-        self.assertEqual(self.images(), 2)
+        self.assertIn('"fire":', answers)
+        self.assertIn('"fire":', fired)
+        self.assertEqual([path.name for path in (self.tree.path / "desk" / "answers").iterdir()], ["000000000191.part"])
 
     def test_follower(self) -> None:
         self.keep(self.stream())
         done = self.tree.run(self.block_of_follower() + " --once")
         self.assertEqual(done.returncode, 0, done.stderr)
-        self.assertIn("fire ", done.stdout)
+        self.assertIn('"fire":', done.stdout)
         self.assertEqual(self.tree.run(self.block_of_follower() + " --once").stdout, "")
 
     def block_of_follower(self) -> str:

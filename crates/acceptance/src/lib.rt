@@ -15,6 +15,8 @@ mod every_kind;
 #[cfg(test)]
 mod files;
 #[cfg(test)]
+mod inspections;
+#[cfg(test)]
 mod networks;
 #[cfg(test)]
 mod programs;

@@ -1,7 +1,7 @@
 use desk::desk;
 use fx_base::{NoMemory, Seq, Text};
 use fx_io::{MemShelf, MemSink, MemSource};
-use fx_store::MemStore;
+use fx_store::{MemStore, SinkWithFiles};
 use replay::{replay, run_rules};
 use session::{DetailedSession, Session};
 use std::alloc::Global;
@@ -112,24 +112,52 @@ fn desk_prints(
         Seq::from_vec(rules.as_bytes().to_vec(alloc)?),
     );
     let mut shelf = MemShelf::new(vec![in alloc; file]?, Vec::new(alloc));
-    let mut store = MemStore::new(alloc, Vec::new(alloc), Vec::new(alloc));
     let mut script = MemSource::new(script.to_vec(alloc)?, Vec::new(alloc));
-    let mut out = MemSink::new(alloc, 2048, Vec::new(alloc))?;
-    let status = desk::<Session, DetailedSession, MemShelf, MemStore, MemSource, MemSink>(
+    let mut out = SinkWithFiles {
+        sink: MemSink::new(alloc, 2048, Vec::new(alloc))?,
+        store: MemStore::new(alloc, Vec::new(alloc), Vec::new(alloc)),
+    };
+    let status = desk::<
+        Session,
+        DetailedSession,
+        MemShelf,
+        MemSource,
+        SinkWithFiles<MemSink, MemStore>,
+    >(
         alloc,
         &texts_of(alloc, words)?,
         &mut shelf,
-        &mut store,
         &mut script,
         &mut out,
     );
-    Ok(status == 0 && out.written() == printed)
+    Ok(status == 0 && out.sink.written() == printed)
 }
 
 #[test]
 fn a_desk_goes_on_at_the_limit_of_a_line(rt: HostRuntime) -> Result<(), Fail> {
     let words = ["--text", "--limit", "3", "--image", "I", "RULES"];
     assert!(rt; desk_prints(rt.alloc(), &words, GROW, SCRIPT, LIVE_PRINTED)?);
+    Ok(())
+}
+
+const QUESTIONS: &[u8] = b"{\"do\":\"insert\",\"type\":\"N\",\"fields\":{\"v\":0}}\n\
+    {\"do\":\"save\"}\n\
+    {\"do\":\"facts\",\"type\":\"N\"}\n\
+    {\"do\":\"counts\"}\n";
+
+const QUESTIONS_PRINTED: &[u8] = b"{\"fields\":{\"v\":0},\"line\":1,\"new\":1,\"type\":\"N\"}\n\
+    {\"done\":1}\n\
+    {\"line\":2,\"saved\":true}\n\
+    {\"done\":2}\n\
+    {\"fact\":1,\"fields\":{\"v\":0},\"line\":3,\"type\":\"N\"}\n\
+    {\"done\":3}\n\
+    {\"clock\":0,\"counts\":{\"N\":1},\"firings\":0,\"floors\":{\"DEFAULT\":0},\"line\":4,\"pending\":1}\n\
+    {\"done\":4}\n";
+
+#[test]
+fn a_desk_saves_and_says_what_it_keeps(rt: HostRuntime) -> Result<(), Fail> {
+    let words = ["--image", "I", "RULES"];
+    assert!(rt; desk_prints(rt.alloc(), &words, GROW, QUESTIONS, QUESTIONS_PRINTED)?);
     Ok(())
 }
 

@@ -23,7 +23,8 @@ fn opened(alloc: Global, rules: &str) -> Result<Session, NoMemory>
     }
 }
 
-fn item(alloc: Global, price: i64) -> Result<Change, NoMemory> {
+/// A new item with this price.
+pub(crate) fn item(alloc: Global, price: i64) -> Result<Change, NoMemory> {
     let given = (Text::new(alloc, "price")?, Given::Int(price));
     Ok(Change::Insert {
         ty: Text::new(alloc, "Item")?,

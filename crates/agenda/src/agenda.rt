@@ -66,6 +66,14 @@ impl Agenda {
         }
     }
 
+    /// How many matches are pending. Each stands once, in the order in which they fire. Takes no memory.
+    pub fn pending_count(&self) -> usize
+        ensures count { result ≡ length self.now.pending }
+        ensures order { IsStrictlySortedBy (fire_cmp self.now.saliences) self.now.pending }
+    {
+        self.pending.len()
+    }
+
     fn take_row(&mut self, rule: RuleId, row: Row)
         ensures saliences { self.new.saliences ≡ self.old.saliences }
         ensures pending { (m : Match) → has_match self.new.pending m ≡ (has_match self.old.pending m && not (rule.0 == m.rule.0 && eq_by_cmp row_cmp row m.row)) }

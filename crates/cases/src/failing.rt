@@ -49,6 +49,8 @@ impl<K, S: Source<K>> Source<K> for Failing<S> {
 impl<K: Sink> Sink for Failing<K> {
     ghost written = { λ s. K.written s.inside };
 
+    ghost files = { λ s. K.files s.inside };
+
     ghost faults = { λ s. s.faults };
 
     fn write(&mut self, bytes: &[u8]) -> Result<usize, Failed> {

@@ -1,117 +1,274 @@
 -- What a live run does, from what its parts do.
-use Rattle.std.proofs.Common.{◌≡◌, ◌≢◌, ◌⊎◌, inl, inr, ◌≤◌, ℕ, List, [], Option, Some, None, refl, ap, ◌∙◌, arith}
+use Rattle.std.proofs.Common.{◌≡◌, ◌≢◌, ◌⊎◌, inl, inr, ◌≤◌, ◌++◌, ℕ, List, [], ◌∷◌, Option, Some, None, refl, sym, ap, subst, ◌∙◌, arith}
 use Rattle.std.specs.Prelude.{IfSome}
+use Rattle.std.proofs.lemmas.List.{append-nil}
 use Rattle.fx_io.specs.Outside.{append, AppendsFront}
 use Rattle.fx_io.specs.Lines.{lines_of}
 use Rattle.fx_io.proofs.Told.{append-append}
 use Rattle.checkpoint.specs.declared.image.RunPart.{RunPart}
 use Rattle.rule_model.specs.declared.life.LifeTable.{LifeTable}
+use Rattle.rule_model.specs.declared.program.Program.{Program}
 use Rattle.rule_world.specs.Worlds.{World}
-use Rattle.line_run.specs.declared.fault.RunFault.{RunFault}
-use Rattle.line_run.specs.declared.fault.RunFault.TheVariants.{ReadFault, WriteFault, NoMemory, ScriptLong}
+use Rattle.line_run.specs.declared.fault.ImageFault.{ImageFault}
+use Rattle.line_run.specs.declared.turn.Ended.{Ended}
+use Rattle.line_run.specs.declared.turn.Ended.TheVariants.{Script, Limit}
 use Rattle.line_run.specs.declared.turn.Progress.{Progress}
 use Rattle.line_run.specs.Parts.{run_part_at}
-use Rattle.line_run.specs.Run.{RunState}
-use Rattle.line_run.specs.Turns.{ReachesWorld, ended_as}
-use Rattle.script_run.specs.Firings.{Gives, Fires, Counts}
-use Rattle.script_run.specs.Live.{most_firings}
+use Rattle.line_run.specs.Run.{Outcome, RunState, Steps}
+use Rattle.line_run.specs.Saves.{ArePut, Puts}
+use Rattle.line_run.specs.Turns.{ReachesWorld}
+use Rattle.line_run.specs.Unfinished.{KeptFront, RefusedAt, StoppedKept}
+use Rattle.line_run.proofs.Ahead.{append_nothing, run_ended, none_saved}
+use Rattle.script_run.specs.Live.{live_step, most_firings}
 use Rattle.replay.specs.declared.refused_checkpoint.CheckpointCode.{CheckpointCode}
 use Rattle.replay.specs.declared.refused_checkpoint.CheckpointCode.TheVariants.{Unfit}
 use Rattle.replay.specs.Beginnings.{BeginsIn, CanBegin, part_of}
 use Rattle.replay.specs.Checkpoints.{checkpoint_text}
-use Rattle.replay.specs.Report.{fault_status, run_status}
+use Rattle.replay.specs.Report.{run_status}
 use Rattle.replay.specs.Wanted.{Files}
-use Rattle.desk.specs.Keeping.{IsPutFor, IsRefusedFor, status_of_part}
-use Rattle.desk.specs.Report.{IsKept, IsUnkept, LivesBy, live_run}
+use Rattle.desk.specs.Keeping.{IsPutFor, IsPutBehind, IsRefusedBehind, IsRefusedFor, refusal_code, status_of_part}
+use Rattle.desk.specs.Meanings.{Meanings}
+use Rattle.desk.specs.Report.{AreKept, IsCutShort, IsKept, IsRefusedIn, IsUnkept, LivesBy, first_of, lines_of_run, live_run, live_saves}
 use Rattle.desk.specs.Wanted.{Live}
-use Rattle.desk.proofs.Fronts.{front_before, front_behind}
+use Rattle.desk.proofs.Fronts.{front_before, front_behind, no_front}
 
-module _ (gives : Gives) (fires : Fires) (counts : Counts) (it : Live) (table : LifeTable) (before after : Option (List ℕ)) (files : Option Files) where
+abbrev no_lines : List (List ℕ)
+no_lines = []
+
+-- what holds in each world in which a run begins
+abbrev Each : Live → LifeTable → (World → Type 0) → Type 0
+Each it table P = (w : World) → BeginsIn it.program table it.beginning w → P w
+
+module _ (m : Meanings) (it : Live) (table : LifeTable) (before : Option (List ℕ)) (files : Option Files) where
+  -- nothing was written or put
+  nothing_done : (w : World) (bytes : List ℕ) → IsCutShort it table (live_run m it table w) (live_saves m it table w) bytes before before files files
+  nothing_done w bytes = record {
+    lines = [];
+    rest = lines_of bytes;
+    parts = refl;
+    code = Unfit;
+    front = no_front before _ (sym (append_nothing before));
+    put = inl (rw (none_saved (live_step (lines_of_run m it table)) (first_of it w)) refl);
+  }
+
+  -- the run did not begin: memory was refused
+  pub unstarted : (told : Option (List ℕ)) → IfSome told (λ bytes. LivesBy m it table bytes before before files files 7)
+  unstarted None = tt
+  unstarted (Some bytes) = record {
+    done = λ low. absurd (omega (arith, low));
+    cut_short = λ low high can w b. nothing_done w bytes;
+    refused = λ nine. absurd (omega (arith, nine));
+    used_up = λ e. absurd (omega (arith, e));
+  }
+
+module _ (m : Meanings) (it : Live) (table : LifeTable) (before after : Option (List ℕ)) (files files' : Option Files) where
   -- the image does not fit
-  pub unfit : (told : Option (List ℕ)) (status : ℕ) → (CanBegin it.program table it.beginning → ⊥) → (status ≡ 9 → after ≡ append before (checkpoint_text Unfit))
-      → (status ≡ 9) ⊎ ((6 ≤ status) × (status ≤ 7)) → IfSome told (λ bytes. LivesBy gives fires counts it table bytes before after files files status)
-  unfit None status none said answers = tt
-  unfit (Some bytes) status none said answers = record {
+  pub unfit : (told : Option (List ℕ)) (status : ℕ) → (CanBegin it.program table it.beginning → ⊥) → (status ≡ 9 → after ≡ append before (checkpoint_text Unfit)) → files' ≡ files
+      → (status ≡ 9) ⊎ ((6 ≤ status) × (status ≤ 7)) → IfSome told (λ bytes. LivesBy m it table bytes before after files files' status)
+  unfit None status none said same answers = tt
+  unfit (Some bytes) status none said same answers = record {
     done = λ low. absurd (grind (arith, low, answers));
-    front = λ low high. (Unfit, λ can. absurd (none can));
-    refused = λ nine. (Unfit, [], said nine, inl (refl, none));
+    cut_short = λ low high can. absurd (none can);
+    refused = λ nine. (Unfit, inl (none, said nine, same));
     used_up = λ e. absurd (grind (arith, e, answers));
-    stays = λ high. refl;
+  }
+
+  -- of each world
+  abbrev CutShort : List ℕ → World → Type 0
+  CutShort bytes w = IsCutShort it table (live_run m it table w) (live_saves m it table w) bytes before after files files'
+
+  -- some first lines are done, and a front of what they print is written
+  pub cut : (w : World) (bytes : List ℕ) → KeptFront (IsKept it table) (live_run m it table w) (live_saves m it table w) bytes before after files files' → CutShort bytes w
+  cut w bytes h = record {
+    lines = h.lines;
+    rest = h.rest;
+    parts = h.parts;
+    code = Unfit;
+    front = front_before before after _ (checkpoint_text Unfit) h.is_front;
+    put = inl h.are_put;
   }
 
   -- the run stopped
-  pub stopped : (first : World → Type 0) (told : Option (List ℕ)) (status : ℕ) → (5 ≤ status) × (status ≤ 8)
-      → ((w : World) → BeginsIn it.program table it.beginning w → first w)
-      → ((w : World) → first w → IfSome told (λ bytes. AppendsFront before after (live_run gives fires counts it table w (lines_of bytes)).bytes))
-      → IfSome told (λ bytes. LivesBy gives fires counts it table bytes before after files files status)
-  stopped first None status answers begins front = tt
-  stopped first (Some bytes) status answers begins front = record {
-    done = λ low. absurd (omega (arith, low, answers.0));
-    front = λ low high. (Unfit, λ can w b. front_before before after _ (checkpoint_text Unfit) (front w (begins w b)));
-    refused = λ nine. absurd (omega (arith, nine, answers.1));
-    used_up = λ e. absurd (omega (arith, e, answers.1));
-    stays = λ high. refl;
+  pub stopped : (told : Option (List ℕ)) (status : ℕ) → 5 ≤ status → status ≤ 8
+      → Each it table (λ w. IfSome told (λ bytes. KeptFront (IsKept it table) (live_run m it table w) (live_saves m it table w) bytes before after files files'))
+      → IfSome told (λ bytes. LivesBy m it table bytes before after files files' status)
+  stopped None status low high kept = tt
+  stopped (Some bytes) status low high kept = record {
+    done = λ le. absurd (omega (arith, le, low));
+    cut_short = λ _ _ can w b. cut w bytes (kept w b);
+    refused = λ nine. absurd (omega (arith, nine, high));
+    used_up = λ e. absurd (omega (arith, e, high));
   }
 
+  -- all firings that it may make were made
+  pub used_up : (told : Option (List ℕ)) → Each it table (λ w. IfSome told (λ bytes. (after ≡ append before (live_run m it table w (lines_of bytes)).bytes)
+      × ((live_run m it table w (lines_of bytes)).ended ≡ Limit) × ArePut (IsKept it table) (live_saves m it table w (lines_of bytes)) files files'))
+      → IfSome told (λ bytes. LivesBy m it table bytes before after files files' 11)
+  used_up None h = tt
+  used_up (Some bytes) h = record {
+    done = λ low. absurd (omega (arith, low));
+    cut_short = λ low high. absurd (omega (arith, high));
+    refused = λ nine. absurd (omega (arith, nine));
+    used_up = λ _ w b. h w b;
+  }
+
+-- ---- an image is refused behind a line that saves
+
+module _ (m : Meanings) (it : Live) (table : LifeTable) (before middle after : Option (List ℕ)) (files files' : Option Files) (why : ImageFault) where
+  abbrev RefusedBehind : List ℕ → World → Type 0
+  RefusedBehind bytes w = RefusedAt (IsKept it table) (λ s code. IsUnkept it table s (refusal_code code)) why (live_step (lines_of_run m it table))
+      (live_run m it table w) (live_saves m it table w) bytes before middle files files'
+
+  pub refused : (told : Option (List ℕ)) (status : ℕ) → Each it table (λ w. IfSome told (λ bytes. RefusedBehind bytes w))
+      → (status ≡ 9 → after ≡ append middle (checkpoint_text (refusal_code why))) → (5 ≤ status → AppendsFront middle after (checkpoint_text (refusal_code why)))
+      → (status ≡ 9) ⊎ ((6 ≤ status) × (status ≤ 7)) → IfSome told (λ bytes. LivesBy m it table bytes before after files files' status)
+  refused None status h said front answers = tt
+  refused (Some bytes) status h said front answers = record {
+    done = λ low. absurd (grind (arith, low, answers));
+    cut_short = λ low high can w b. let r = h w b in record {
+      lines = r.lines;
+      rest = r.line ∷ r.rest;
+      parts = r.parts;
+      code = refusal_code why;
+      front = front_behind before middle after _ (checkpoint_text (refusal_code why)) r.is_written (front low);
+      put = inl r.are_put;
+    };
+    refused = λ nine. (
+      refusal_code why,
+      inr (λ w b. let r = h w b in record {
+        lines = r.lines;
+        rest = r.line ∷ r.rest;
+        parts = r.parts;
+        state = r.state;
+        comes = r.comes;
+        is_written = said nine ∙ ap (λ (z : Option (List ℕ)). append z (checkpoint_text (refusal_code why))) r.is_written ∙ append-append before _ (checkpoint_text (refusal_code why));
+        are_put = r.are_put;
+        is_refused = (r.done, r.saves_there, r.is_refused);
+      }),
+    );
+    used_up = λ e. absurd (grind (arith, e, answers));
+  }
+
+-- ---- what is put, and refused, by the program and the table that an engine was made with
+
+abbrev pub putting : Program → LifeTable → RunPart → Option (List ℕ) → Puts
+putting p table first image s before after = IsPutBehind p table first s before after image
+
+abbrev pub refusing : Program → LifeTable → RunPart → RunState → ImageFault → Type 0
+refusing p table first s why = IsRefusedBehind p table first s (refusal_code why)
+
+module _ (p q : Program) (t u : LifeTable) (programs : p ≡ q) (tables : t ≡ u) where
+  by_both : (P : Program → LifeTable → Type 0) → P p t → P q u
+  by_both P h = subst (P q) tables (subst (λ (z : Program). P z t) programs h)
+
+  pub alike_put : (first : RunPart) (image : Option (List ℕ)) (states : List RunState) (files files' : Option Files) → ArePut (putting p t first image) states files files' → ArePut (putting q u first image) states files files'
+  alike_put first image states files files' = by_both (λ z v. ArePut (putting z v first image) states files files')
+
+  pub alike_front : (first : RunPart) (image : Option (List ℕ)) (outcome : List (List ℕ) → Outcome) (saved : List (List ℕ) → List RunState) (script : List ℕ) (before after : Option (List ℕ)) (files files' : Option Files)
+      → KeptFront (putting p t first image) outcome saved script before after files files' → KeptFront (putting q u first image) outcome saved script before after files files'
+  alike_front first image outcome saved script before after files files' = by_both (λ z v. KeptFront (putting z v first image) outcome saved script before after files files')
+
+  pub alike_stopped : (first : RunPart) (image : Option (List ℕ)) (outcome : List (List ℕ) → Outcome) (saved : List (List ℕ) → List RunState) (script : List ℕ) (left before after : Option (List ℕ)) (files files' : Option Files)
+      → StoppedKept (putting p t first image) outcome saved script left before after files files' → StoppedKept (putting q u first image) outcome saved script left before after files files'
+  alike_stopped first image outcome saved script left before after files files' = by_both (λ z v. StoppedKept (putting z v first image) outcome saved script left before after files files')
+
+  pub alike_refused : (first : RunPart) (image : Option (List ℕ)) (why : ImageFault) (steps : Steps) (outcome : List (List ℕ) → Outcome) (saved : List (List ℕ) → List RunState) (script : List ℕ) (before after : Option (List ℕ)) (files files' : Option Files)
+      → RefusedAt (putting p t first image) (refusing p t first) why steps outcome saved script before after files files' → RefusedAt (putting q u first image) (refusing q u first) why steps outcome saved script before after files files'
+  alike_refused first image why steps outcome saved script before after files files' =
+      by_both (λ z v. RefusedAt (putting z v first image) (refusing z v first) why steps outcome saved script before after files files')
+
+-- ---- the run came to its end
+
 module _ (it : Live) (table : LifeTable) (files files' : Option Files) (last : World → Type 0) (run : RunPart) (at : Progress) (run-is : run ≡ run_part_at most_firings (part_of it.beginning) at) where
-  kept_in : (image : Option (List ℕ)) (s : RunState) → at ≡ s.progress → last s.world → IsPutFor last it.program table run files files' image → IsKept it table s files files' image
+  kept_in : (image : Option (List ℕ)) (s : RunState) → at ≡ s.progress → last s.world → IsPutFor last it.program table run files files' image
+      → IsPutBehind it.program table (part_of it.beginning) s files files' image
   kept_in None s at-is st h = h
   kept_in (Some name) s at-is st h = (h.0, h.2 s.world st, h.1 ∙ run-is ∙ ap (run_part_at most_firings (part_of it.beginning)) at-is, h.3)
 
+-- the state to which a run came, and the worlds for which what it left stands
+abbrev pub Reached : (World → Type 0) → Progress → Option RunState → Type 0
+Reached last at None = ⊥
+Reached last at (Some s) = (at ≡ s.progress) × last s.world
+
+pub reached : {T : Type 0} (stands : T → World → Type 0) (left : T) (at : Progress) (to : Option RunState) → ReachesWorld stands to (Some (left, at)) → Reached (stands left) at to
+reached stands left at None h = h
+reached stands left at (Some s) h = h
+
 -- what was put for the engine that a run left is kept of the state to which it came
-kept_of : {T : Type 0} (stands : T → World → Type 0) (it : Live) (table : LifeTable) (files files' : Option Files) (engine : T) (run : RunPart) (at : Progress)
-    → run ≡ run_part_at most_firings (part_of it.beginning) at → (to : Option RunState) → ReachesWorld stands to (Some (engine, at))
-    → IsPutFor (stands engine) it.program table run files files' it.image → IfSome to (λ s. IsKept it table s files files' it.image)
-kept_of stands it table files files' engine run at is None reaches h = tt
-kept_of stands it table files files' engine run at is (Some s) reaches h = kept_in it table files files' (stands engine) run at is it.image s reaches.0 reaches.1 h
+kept_of : (last : World → Type 0) (it : Live) (table : LifeTable) (files files' : Option Files) (run : RunPart) (at : Progress)
+    → run ≡ run_part_at most_firings (part_of it.beginning) at → (to : Option RunState) → Reached last at to
+    → IsPutFor last it.program table run files files' it.image → IfSome to (λ s. IsKept it table s files files')
+kept_of last it table files files' run at is None reaches h = tt
+kept_of last it table files files' run at is (Some s) reaches h = kept_in it table files files' last run at is it.image s reaches.0 reaches.1 h
 
--- what was refused of the engine that a run left is not kept of the state to which it came
-unkept_of : {T : Type 0} (stands : T → World → Type 0) (it : Live) (table : LifeTable) (engine : T) (run : RunPart) (at : Progress) → run ≡ run_part_at most_firings (part_of it.beginning) at
-    → (to : Option RunState) → ReachesWorld stands to (Some (engine, at)) → (code : CheckpointCode) → IsRefusedFor (stands engine) it.program table run code → it.image ≢ None → IsUnkept it table to code
-unkept_of stands it table engine run at is None reaches code h named = absurd reaches
-unkept_of stands it table engine run at is (Some s) reaches code h named =
-    (h.0, h.2 s.world reaches.1, h.1 ∙ is ∙ ap (run_part_at most_firings (part_of it.beginning)) reaches.0, h.3, named)
+-- the state to which it came, whose image is refused
+unkept_of : (last : World → Type 0) (it : Live) (table : LifeTable) (run : RunPart) (at : Progress) → run ≡ run_part_at most_firings (part_of it.beginning) at
+    → (to : Option RunState) → Reached last at to → (code : CheckpointCode) → IsRefusedFor last it.program table run code
+    → (s : RunState) × (to ≡ Some s) × IsUnkept it table s code
+unkept_of last it table run at is None reaches code h = absurd reaches
+unkept_of last it table run at is (Some s) reaches code h =
+    (s, refl, (h.0, h.2 s.world reaches.1, h.1 ∙ is ∙ ap (run_part_at most_firings (part_of it.beginning)) reaches.0, h.3))
 
--- the run came to its end, and its image was put, where one is named, or refused
-pub ended : {T : Type 0} (stands : T → World → Type 0) (gives : Gives) (fires : Fires) (counts : Counts) (it : Live) (table : LifeTable) (before middle after : Option (List ℕ)) (files files' : Option Files)
-    (first : World → Type 0) (engine : T) (at : Progress) (run : RunPart) (told : Option (List ℕ)) (text : List ℕ) (status : ℕ) → middle ≡ append before text
-    → ((w : World) → BeginsIn it.program table it.beginning w → first w) → CanBegin it.program table it.beginning
-    → ((w : World) → first w → IfSome told (λ bytes. let o = live_run gives fires counts it table w (lines_of bytes) in
-    (text ≡ o.bytes) × (ended_as (Some (engine, at)) ≡ o.ended) × ReachesWorld stands o.comes_to (Some (engine, at))))
-    → run ≡ run_part_at most_firings (part_of it.beginning) at
-    → (status ≤ 1 → (status ≡ status_of_part run.faulty) × (after ≡ middle) × IsPutFor (stands engine) it.program table run files files' it.image)
-    → (status ≡ 9 → (code : CheckpointCode) × (after ≡ append middle (checkpoint_text code)) × IsRefusedFor (stands engine) it.program table run code × (it.image ≢ None))
-    → (8 ≤ status → files' ≡ files)
-    → (5 ≤ status → status ≤ 8 → (code : CheckpointCode) × AppendsFront middle after (checkpoint_text code))
-    → (status ≤ 1) ⊎ ((6 ≤ status) × (status ≤ 7)) ⊎ (status ≡ 9)
-    → IfSome told (λ bytes. LivesBy gives fires counts it table bytes before after files files' status)
-ended stands gives fires counts it table before middle after files files' first engine at run None text status is begins can ran run-is put refused stays front answers = tt
-ended stands gives fires counts it table before middle after files files' first engine at run (Some bytes) text status is begins can ran run-is put refused stays front answers = record {
-  done = λ low. (
-    can,
-    λ w b.
-        let o = ran w (begins w b) in
-        let p = put low in
-        let fault : run.faulty ≡ at.faulted = ap (λ (r : RunPart). r.faulty) run-is in (
-          p.1 ∙ is ∙ ap (append before) o.0,
-          p.0 ∙ ap status_of_part fault ∙ ap run_status o.1,
-          kept_of stands it table files files' engine run at run-is _ o.2 p.2,
-        ),
-  );
-  front = λ low high. let f = front low high in (
-    f.0,
-    λ can w b.
-        front_behind before middle after _ (checkpoint_text f.0) (is ∙ ap (append before) (ran w (begins w b)).0) f.1,
-  );
-  refused = λ nine. let r = refused nine in
-      (r.0, text, r.1 ∙ ap (λ (z : Option (List ℕ)). append z (checkpoint_text r.0)) is ∙ append-append before text (checkpoint_text r.0), inr (λ w b. let o = ran w (begins w b) in (o.0, unkept_of stands it table engine run at run-is _ o.2 r.0 r.2 r.3)));
-  used_up = λ e. absurd (grind (arith, e, answers));
-  stays = stays;
-}
+-- its image was put, where one is named, or refused
+module _ (last : World → Type 0) (m : Meanings) (it : Live) (table : LifeTable) (before middle after : Option (List ℕ)) (files put files' : Option Files)
+    (at : Progress) (run : RunPart) (run-is : run ≡ run_part_at most_firings (part_of it.beginning) at) (text : List ℕ) (middle-is : middle ≡ append before text) where
+  abbrev pub Ran : List ℕ → World → Type 0
+  Ran bytes w = let o = live_run m it table w (lines_of bytes) in
+      ((text ≡ o.bytes) × (Script at.faulted ≡ o.ended) × Reached last at o.comes_to)
+      × ArePut (IsKept it table) (live_saves m it table w (lines_of bytes)) files put
 
--- the status of a run that stopped
-pub fault_within : (fault : RunFault) → (5 ≤ fault_status fault) × (fault_status fault ≤ 8)
-fault_within ReadFault = (omega arith, omega arith)
-fault_within WriteFault = (omega arith, omega arith)
-fault_within NoMemory = (omega arith, omega arith)
-fault_within ScriptLong = (omega arith, omega arith)
+  all_lines : (bytes : List ℕ) → lines_of bytes ≡ lines_of bytes ++ []
+  all_lines bytes = sym (append-nil (lines_of bytes))
+
+  pub ended : (told : Option (List ℕ)) (status : ℕ) → CanBegin it.program table it.beginning → Each it table (λ w. IfSome told (λ bytes. Ran bytes w))
+      → (status ≤ 1 → (status ≡ status_of_part run.faulty) × (after ≡ middle) × IsPutFor last it.program table run put files' it.image)
+      → (status ≡ 9 → (code : CheckpointCode) × (after ≡ append middle (checkpoint_text code)) × IsRefusedFor last it.program table run code × (it.image ≢ None))
+      → (status ≡ 9 → files' ≡ put)
+      → (5 ≤ status → status ≤ 8 → (code : CheckpointCode) × AppendsFront middle after (checkpoint_text code))
+      → (5 ≤ status → status ≤ 8 → (files' ≡ put) ⊎ IsPutFor last it.program table run put files' it.image)
+      → (status ≤ 1) ⊎ ((6 ≤ status) × (status ≤ 7)) ⊎ (status ≡ 9)
+      → IfSome told (λ bytes. LivesBy m it table bytes before after files files' status)
+  ended None status can ran is_put refused stays front kept answers = tt
+  ended (Some bytes) status can ran is_put refused stays front kept answers = record {
+    done = λ low. (
+      can,
+      λ w b.
+          let o = ran w b in
+          let p = is_put low in
+          let fault : run.faulty ≡ at.faulted = ap (λ (r : RunPart). r.faulty) run-is in (
+            p.1 ∙ middle-is ∙ ap (append before) o.0.0,
+            p.0 ∙ ap status_of_part fault ∙ ap run_status o.0.1,
+            (put, o.1, kept_of last it table put files' run at run-is _ o.0.2 p.2),
+          ),
+    );
+    cut_short = λ low high can w b. let o = ran w b in let f = front low high in record {
+      lines = lines_of bytes;
+      rest = [];
+      parts = all_lines bytes;
+      code = f.0;
+      front = front_behind before middle after _ (checkpoint_text f.0) (middle-is ∙ ap (append before) o.0.0) f.1;
+      put = put_or_not bytes w o (kept low high);
+    };
+    refused = λ nine. let r = refused nine in (
+      r.0,
+      inr (λ w b.
+          let o = ran w b in
+          let there = unkept_of last it table run at run-is _ o.0.2 r.0 r.2 in
+          record {
+            lines = lines_of bytes;
+            rest = [];
+            parts = all_lines bytes;
+            state = there.0;
+            comes = there.1;
+            is_written = r.1 ∙ ap (λ (z : Option (List ℕ)). append z (checkpoint_text r.0)) (middle-is ∙ ap (append before) o.0.0) ∙ append-append before _ (checkpoint_text r.0);
+            are_put = rw (stays nine) o.1;
+            is_refused = (there.2, r.3);
+          }),
+    );
+    used_up = λ e. absurd (grind (arith, e, answers));
+  }
+    where
+      put_or_not : (bytes : List ℕ) (w : World) → Ran bytes w → (files' ≡ put) ⊎ IsPutFor last it.program table run put files' it.image
+          → ArePut (IsKept it table) (live_saves m it table w (lines_of bytes)) files files' ⊎ ((no_lines ≡ []) × AreKept it table (live_saves m it table w (lines_of bytes)) (live_run m it table w (lines_of bytes)).comes_to files files')
+      put_or_not bytes w o (inl same) = inl (rw same o.1)
+      put_or_not bytes w o (inr h) = inr (refl, (put, o.1, kept_of last it table put files' run at run-is _ o.0.2 h))

@@ -7,7 +7,3 @@ use Rattle.command_words.specs.declared.desk.DeskAsked.{DeskAsked}
 abbrev pub ReadFails : (List ℕ → ℕ) → (List ℕ → ℕ) → ℕ → ℕ → DeskAsked → Type 0
 ReadFails before after script script' asked =
     Rose (before asked.rules) (after asked.rules) ⊎ ((it : List ℕ) × (asked.image ≡ Some it) × Rose (before it) (after it)) ⊎ Rose script script'
-
--- a write failed, of the output, or of the image into its file
-abbrev pub WriteFails : ℕ → ℕ → ℕ → ℕ → Type 0
-WriteFails out out' store store' = Rose out out' ⊎ Rose store store'

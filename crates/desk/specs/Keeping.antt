@@ -8,7 +8,12 @@ use Rattle.image_laws.specs.Images.{IsImageOf}
 use Rattle.rule_model.specs.declared.life.LifeTable.{LifeTable}
 use Rattle.rule_model.specs.declared.program.Program.{Program}
 use Rattle.rule_world.specs.Worlds.{World}
+use Rattle.line_run.specs.declared.fault.ImageFault.{ImageFault}
+use Rattle.line_run.specs.declared.fault.ImageFault.TheVariants as fault
 use Rattle.line_run.specs.declared.turn.Ended.TheVariants.{Script}
+use Rattle.line_run.specs.Parts.{run_part_at}
+use Rattle.line_run.specs.Run.{RunState}
+use Rattle.script_run.specs.Live.{most_firings}
 use Rattle.replay.specs.declared.refused_checkpoint.CheckpointCode.{CheckpointCode}
 use Rattle.replay.specs.declared.refused_checkpoint.CheckpointCode.TheVariants.{Missing, TooLong, BadImage, OtherRules, Unfit}
 use Rattle.replay.specs.Report.{run_status}
@@ -32,13 +37,33 @@ MayRefuse image OtherRules = ⊥
 abbrev pub status_of_part : Bool → ℕ
 status_of_part faulty = run_status (Script faulty)
 
--- what is put where the name of an image is given, of an engine that stands for worlds
+-- the code with which an image is refused that was to be put
+abbrev pub refusal_code : ImageFault → CheckpointCode
+refusal_code fault.TooLong = TooLong
+refusal_code fault.Unfit = Unfit
+
+-- ---- of an engine that stands for worlds
+
+-- what is put where the name of an image is given
 abbrev pub IsPutFor : (World → Type 0) → Program → LifeTable → RunPart → Option Files → Option Files → Option (List ℕ) → Type 0
 IsPutFor stands p table run before after None = after ≡ before
 IsPutFor stands p table run before after (Some name) =
     (image : Image) × (image.run ≡ run) × ((w : World) → stands w → IsImageOf p table w image) × Keeps image before after name
 
--- the image of an engine that stands for worlds is refused with a code
+-- its image is refused with a code
 abbrev pub IsRefusedFor : (World → Type 0) → Program → LifeTable → RunPart → CheckpointCode → Type 0
 IsRefusedFor stands p table run code =
     (image : Image) × (image.run ≡ run) × ((w : World) → stands w → IsImageOf p table w image) × MayRefuse image code
+
+-- ---- of a state to which a run came that began behind a part
+
+-- its image is put, where a file is named for it
+abbrev pub IsPutBehind : Program → LifeTable → RunPart → RunState → Option Files → Option Files → Option (List ℕ) → Type 0
+IsPutBehind p table first s before after None = after ≡ before
+IsPutBehind p table first s before after (Some name) =
+    (image : Image) × IsImageOf p table s.world image × (image.run ≡ run_part_at most_firings first s.progress) × Keeps image before after name
+
+-- its image is refused with a code
+abbrev pub IsRefusedBehind : Program → LifeTable → RunPart → RunState → CheckpointCode → Type 0
+IsRefusedBehind p table first s code =
+    (image : Image) × IsImageOf p table s.world image × (image.run ≡ run_part_at most_firings first s.progress) × MayRefuse image code

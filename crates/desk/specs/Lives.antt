@@ -1,7 +1,6 @@
--- A live run as the code keeps it, with the name of its image.
-use Rattle.std.specs.Prelude.{ℕ, List, Option}
+-- A live run as the code keeps it.
 use Rattle.desk.specs.declared.live.Live.{Live as LiveData}
 use Rattle.desk.specs.Wanted.{Live}
 
-abbrev pub live_of : LiveData → Option (List ℕ) → Live
-live_of it image = record { form = it.form; each = it.each; image = image; beginning = it.beginning; program = it.program }
+abbrev pub live_of : LiveData → Live
+live_of it = record { form = it.form; each = it.each; image = it.image; beginning = it.beginning; program = it.program }

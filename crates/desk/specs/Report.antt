@@ -1,27 +1,24 @@
 -- What a desk writes, its status, and the image that it puts, with an engine of these meanings.
-use Rattle.std.specs.Prelude.{◌≡◌, ◌≢◌, ◌⊎◌, ◌≤◌, ◌++◌, [], ◌∷◌, ℕ, List, Option, Some, None, IfSome, codes}
+use Rattle.std.specs.Prelude.{◌≡◌, ◌≢◌, ◌⊎◌, ◌≤◌, ◌++◌, [], ◌∷◌, ℕ, List, Option, Some, None, IfSome, codes, is_some}
 use Rattle.fx_io.specs.Outside.{append, AppendsFront}
 use Rattle.fx_io.specs.Lines.{lines_of}
-use Rattle.checkpoint.specs.declared.image.Image.{Image}
-use Rattle.image_laws.specs.Images.{IsImageOf}
 use Rattle.rule_model.specs.declared.life.LifeTable.{LifeTable}
 use Rattle.rule_lives.specs.Keeping.{AreLives}
 use Rattle.rule_world.specs.Worlds.{World}
 use Rattle.line_run.specs.declared.turn.Ended.TheVariants.{Limit}
-use Rattle.line_run.specs.Parts.{run_part_at}
+use Rattle.line_run.specs.Parts.{progress_behind}
 use Rattle.line_run.specs.Prompt.{whole_lines}
-use Rattle.line_run.specs.Run.{Outcome, RunState}
-use Rattle.line_run.specs.Unfinished.{StoppedAtRead}
-use Rattle.script_run.specs.Firings.{Gives, Fires, Counts}
-use Rattle.script_run.specs.Live.{live_setting, most_firings}
-use Rattle.script_run.specs.Parts.{run_on}
+use Rattle.line_run.specs.Run.{Done, Outcome, RunState, saves, state_after, state_in}
+use Rattle.line_run.specs.Saves.{ArePut}
+use Rattle.line_run.specs.Unfinished.{StoppedKept}
+use Rattle.script_run.specs.Live.{LiveSetting, live_by, live_step, most_firings, run_live, saved_live}
 use Rattle.replay.specs.declared.refused_checkpoint.CheckpointCode.{CheckpointCode}
 use Rattle.replay.specs.Beginnings.{BeginsIn, CanBegin, part_of}
 use Rattle.replay.specs.Checkpoints.{checkpoint_text}
 use Rattle.replay.specs.Refusals.{refusal_text}
 use Rattle.replay.specs.Report.{run_status}
 use Rattle.replay.specs.Wanted.{Files}
-use Rattle.desk.specs.Keeping.{Keeps, MayRefuse}
+use Rattle.desk.specs.Keeping.{IsPutBehind, IsRefusedBehind}
 use Rattle.desk.specs.Meanings.{Engines, Meanings, meanings}
 use Rattle.desk.specs.Wanted.{Live, Wanted, usage_line, says, refuses, refuses_image, runs}
 
@@ -34,51 +31,87 @@ abbrev pub IsSaid : List ℕ → ℕ → Option (List ℕ) → Option (List ℕ)
 IsSaid line wanted before after files files' status =
     (((status ≡ wanted) × (after ≡ append before line)) ⊎ ((5 ≤ status) × (status ≤ 7) × AppendsFront before after line)) × (files' ≡ files)
 
--- what the lines of the script print, from a world in which the run begins
-abbrev pub live_run : Gives → Fires → Counts → Live → LifeTable → World → List (List ℕ) → Outcome
-live_run gives fires counts it table w = run_on (live_setting it.form gives fires counts it.each it.program table) w (part_of it.beginning)
+-- what does not change in a live run, by a table of lives of its program
+abbrev pub lines_of_run : Meanings → Live → LifeTable → LiveSetting
+lines_of_run m it table = live_by (Some it.each) it.form m.gives m.fires m.counts most_firings it.program table (is_some it.image)
+
+-- where the run begins, in a world
+abbrev pub first_of : Live → World → RunState
+first_of it w = state_in w (progress_behind most_firings (part_of it.beginning))
+
+-- what lines print, from a world in which the run begins
+abbrev pub live_run : Meanings → Live → LifeTable → World → List (List ℕ) → Outcome
+live_run m it table w = run_live (lines_of_run m it table) (first_of it w)
+
+-- the states whose images they put
+abbrev pub live_saves : Meanings → Live → LifeTable → World → List (List ℕ) → List RunState
+live_saves m it table w = saved_live (lines_of_run m it table) (first_of it w)
 
 -- the file of the image, where one is named, is that of this state, and all others stay
-abbrev pub IsKept : Live → LifeTable → RunState → Option Files → Option Files → Option (List ℕ) → Type 0
-IsKept it table s before after None = after ≡ before
-IsKept it table s before after (Some name) = (image : Image) × IsImageOf it.program table s.world image
-    × (image.run ≡ run_part_at most_firings (part_of it.beginning) s.progress) × Keeps image before after name
+abbrev pub IsKept : Live → LifeTable → RunState → Option Files → Option Files → Type 0
+IsKept it table s before after = IsPutBehind it.program table (part_of it.beginning) s before after it.image
 
--- The run of the whole script: all that its lines print is written, the image of the state to which it comes is put, and the status says whether a
--- line was a fault.
-abbrev pub IsDone : Live → LifeTable → Outcome → Option (List ℕ) → Option (List ℕ) → Option Files → Option Files → ℕ → Type 0
-IsDone it table outcome before after files files' status =
-    (after ≡ append before outcome.bytes) × (status ≡ run_status outcome.ended)
-    × IfSome outcome.comes_to (λ s. IsKept it table s files files' it.image)
+-- the image of a state is refused with a code
+abbrev pub IsUnkept : Live → LifeTable → RunState → CheckpointCode → Type 0
+IsUnkept it table s code = IsRefusedBehind it.program table (part_of it.beginning) s code
 
--- the image of the state to which a run came, where one is named and it came to the end of its script, is refused with a code
-abbrev pub IsUnkept : Live → LifeTable → Option RunState → CheckpointCode → Type 0
-IsUnkept it table None code = ⊥
-IsUnkept it table (Some s) code = (image : Image) × IsImageOf it.program table s.world image
-    × (image.run ≡ run_part_at most_firings (part_of it.beginning) s.progress) × MayRefuse image code × (it.image ≢ None)
+-- the images of these states are put one after the other, and then that of the state to which the run came, where it came to the end of its script
+abbrev pub AreKept : Live → LifeTable → List RunState → Option RunState → Option Files → Option Files → Type 0
+AreKept it table saved to before after = (middle : Option Files) × ArePut (IsKept it table) saved before middle × IfSome to (λ s. IsKept it table s middle after)
 
--- an image is refused: the one from which the run was to begin, before any line, or the one to which it came, behind what all its lines print
-abbrev pub IsRefused : Live → LifeTable → (World → Outcome) → Option (List ℕ) → Option (List ℕ) → Type 0
-IsRefused it table outcome before after = (code : CheckpointCode) × (text : List ℕ) × (after ≡ append before (text ++ checkpoint_text code))
-    × (((text ≡ []) × (CanBegin it.program table it.beginning → ⊥))
-    ⊎ ((w : World) → BeginsIn it.program table it.beginning w → (text ≡ (outcome w).bytes) × IsUnkept it table (outcome w).comes_to code))
+-- The run of the whole script: all that its lines print is written, the images are put, and the status says whether a line was a fault.
+abbrev pub IsDone : Live → LifeTable → Outcome → List RunState → Option (List ℕ) → Option (List ℕ) → Option Files → Option Files → ℕ → Type 0
+IsDone it table outcome saved before after files files' status =
+    (after ≡ append before outcome.bytes) × (status ≡ run_status outcome.ended) × AreKept it table saved outcome.comes_to files files'
+
+-- A run that ends with a fault: of some first lines of the script, whose images are put, a front is written of what they print and of the line by which
+-- an image is refused. So what is told as saved was put. The image at the end is put only behind all lines.
+pub record IsCutShort (it : Live) (table : LifeTable) (outcome : List (List ℕ) → Outcome) (saved : List (List ℕ) → List RunState) (script : List ℕ) (before after : Option (List ℕ)) (files files' : Option Files) : Type 0 where
+  pub lines : List (List ℕ)
+  pub rest : List (List ℕ)
+  pub parts : lines_of script ≡ lines ++ rest
+  pub code : CheckpointCode
+  pub front : AppendsFront before after ((outcome lines).bytes ++ checkpoint_text code)
+  pub put : ArePut (IsKept it table) (saved lines) files files' ⊎ ((rest ≡ []) × AreKept it table (saved lines) (outcome lines).comes_to files files')
+
+-- an image is refused with a code: behind all lines that of the state to which they came, or that of the state behind the next line, which saves
+abbrev pub IsRefusedThere : LiveSetting → Live → LifeTable → RunState → List (List ℕ) → CheckpointCode → Type 0
+IsRefusedThere live it table s [] code = IsUnkept it table s code × (it.image ≢ None)
+IsRefusedThere live it table s (line ∷ more) code = (done : Done) × (live_step live s line ≡ saves done) × IsUnkept it table (state_after s done) code
+
+-- An image is refused to which the run came: behind some first lines, all of which is written, and whose images are put.
+pub record IsRefusedIn (live : LiveSetting) (it : Live) (table : LifeTable) (first : RunState) (code : CheckpointCode) (script : List ℕ) (before after : Option (List ℕ)) (files files' : Option Files) : Type 0 where
+  pub lines : List (List ℕ)
+  pub rest : List (List ℕ)
+  pub parts : lines_of script ≡ lines ++ rest
+  pub state : RunState
+  pub comes : (run_live live first lines).comes_to ≡ Some state
+  pub is_written : after ≡ append before ((run_live live first lines).bytes ++ checkpoint_text code)
+  pub are_put : ArePut (IsKept it table) (saved_live live first lines) files files'
+  pub is_refused : IsRefusedThere live it table state rest code
+
+-- an image is refused: the one from which the run was to begin, before any line, or one to which it came
+abbrev pub IsRefused : Meanings → Live → LifeTable → List ℕ → Option (List ℕ) → Option (List ℕ) → Option Files → Option Files → Type 0
+IsRefused m it table script before after files files' = (code : CheckpointCode)
+    × (((CanBegin it.program table it.beginning → ⊥) × (after ≡ append before (checkpoint_text code)) × (files' ≡ files))
+    ⊎ ((w : World) → BeginsIn it.program table it.beginning w → IsRefusedIn (lines_of_run m it table) it table (first_of it w) code script before after files files'))
 
 -- what a desk does where a live run is wanted, by a table of lives of its program and by its status
-pub record LivesBy (gives : Gives) (fires : Fires) (counts : Counts) (it : Live) (table : LifeTable) (script : List ℕ) (before after : Option (List ℕ)) (files files' : Option Files) (status : ℕ) : Type 0 where
+pub record LivesBy (m : Meanings) (it : Live) (table : LifeTable) (script : List ℕ) (before after : Option (List ℕ)) (files files' : Option Files) (status : ℕ) : Type 0 where
   pub done : status ≤ 1 → CanBegin it.program table it.beginning
-      × ((w : World) → BeginsIn it.program table it.beginning w → IsDone it table (live_run gives fires counts it table w (lines_of script)) before after files files' status)
-  -- a front of what the lines print, and of the line by which the image is refused to which the run came
-  pub front : 5 ≤ status → status ≤ 8 → (code : CheckpointCode) × (CanBegin it.program table it.beginning → (w : World) → BeginsIn it.program table it.beginning w
-      → AppendsFront before after ((live_run gives fires counts it table w (lines_of script)).bytes ++ checkpoint_text code))
-  pub refused : status ≡ 9 → IsRefused it table (λ w. live_run gives fires counts it table w (lines_of script)) before after
+      × ((w : World) → BeginsIn it.program table it.beginning w
+      → IsDone it table (live_run m it table w (lines_of script)) (live_saves m it table w (lines_of script)) before after files files' status)
+  pub cut_short : 5 ≤ status → status ≤ 8 → CanBegin it.program table it.beginning → (w : World) → BeginsIn it.program table it.beginning w
+      → IsCutShort it table (live_run m it table w) (live_saves m it table w) script before after files files'
+  pub refused : status ≡ 9 → IsRefused m it table script before after files files'
   -- all firings that a live run may make were made
   pub used_up : status ≡ 11 → (w : World) → BeginsIn it.program table it.beginning w
-      → (after ≡ append before (live_run gives fires counts it table w (lines_of script)).bytes) × ((live_run gives fires counts it table w (lines_of script)).ended ≡ Limit)
-  pub stays : 8 ≤ status → files' ≡ files
+      → (after ≡ append before (live_run m it table w (lines_of script)).bytes) × ((live_run m it table w (lines_of script)).ended ≡ Limit)
+      × ArePut (IsKept it table) (live_saves m it table w (lines_of script)) files files'
 
-abbrev pub IsLive : Gives → Fires → Counts → Live → List ℕ → Option (List ℕ) → Option (List ℕ) → Option Files → Option Files → ℕ → Type 0
-IsLive gives fires counts it script before after files files' status =
-    (table : LifeTable) × AreLives it.program table × LivesBy gives fires counts it table script before after files files' status
+abbrev pub IsLive : Meanings → Live → List ℕ → Option (List ℕ) → Option (List ℕ) → Option Files → Option Files → ℕ → Type 0
+IsLive m it script before after files files' status =
+    (table : LifeTable) × AreLives it.program table × LivesBy m it table script before after files files' status
 
 -- the run did not begin: a read failed, or memory was refused
 abbrev pub IsUnbegun : Option (List ℕ) → Option (List ℕ) → Option Files → Option Files → ℕ → Type 0
@@ -87,7 +120,7 @@ IsUnbegun before after files files' status = (5 ≤ status) × (status ≤ 7) ×
 -- what a desk does where a live run is wanted, with what the engine for the form of its answers means
 abbrev pub IsRun : Meanings → Live → List ℕ → Option (List ℕ) → Option (List ℕ) → Option Files → Option Files → ℕ → Type 0
 IsRun m it script before after files files' status =
-    IsLive m.gives m.fires m.counts it script before after files files' status ⊎ IsUnbegun before after files files' status
+    IsLive m it script before after files files' status ⊎ IsUnbegun before after files files' status
 
 -- what a desk does where this is wanted
 abbrev pub IsServed : Engines → Wanted → List ℕ → Option (List ℕ) → Option (List ℕ) → Option Files → Option Files → ℕ → Type 0
@@ -99,23 +132,25 @@ IsServed engines (runs it) script before after files files' status = IsRun (mean
 
 -- ---- when the script may be asked for more
 
--- Whenever it is asked, of which these bytes were taken: what was written is what the lines print that end in them, and nothing else, from each world in
--- which the run begins; where no run is wanted, nothing was.
-abbrev pub IsPromptRun : Meanings → Live → List ℕ → Option (List ℕ) → Option (List ℕ) → Type 0
-IsPromptRun m it bytes before now = (table : LifeTable) × AreLives it.program table
-    × ((w : World) → BeginsIn it.program table it.beginning w → now ≡ append before (live_run m.gives m.fires m.counts it table w (whole_lines bytes)).bytes)
+-- Whenever it is asked, of which these bytes were taken: what was written is what the lines print that end in them, and nothing else, and the images
+-- are put of those of them that save, from each world in which the run begins. Where no run is wanted, nothing was written or put.
+abbrev pub IsPromptRun : Meanings → Live → List ℕ → Option (List ℕ) → Option (List ℕ) → Option Files → Option Files → Type 0
+IsPromptRun m it bytes before now files files' = (table : LifeTable) × AreLives it.program table
+    × ((w : World) → BeginsIn it.program table it.beginning w → (now ≡ append before (live_run m it table w (whole_lines bytes)).bytes)
+    × ArePut (IsKept it table) (live_saves m it table w (whole_lines bytes)) files files')
 
-abbrev pub IsPrompt : Engines → Wanted → List ℕ → Option (List ℕ) → Option (List ℕ) → Type 0
-IsPrompt engines (runs it) bytes before now = IsPromptRun (meanings engines it.form) it bytes before now
-IsPrompt engines _ bytes before now = now ≡ before
+abbrev pub IsPrompt : Engines → Wanted → List ℕ → Option (List ℕ) → Option (List ℕ) → Option Files → Option Files → Type 0
+IsPrompt engines (runs it) bytes before now files files' = IsPromptRun (meanings engines it.form) it bytes before now files files'
+IsPrompt engines _ bytes before now files files' = (now ≡ before) × (files' ≡ files)
 
 -- ---- where a read fails
 
--- of a run of which the rest of the script is left: what was written is what the lines print that were taken with their ends, or the run had not begun
-abbrev pub IsStoppedRun : Meanings → Live → List ℕ → Option (List ℕ) → Option (List ℕ) → Option (List ℕ) → Type 0
-IsStoppedRun m it script left before after = (after ≡ before) ⊎ ((table : LifeTable) × AreLives it.program table
-    × ((w : World) → BeginsIn it.program table it.beginning w → StoppedAtRead (live_run m.gives m.fires m.counts it table w) script left before after))
+-- of a run of which the rest of the script is left: what was written is what the lines print that were taken with their ends, and exactly their images
+-- are put
+abbrev pub IsStoppedRun : Meanings → Live → List ℕ → Option (List ℕ) → Option (List ℕ) → Option (List ℕ) → Option Files → Option Files → Type 0
+IsStoppedRun m it script left before after files files' = (table : LifeTable) → AreLives it.program table → (w : World) → BeginsIn it.program table it.beginning w
+    → StoppedKept (IsKept it table) (live_run m it table w) (live_saves m it table w) script left before after files files'
 
-abbrev pub IsStopped : Engines → Wanted → List ℕ → Option (List ℕ) → Option (List ℕ) → Option (List ℕ) → Type 0
-IsStopped engines (runs it) script left before after = IsStoppedRun (meanings engines it.form) it script left before after
-IsStopped engines _ script left before after = after ≡ before
+abbrev pub IsStopped : Engines → Wanted → List ℕ → Option (List ℕ) → Option (List ℕ) → Option (List ℕ) → Option Files → Option Files → Type 0
+IsStopped engines (runs it) script left before after files files' = IsStoppedRun (meanings engines it.form) it script left before after files files'
+IsStopped engines _ script left before after files files' = (after ≡ before) × (files' ≡ files)

@@ -8,5 +8,6 @@ mod ending;
 mod live;
 mod serving;
 mod start;
+mod taking;
 
 pub use serving::desk;

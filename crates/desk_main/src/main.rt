@@ -1,9 +1,9 @@
-//! The program `desk`: it makes the real shelf, store, script and output, and hands them to the top call.
+//! The program `desk`: it makes the real shelf, script and output with its files, and hands them to the top call.
 //! What it is given by the machine is trusted; all that it answers is the top call's.
 #![tactic(auto)]
 
 use fx_io::{FileShelf, StdSink, StdSource};
-use fx_store::FileStore;
+use fx_store::{FileStore, SinkWithFiles};
 use std::env;
 use std::io::{self, ErrorKind};
 use std::process::ExitCode;
@@ -31,15 +31,10 @@ fn main(rt: HostRuntime) -> ExitCode {
     };
     let mut shelf = FileShelf::new(&rt);
     let mut script = StdSource::new(&rt);
-    let mut out = StdSink::new(&rt);
-    let mut store = FileStore::new(&rt, rt.alloc());
-    let status = sozhipen::desk(
-        rt.alloc(),
-        &words,
-        &mut shelf,
-        &mut store,
-        &mut script,
-        &mut out,
-    );
+    let mut out = SinkWithFiles {
+        sink: StdSink::new(&rt),
+        store: FileStore::new(&rt, rt.alloc()),
+    };
+    let status = sozhipen::desk(rt.alloc(), &words, &mut shelf, &mut script, &mut out);
     ExitCode::from(status)
 }

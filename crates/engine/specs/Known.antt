@@ -1,4 +1,4 @@
--- Lines that name types and rules of the program alone.
+-- Lines of which the new facts are of types of the program, and the firings of its rules.
 use Rattle.std.specs.Prelude.{Bool, true, List, length, nat_lt}
 use Rattle.std.specs.List.{list_all}
 use Rattle.rule_model.specs.declared.program.Program.{Program}
@@ -7,7 +7,7 @@ use Rattle.answer_lines.specs.declared.lines.Fired.TheVariants.{No, Yes}
 use Rattle.answer_lines.specs.declared.lines.OutLine.{OutLine}
 use Rattle.answer_lines.specs.declared.lines.OutLine.TheVariants.{New, Fire, Fault, Inserted, Modified, Retracted, FiredFor}
 
--- the type or the rule that a line names is one of the program
+-- the type of a new fact, or the rule that fires, is one of the program; of a fact that was there before, nothing is said
 abbrev pub is_known : Program → OutLine → Bool
 is_known p (New id ty) = nat_lt ty.0 (length p.types)
 is_known p (Fire rule cells) = nat_lt rule.0 (length p.rules)

@@ -1,3 +1,5 @@
 pub mod Answers
 pub mod Counts
 pub mod Known
+pub mod KeptFacts
+pub mod WorldCounts

@@ -55,7 +55,10 @@ pub trait Sink {
     /// The bytes written, where it tells them.
     ghost written: { Self → Option (List ℕ) };
 
-    /// How often it has failed; stands still at 2^64 - 1.
+    /// The file of each name that lies beside it, where it tells them.
+    ghost files: { Self → Option (List ℕ → Option (List ℕ)) };
+
+    /// How often a call has failed, of writing or of putting a file; may stand still from 2^64 - 1 on.
     ghost faults: { Self → ℕ };
 
     /// Appends a front of the bytes, and says how many; of a piece that is not empty at least one. A call that fails
@@ -66,6 +69,8 @@ pub trait Sink {
         ensures appended { IfOk result (λ n. written self.new ≡ append (written self.old) (take n bytes.now)) }
 
         ensures err { OnErr result (written self.new ≡ written self.old) }
+
+        ensures files { files self.new ≡ files self.old }
 
         ensures counts { faults self.old ≤ faults self.new }
         ensures cause { OnErr result (Rose (faults self.old) (faults self.new)) };

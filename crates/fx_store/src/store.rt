@@ -19,8 +19,9 @@ pub trait Store {
     /// How often it has failed; stands still at 2^64 - 1.
     ghost faults: { Self → ℕ };
 
-    /// Puts these bytes in the place of the file of this name, or makes it. With `Ok` they are safe: they outlast a loss of power. With a fault the
-    /// file is the old one or the new one, and never a part of it.
+    /// Puts these bytes in the place of the file of this name, or makes it. With `Ok` they are on the disk; after a loss of power the name may still
+    /// stand for the old file, whole, where the folder was not on the disk yet. With a fault the file is the old one or the new one, and never a part
+    /// of it.
     fn put_file(&mut self, name: &str, bytes: &[u8]) -> Result<(), StoreFault>
         ensures put { OnOk result (IsPut (files self.old) (files self.new) name.now bytes.now) }
         ensures kept { OnErr result (IsOldOrNew (files self.old) (files self.new) name.now bytes.now) }

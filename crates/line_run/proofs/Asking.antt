@@ -2,8 +2,7 @@
 use Rattle.line_run.proofs.Common.{◌≡◌, inl, inr, ◌++◌, ◌==◌, ℕ, Bool, true, false, List, [], ◌∷◌, take, drop, Option, Some, Ok, refl, sym, ap, subst, ◌∙◌}
 use Rattle.line_run.proofs.Common.{if◌then◌else◌, append_assoc, take-append-drop, list_any-append, append, HasNoEnd, has_end, AppendsFront, with_line}
 use Rattle.line_run.proofs.Common.{Line, Whole, Long, End, World}
-use Rattle.line_run.proofs.Common.{Goes, Progress, Steps, RunState, Outcome, Answers, run, state_in, progress_after, Done, goes_on, Does}
-use Rattle.line_run.proofs.Common.{Flushes}
+use Rattle.line_run.proofs.Common.{Progress, Steps, RunState, Outcome, Answers, run, state_in, saved_states, Flushes, ArePut, Files, Puts}
 use Rattle.std.proofs.lemmas.Bool.{or_parts}
 use Rattle.std.proofs.Math.Seq.{take-nil, drop-nil}
 use Rattle.fx_io.specs.Asking.{Follows, MayAskMidLine, EndsOrMay}
@@ -11,7 +10,7 @@ use Rattle.fx_io.proofs.Told.{append-append}
 use Rattle.fx_io.specs.Lines.{lines_of, onto_first}
 use Rattle.line_run.specs.Parts.{EndsLine}
 use Rattle.line_run.specs.Prompt.{onto_whole, said, whole_lines, IsPromptRun}
-use Rattle.line_run.proofs.Ahead.{append_nothing, first_is, goes_of, run_ended, run_goes}
+use Rattle.line_run.proofs.Ahead.{TurnsOn, append_nothing, first_is, run_ended, none_saved, put_both}
 
 -- ---- the lines that end in bytes
 
@@ -79,6 +78,10 @@ pub said_flushed : (silent : Bool) (now now' : Option (List ℕ)) (gathered gath
 said_flushed true now now' gathered gathered' none f = f.3 ∙ ap (drop f.0) none ∙ drop-nil f.0
 said_flushed false now now' gathered gathered' none f = refl
 
+pub said_front : (silent : Bool) (count : ℕ) (gathered : List ℕ) → gathered ≡ said silent gathered → take count gathered ≡ said silent (take count gathered)
+said_front true count gathered none = ap (take count) none ∙ take-nil count
+said_front false count gathered none = refl
+
 pub said_hushed : (silent : Bool) (text gathered : List ℕ) → gathered ≡ said silent text → gathered ≡ said silent gathered
 said_hushed true text gathered e = e
 said_hushed false text gathered e = refl
@@ -90,30 +93,39 @@ said_stays false gathered text gathered' none same e = e ∙ same
 
 -- ---- when the source may be asked
 
--- The source may be asked, once these bytes more were taken, where the output is that now, and behind it what was gathered and what the lines
--- print that end in the bytes kept and those: from each world that the first engine stands for, in the world that the engine stands for then.
--- Where the run is silent, it may be asked where nothing was written.
-abbrev pub Asks : {K : Type 0} → Bool → Steps → (World → Type 0) → (World → Type 0) → Progress → (K → Option (List ℕ)) → Option (List ℕ) → Option (List ℕ) → List ℕ → List ℕ
-    → (List ℕ → K → Type 0) → Type 0
-Asks {K} true steps first stands at written begun now gathered kept may_ask = (more : List ℕ) (out : K) → written out ≡ begun → may_ask more out
-Asks {K} false steps first stands at written begun now gathered kept may_ask =
-    (there : (w : World) → first w → (v : World) × stands v)
-    × ((more : List ℕ) (out : K) → ((w : World) (st : first w) → written out ≡ append now (gathered ++ (run steps (state_in (there w st).0 at) (whole_lines (kept ++ more))).bytes)) → may_ask more out)
+-- What was written at a moment of which this is known: in the beginning these bytes were written; now those, behind them comes what was gathered,
+-- and then this text, from each world that the first engine stands for. Where the run is silent nothing is written.
+abbrev pub IsWritten : Bool → (first : World → Type 0) → ((w : World) → first w → List ℕ) → Option (List ℕ) → Option (List ℕ) → List ℕ → Option (List ℕ) → Type 0
+IsWritten true first text begun now gathered written = written ≡ begun
+IsWritten false first text begun now gathered written = (w : World) (st : first w) → written ≡ append now (gathered ++ text w st)
 
-module _ {K : Type 0} (steps : Steps) (first : World → Type 0) (written : K → Option (List ℕ)) (begun : Option (List ℕ)) where
+-- The source may be asked, once these bytes more were taken, where the output is that now, and behind it what was gathered and what the lines
+-- print that end in the bytes kept and those, and where their images were put: from each world that the first engine stands for, in the world
+-- that the engine stands for then.
+abbrev pub Asks : {K : Type 0} → Bool → Steps → Puts → (World → Type 0) → (World → Type 0) → Progress → (K → Option (List ℕ)) → (K → Files) → Option (List ℕ) → Option (List ℕ) → Files → List ℕ → List ℕ
+    → (List ℕ → K → Type 0) → Type 0
+Asks {K} silent steps puts first stands at written files begun now files_now gathered kept may_ask =
+    (there : (w : World) → first w → (v : World) × stands v)
+    × ((more : List ℕ) (out : K)
+    → IsWritten silent first (λ (w : World) (st : first w). (run steps (state_in (there w st).0 at) (whole_lines (kept ++ more))).bytes) begun now gathered (written out)
+    → ((w : World) (st : first w) → ArePut puts (saved_states steps (state_in (there w st).0 at) (whole_lines (kept ++ more))) files_now (files out))
+    → may_ask more out)
+
+module _ {K : Type 0} (steps : Steps) (puts : Puts) (first : World → Type 0) (written : K → Option (List ℕ)) (files : K → Files) (begun : Option (List ℕ)) where
   -- at the beginning
-  pub asks_first : (silent : Bool) (at : Progress) (may_ask : List ℕ → K → Type 0) (kept gathered : List ℕ) → kept ≡ [] → gathered ≡ []
-      → ((bytes : List ℕ) (out : K) → IsPromptRun silent first (λ w. run steps (state_in w at)) bytes begun (written out) → may_ask bytes out)
-      → Asks silent steps first first at written begun begun gathered kept may_ask
-  asks_first true at may_ask kept gathered none nothing h = h
-  asks_first false at may_ask kept gathered none nothing h = rw (none, nothing) ((λ w st. (w, st)), h)
+  pub asks_first : (silent : Bool) (at : Progress) (files_now : Files) (may_ask : List ℕ → K → Type 0) (kept gathered : List ℕ) → kept ≡ [] → gathered ≡ []
+      → ((bytes : List ℕ) (out : K) → IsPromptRun silent first (λ w. run steps (state_in w at)) bytes begun (written out)
+      → ((w : World) → first w → ArePut puts (saved_states steps (state_in w at) (whole_lines bytes)) files_now (files out)) → may_ask bytes out)
+      → Asks silent steps puts first first at written files begun begun files_now gathered kept may_ask
+  asks_first true at files_now may_ask kept gathered none nothing h = rw none ((λ w st. (w, st)), h)
+  asks_first false at files_now may_ask kept gathered none nothing h = rw (none, nothing) ((λ w st. (w, st)), h)
 
   -- what was gathered is written, or a front of it
-  pub asks_flushed : (silent : Bool) (stands : World → Type 0) (at : Progress) (now now' : Option (List ℕ)) (gathered gathered' kept : List ℕ) (may_ask : List ℕ → K → Type 0) → Flushes now gathered now' gathered'
-      → Asks silent steps first stands at written begun now gathered kept may_ask → Asks silent steps first stands at written begun now' gathered' kept may_ask
-  asks_flushed true stands at now now' gathered gathered' kept may_ask f h = h
-  asks_flushed false stands at now now' gathered gathered' kept may_ask f h =
-      (h.0, λ more out e. h.1 more out (λ w st. e w st ∙ same (run steps (state_in (h.0 w st).0 at) (whole_lines (kept ++ more))).bytes))
+  pub asks_flushed : (silent : Bool) (stands : World → Type 0) (at : Progress) (now now' : Option (List ℕ)) (files_now files_next : Files) (gathered gathered' kept : List ℕ) (may_ask : List ℕ → K → Type 0)
+      → Flushes now gathered now' gathered' → files_next ≡ files_now
+      → Asks silent steps puts first stands at written files begun now files_now gathered kept may_ask → Asks silent steps puts first stands at written files begun now' files_next gathered' kept may_ask
+  asks_flushed silent stands at now now' files_now files_next gathered gathered' kept may_ask f kept_files h =
+      (h.0, λ more out e put. h.1 more out (before silent more out e) (λ w st. subst (λ (z : Files). ArePut puts (saved_states steps (state_in (h.0 w st).0 at) (whole_lines (kept ++ more))) z (files out)) kept_files (put w st)))
     where
       pieces : (rest : List ℕ) → take f.0 gathered ++ (drop f.0 gathered ++ rest) ≡ gathered ++ rest
       pieces rest = sym (append_assoc (take f.0 gathered) (drop f.0 gathered) rest) ∙ ap (λ (z : List ℕ). z ++ rest) (take-append-drop f.0 gathered)
@@ -122,11 +134,17 @@ module _ {K : Type 0} (steps : Steps) (first : World → Type 0) (written : K �
       same rest = ap (λ (z : List ℕ). append now' (z ++ rest)) f.3 ∙ ap (λ (z : Option (List ℕ)). append z (drop f.0 gathered ++ rest)) f.2
           ∙ append-append now (take f.0 gathered) (drop f.0 gathered ++ rest) ∙ ap (append now) (pieces rest)
 
+      text : (more : List ℕ) (w : World) → first w → List ℕ
+      text more w st = (run steps (state_in (h.0 w st).0 at) (whole_lines (kept ++ more))).bytes
+
+      before : (quiet : Bool) (more : List ℕ) (out : K) → IsWritten quiet first (text more) begun now' gathered' (written out) → IsWritten quiet first (text more) begun now gathered (written out)
+      before true more out e = e
+      before false more out e = λ w st. e w st ∙ same (text more w st)
+
   -- where nothing is gathered it may be asked in the middle of a line
   pub asks_mid_line : (silent : Bool) (stands : World → Type 0) (at : Progress) (out : K) (gathered kept : List ℕ) (may_ask : List ℕ → K → Type 0) → (has_end kept ≡ false → gathered ≡ []) → IsQuiet silent begun (written out)
-      → Asks silent steps first stands at written begun (written out) gathered kept may_ask → MayAskMidLine may_ask kept out
-  asks_mid_line true stands at out gathered kept may_ask nothing quiet h more no_end = h more out quiet
-  asks_mid_line false stands at out gathered kept may_ask nothing quiet h more no_end = h.1 more out (λ w st. sym (same (state_in (h.0 w st).0 at)))
+      → Asks silent steps puts first stands at written files begun (written out) (files out) gathered kept may_ask → MayAskMidLine may_ask kept out
+  asks_mid_line silent stands at out gathered kept may_ask nothing quiet h more no_end = h.1 more out (is_written silent quiet) (λ w st. none_put (state_in (h.0 w st).0 at))
     where
       none : gathered ≡ []
       none = nothing (or_parts (has_end kept) (has_end more) (sym (list_any-append (λ (b : ℕ). b == 10) kept more) ∙ no_end)).0
@@ -137,72 +155,86 @@ module _ {K : Type 0} (steps : Steps) (first : World → Type 0) (written : K �
       same : (s : RunState) → append (written out) (gathered ++ (run steps s (whole_lines (kept ++ more))).bytes) ≡ written out
       same s = rw (none, printed s) (append_nothing (written out))
 
+      is_written : (it : Bool) → IsQuiet it begun (written out)
+          → IsWritten it first (λ (w : World) (st : first w). (run steps (state_in (h.0 w st).0 at) (whole_lines (kept ++ more))).bytes) begun (written out) gathered (written out)
+      is_written true so = so
+      is_written false so = λ w st. sym (same (state_in (h.0 w st).0 at))
+
+      none_put : (s : RunState) → ArePut puts (saved_states steps s (whole_lines (kept ++ more))) (files out) (files out)
+      none_put s =
+          let is : saved_states steps s (whole_lines (kept ++ more)) ≡ [] = ap (saved_states steps s) (none_whole (kept ++ more) no_end) ∙ none_saved steps s in
+          subst (λ (z : List RunState). ArePut puts z (files out) (files out)) (sym is) refl
+
 -- what a turn says of each world, where this is the next line
-abbrev pub TurnsThere : Steps → (World → Type 0) → (World → Type 0) → Progress → Line → List ℕ → List ℕ → Bool → ℕ → Type 0
-TurnsThere steps stands stands' at answer gathered text bad left =
-    (v : World) (ahead behind : Option (List (List ℕ))) → stands v → Answers 65536 answer ahead behind
-    → (line : List ℕ) × (ahead ≡ with_line line behind) × Does stands' (steps (state_in v at) line) gathered text (Goes bad left)
-
--- a line was taken, and what it prints was gathered
-asks_behind : {K : Type 0} (steps : Steps) (first stands stands' : World → Type 0) (at behind : Progress) (written : K → Option (List ℕ)) (now : Option (List ℕ)) (gathered gathered' line kept read kept' : List ℕ)
-    (bad : Bool) (left : ℕ) (may_ask may_ask' : List ℕ → K → Type 0) → HasNoEnd line → kept ++ read ≡ line ++ 10 ∷ kept'
-    → ((v : World) → stands v → Does stands' (steps (state_in v at) line) gathered gathered' (Goes bad left)) → behind ≡ progress_after at bad left → Follows may_ask read may_ask'
-    → (begun : Option (List ℕ)) → Asks false steps first stands at written begun now gathered kept may_ask → Asks false steps first stands' behind written begun now gathered' kept' may_ask'
-asks_behind {K} steps first stands stands' at behind written now gathered gathered' line kept read kept' bad left may_ask may_ask' no_end bytes turn is follows begun h =
-    ((λ w st. ((step w st).0.world, (step w st).3)), λ more out e. follows more out (h.1 (read ++ more) out (λ w st. e w st ∙ sym (same more w st))))
-  where
-    step : (w : World) (st : first w)
-        → (done : Done) × (steps (state_in (h.0 w st).0 at) line ≡ goes_on done) × (gathered' ≡ gathered ++ done.text) × stands' done.world × (bad ≡ done.faulty) × (left ≡ done.left)
-    step w st = goes_of stands' (steps (state_in (h.0 w st).0 at) line) gathered gathered' bad left (turn (h.0 w st).0 (h.0 w st).1)
-
-    progress_is : (done : Done) → bad ≡ done.faulty → left ≡ done.left → progress_after at done.faulty done.left ≡ behind
-    progress_is done faulty some = rw (sym faulty, sym some) (sym is)
-
-    lines_are : (more : List ℕ) → whole_lines (kept ++ (read ++ more)) ≡ line ∷ whole_lines (kept' ++ more)
-    lines_are more =
-        let ahead : kept ++ (read ++ more) ≡ line ++ 10 ∷ (kept' ++ more) = sym (append_assoc kept read more) ∙ ap (λ (z : List ℕ). z ++ more) bytes ∙ append_assoc line (10 ∷ kept') more in
-        ap whole_lines ahead ∙ first_whole line (kept' ++ more) no_end
-
-    printed : (more : List ℕ) (s : RunState) (done : Done) → steps s line ≡ goes_on done → progress_after s.progress done.faulty done.left ≡ behind
-        → (run steps s (whole_lines (kept ++ (read ++ more)))).bytes ≡ done.text ++ (run steps (state_in done.world behind) (whole_lines (kept' ++ more))).bytes
-    printed more s done e goes =
-        ap (λ (lines : List (List ℕ)). (run steps s lines).bytes) (lines_are more) ∙ ap (λ (o : Outcome). o.bytes) (run_goes steps s line done e (whole_lines (kept' ++ more)))
-        ∙ ap (λ (p : Progress). done.text ++ (run steps (state_in done.world p) (whole_lines (kept' ++ more))).bytes) goes
-
-    same : (more : List ℕ) (w : World) (st : first w) → append now (gathered ++ (run steps (state_in (h.0 w st).0 at) (whole_lines (kept ++ (read ++ more)))).bytes)
-        ≡ append now (gathered' ++ (run steps (state_in (step w st).0.world behind) (whole_lines (kept' ++ more))).bytes)
-    same more w st =
-        let it = step w st in
-        let text : List ℕ = (run steps (state_in it.0.world behind) (whole_lines (kept' ++ more))).bytes in
-        ap (λ (z : List ℕ). append now (gathered ++ z)) (printed more (state_in (h.0 w st).0 at) it.0 it.1 (progress_is it.0 it.4 it.5))
-        ∙ ap (append now) (sym (append_assoc gathered it.0.text text) ∙ ap (λ (z : List ℕ). z ++ text) (sym it.2))
-
--- the turn is that of this line
-turn_of : (steps : Steps) (stands stands' : World → Type 0) (at : Progress) (answer : Line) (gathered text : List ℕ) (bad : Bool) (left : ℕ) → TurnsThere steps stands stands' at answer gathered text bad left
-    → (line : List ℕ) → Answers 65536 answer (Some (line ∷ [])) (Some []) → (v : World) → stands v → Does stands' (steps (state_in v at) line) gathered text (Goes bad left)
-turn_of steps stands stands' at answer gathered text bad left turn line is v st =
-    let it = turn v (Some (line ∷ [])) (Some []) st is in
-    subst (λ (z : List ℕ). Does stands' (steps (state_in v at) z) gathered text (Goes bad left)) (sym (first_is line it.0 [] it.1)) it.2
+abbrev pub TurnsThere : Steps → Puts → (World → Type 0) → (World → Type 0) → Progress → Progress → Line → List ℕ → List ℕ → Files → Files → Type 0
+TurnsThere steps puts stands stands' at behind answer gathered text files files' =
+    (v : World) (ahead after : Option (List (List ℕ))) → stands v → Answers 65536 answer ahead after
+    → (line : List ℕ) × (ahead ≡ with_line line after) × TurnsOn puts steps (state_in v at) line gathered text stands' behind files files'
 
 -- a turn was done, and the run goes on
-module _ {K : Type 0} (steps : Steps) (first stands stands' : World → Type 0) (at behind : Progress) (written : K → Option (List ℕ)) (begun now : Option (List ℕ)) (gathered text gathered' kept read kept' : List ℕ)
-    (bad : Bool) (left : ℕ) (may_ask may_ask' : List ℕ → K → Type 0) where
-  pub asks_turned : (silent : Bool) (most : ℕ) (answer : Line) (before after : Option (List (List ℕ))) → most ≡ 65536 → Answers 65536 answer before after
-      → TurnsThere steps stands stands' at answer gathered text bad left → gathered' ≡ said silent text → behind ≡ progress_after at bad left
+module _ {K : Type 0} (steps : Steps) (puts : Puts) (first stands stands' : World → Type 0) (at behind : Progress) (written : K → Option (List ℕ)) (files : K → Files) (begun now : Option (List ℕ)) (files_now files_next : Files)
+    (gathered text gathered' kept read kept' : List ℕ) (may_ask may_ask' : List ℕ → K → Type 0) (silent : Bool) where
+  -- a line was taken, and what it prints was gathered
+  asks_behind : (line : List ℕ) → HasNoEnd line → kept ++ read ≡ line ++ 10 ∷ kept'
+      → ((v : World) → stands v → TurnsOn puts steps (state_in v at) line gathered text stands' behind files_now files_next) → gathered' ≡ said silent text → Follows may_ask read may_ask'
+      → Asks silent steps puts first stands at written files begun now files_now gathered kept may_ask → Asks silent steps puts first stands' behind written files begun now files_next gathered' kept' may_ask'
+  asks_behind line no_end bytes turn said_so follows h =
+      ((λ w st. ((step w st).done.world, (step w st).there)), λ more out e put. follows more out (h.1 (read ++ more) out (before silent said_so more out e) (λ w st. put_before more out w st (put w st))))
+    where
+      step : (w : World) (st : first w) → TurnsOn puts steps (state_in (h.0 w st).0 at) line gathered text stands' behind files_now files_next
+      step w st = turn (h.0 w st).0 (h.0 w st).1
+
+      lines_are : (more : List ℕ) → whole_lines (kept ++ (read ++ more)) ≡ line ∷ whole_lines (kept' ++ more)
+      lines_are more =
+          let ahead : kept ++ (read ++ more) ≡ line ++ 10 ∷ (kept' ++ more) = sym (append_assoc kept read more) ∙ ap (λ (z : List ℕ). z ++ more) bytes ∙ append_assoc line (10 ∷ kept') more in
+          ap whole_lines ahead ∙ first_whole line (kept' ++ more) no_end
+
+      -- what the lines print that end in the bytes ahead, before the line and behind it
+      text_before : (more : List ℕ) (w : World) → first w → List ℕ
+      text_before more w st = (run steps (state_in (h.0 w st).0 at) (whole_lines (kept ++ (read ++ more)))).bytes
+
+      text_behind : (more : List ℕ) (w : World) → first w → List ℕ
+      text_behind more w st = (run steps (state_in (step w st).done.world behind) (whole_lines (kept' ++ more))).bytes
+
+      printed : (more : List ℕ) (w : World) (st : first w) → text_before more w st ≡ (step w st).done.text ++ text_behind more w st
+      printed more w st =
+          ap (λ (lines : List (List ℕ)). (run steps (state_in (h.0 w st).0 at) lines).bytes) (lines_are more) ∙ ap (λ (o : Outcome). o.bytes) ((step w st).prints (whole_lines (kept' ++ more)))
+
+      same : (more : List ℕ) (w : World) (st : first w) → append now (gathered ++ text_before more w st) ≡ append now (text ++ text_behind more w st)
+      same more w st =
+          ap (λ (z : List ℕ). append now (gathered ++ z)) (printed more w st)
+          ∙ ap (append now) (sym (append_assoc gathered (step w st).done.text (text_behind more w st)) ∙ ap (λ (z : List ℕ). z ++ text_behind more w st) (sym (step w st).text-is))
+
+      before : (quiet : Bool) → gathered' ≡ said quiet text → (more : List ℕ) (out : K) → IsWritten quiet first (text_behind more) begun now gathered' (written out)
+          → IsWritten quiet first (text_before more) begun now gathered (written out)
+      before true said_so more out e = e
+      before false said_so more out e = λ w st. e w st ∙ ap (λ (z : List ℕ). append now (z ++ text_behind more w st)) said_so ∙ sym (same more w st)
+
+      put_before : (more : List ℕ) (out : K) (w : World) (st : first w) → ArePut puts (saved_states steps (state_in (step w st).done.world behind) (whole_lines (kept' ++ more))) files_next (files out)
+          → ArePut puts (saved_states steps (state_in (h.0 w st).0 at) (whole_lines (kept ++ (read ++ more)))) files_now (files out)
+      put_before more out w st put =
+          let rest = saved_states steps (state_in (step w st).done.world behind) (whole_lines (kept' ++ more)) in
+          let is : saved_states steps (state_in (h.0 w st).0 at) (whole_lines (kept ++ (read ++ more))) ≡ (step w st).new ++ rest =
+          ap (saved_states steps (state_in (h.0 w st).0 at)) (lines_are more) ∙ (step w st).saved-is (whole_lines (kept' ++ more)) in
+          subst (λ (z : List RunState). ArePut puts z files_now (files out)) (sym is) (put_both puts (step w st).new rest files_now files_next (files out) (step w st).are_put put)
+
+  -- the turn is that of this line
+  turn_of : (answer : Line) → TurnsThere steps puts stands stands' at behind answer gathered text files_now files_next
+      → (line : List ℕ) → Answers 65536 answer (Some (line ∷ [])) (Some []) → (v : World) → stands v → TurnsOn puts steps (state_in v at) line gathered text stands' behind files_now files_next
+  turn_of answer turn line is v st =
+      let it = turn v (Some (line ∷ [])) (Some []) st is in
+      subst (λ (z : List ℕ). TurnsOn puts steps (state_in v at) z gathered text stands' behind files_now files_next) (sym (first_is line it.0 [] it.1)) it.2
+
+  pub asks_turned : (most : ℕ) (answer : Line) (before after : Option (List (List ℕ))) → most ≡ 65536 → Answers 65536 answer before after
+      → TurnsThere steps puts stands stands' at behind answer gathered text files_now files_next → gathered' ≡ said silent text
       → Follows may_ask read may_ask' → EndsOrMay most (Ok answer) (kept ++ read) kept' may_ask'
-      → Asks silent steps first stands at written begun now gathered kept may_ask → Asks silent steps first stands' behind written begun now gathered' kept' may_ask'
-  asks_turned true most answer before after is answers turn same goes follows ends h = λ more out e. follows more out (h (read ++ more) out e)
-  asks_turned false most answer before after is answers turn same goes follows (inr always) h = (
-    (λ w st. let it = turn (h.0 w st).0 before after (h.0 w st).1 answers in
-        let g = goes_of stands' (steps (state_in (h.0 w st).0 at) it.0) gathered text bad left it.2 in (g.0.world, g.3)),
-    λ more out e. always more out,
+      → Asks silent steps puts first stands at written files begun now files_now gathered kept may_ask → Asks silent steps puts first stands' behind written files begun now files_next gathered' kept' may_ask'
+  asks_turned most answer before after is answers turn same follows (inr always) h = (
+    (λ w st. let it = turn (h.0 w st).0 before after (h.0 w st).1 answers in (it.2.done.world, it.2.there)),
+    λ more out e put. always more out,
   )
-  asks_turned false most (Whole line) before after is answers turn same goes follows (inl ended) h =
-      asks_behind steps first stands stands' at behind written now gathered gathered' line kept read kept' bad left may_ask may_ask' ended.1 ended.2
-      (λ v st. subst (λ (z : List ℕ). Does stands' (steps (state_in v at) line) gathered z (Goes bad left)) (sym same)
-      (turn_of steps stands stands' at (Whole line) gathered text bad left turn line (rw is at ended.0, refl) v st)) goes follows begun h
-  asks_turned false most Long before after is answers turn same goes follows (inl ended) h =
-      asks_behind steps first stands stands' at behind written now gathered gathered' ended.0 kept read kept' bad left may_ask may_ask' ended.2 ended.3
-      (λ v st. subst (λ (z : List ℕ). Does stands' (steps (state_in v at) ended.0) gathered z (Goes bad left)) (sym same)
-      (turn_of steps stands stands' at Long gathered text bad left turn ended.0 (ended.0, rw is at ended.1, refl) v st)) goes follows begun h
-  asks_turned false most End before after is answers turn same goes follows (inl ended) h = absurd ended
+  asks_turned most (Whole line) before after is answers turn same follows (inl ended) h =
+      asks_behind line ended.1 ended.2 (turn_of (Whole line) turn line (rw is at ended.0, refl)) same follows h
+  asks_turned most Long before after is answers turn same follows (inl ended) h =
+      asks_behind ended.0 ended.2 ended.3 (turn_of Long turn ended.0 (ended.0, rw is at ended.1, refl)) same follows h
+  asks_turned most End before after is answers turn same follows (inl ended) h = absurd ended

@@ -13,8 +13,9 @@ pub use Rattle.fx_io.specs.declared.line.Line.{Line}
 pub use Rattle.fx_io.specs.declared.line.Line.TheVariants.{End, Whole, Long}
 pub use Rattle.rule_world.specs.Worlds.{World}
 pub use Rattle.line_run.specs.Run.{Steps, state_in, LineEffect, Done, Outcome, RunState, at_end, at_limit, goes_on, run}
-pub use Rattle.line_run.specs.Run.{state_after, stops, then_run, progress_after}
+pub use Rattle.line_run.specs.Run.{state_after, saved_states, saves, stops, then_run, progress_after}
+pub use Rattle.line_run.specs.Saves.{ArePut, Files, Puts}
 pub use Rattle.line_run.specs.Turns.{Does, Flushes, HasAtMost, TakesUpTo}
 pub use Rattle.line_run.specs.declared.turn.Ended.{Ended}
 pub use Rattle.line_run.specs.declared.turn.Progress.{Progress}
-pub use Rattle.line_run.specs.declared.turn.Turn.TheVariants.{Goes, Stops}
+pub use Rattle.line_run.specs.declared.turn.Turn.TheVariants.{Goes, Saves, Stops}

@@ -6,16 +6,19 @@ use Rattle.std.proofs.lemmas.Bool.{or_parts}
 use Rattle.fx_io.specs.Answers.{Stops, UsesBytesUp}
 use Rattle.fx_io.specs.declared.line.LineFault.{LineFault}
 use Rattle.fx_io.specs.declared.line.LineFault.TheVariants.{ReadFault, ScriptLong, NoMemory}
-use Rattle.line_run.specs.Faults.{run_fault}
-use Rattle.line_run.specs.declared.fault.RunFault.{RunFault}
-use Rattle.line_run.specs.declared.fault.RunFault.TheVariants.{ScriptLong as TooLong, ReadFault as RunReadFault, NoMemory as RunNoMemory}
+use Rattle.line_run.specs.Faults.{run_fault, unkept_fault}
+use Rattle.line_run.specs.declared.fault.ImageFault.{ImageFault}
+use Rattle.line_run.specs.declared.fault.KeepFault.{KeepFault}
+use Rattle.line_run.specs.declared.fault.KeepFault.TheVariants as keep
+use Rattle.line_run.specs.declared.fault.StopFault.{StopFault}
+use Rattle.line_run.specs.declared.fault.StopFault.TheVariants.{ScriptLong as TooLong, ReadFault as StopReadFault, NoMemory as StopNoMemory, WriteFault, Refused}
 
 -- how a run answers a fault
-abbrev pub the_err : {T : Type 0} → RunFault → Result T RunFault
+abbrev pub the_err : {T : Type 0} → StopFault → Result T StopFault
 the_err fault = Err fault
 
 -- a fault is the same beside any answer
-pub err_as : {S T : Type 0} (fault other : RunFault) → the_err {T = S} fault ≡ the_err other → the_err {T = T} fault ≡ the_err other
+pub err_as : {S T : Type 0} (fault other : StopFault) → the_err {T = S} fault ≡ the_err other → the_err {T = T} fault ≡ the_err other
 err_as {S} fault other e = ap the_err (fault_is e)
   where
     fault_is : the_err {T = S} fault ≡ the_err other → fault ≡ other
@@ -47,22 +50,22 @@ pub exhausted : (most total : ℕ) (line : Line) (bytes kept : List ℕ) (taken 
 exhausted most total line bytes kept taken left e h = let k : GivesLine most total (Ok End) bytes kept taken left = rw e at h in k.2
 
 -- the run says that the script is too long where the reader does
-pub long_taken : {T : Type 0} (fault : LineFault) (found : RunFault) (bytes : List ℕ) (taken most : ℕ) → found ≡ run_fault fault → the_err {T = T} found ≡ the_err TooLong → Stops fault bytes taken most → most < taken
-long_taken {T} ReadFault found bytes taken most e is h = absurd (let k : the_err {T = T} RunReadFault ≡ the_err TooLong = ap the_err (sym e) ∙ is in cc)
+pub long_taken : {T : Type 0} (fault : LineFault) (found : StopFault) (bytes : List ℕ) (taken most : ℕ) → found ≡ run_fault fault → the_err {T = T} found ≡ the_err TooLong → Stops fault bytes taken most → most < taken
+long_taken {T} ReadFault found bytes taken most e is h = absurd (let k : the_err {T = T} StopReadFault ≡ the_err TooLong = ap the_err (sym e) ∙ is in cc)
 long_taken ScriptLong found bytes taken most e is h = h.1
-long_taken {T} NoMemory found bytes taken most e is h = absurd (let k : the_err {T = T} RunNoMemory ≡ the_err TooLong = ap the_err (sym e) ∙ is in cc)
+long_taken {T} NoMemory found bytes taken most e is h = absurd (let k : the_err {T = T} StopNoMemory ≡ the_err TooLong = ap the_err (sym e) ∙ is in cc)
 
-pub long_stop : {T : Type 0} (fault : LineFault) (found : RunFault) (before after : Option (List ℕ)) → found ≡ run_fault fault → the_err {T = T} found ≡ the_err TooLong → LeavesNoEnd fault before after
+pub long_stop : {T : Type 0} (fault : LineFault) (found : StopFault) (before after : Option (List ℕ)) → found ≡ run_fault fault → the_err {T = T} found ≡ the_err TooLong → LeavesNoEnd fault before after
     → (front : List ℕ) × HasNoEnd front × (before ≡ prepend front after)
 long_stop ReadFault found before after e is h = h
 long_stop ScriptLong found before after e is h = h
-long_stop {T} NoMemory found before after e is h = absurd (let k : the_err {T = T} RunNoMemory ≡ the_err TooLong = ap the_err (sym e) ∙ is in cc)
+long_stop {T} NoMemory found before after e is h = absurd (let k : the_err {T = T} StopNoMemory ≡ the_err TooLong = ap the_err (sym e) ∙ is in cc)
 
-pub read_stop : {T : Type 0} (fault : LineFault) (found : RunFault) (before after : Option (List ℕ)) → found ≡ run_fault fault → the_err {T = T} found ≡ the_err RunReadFault → LeavesNoEnd fault before after
+pub read_stop : {T : Type 0} (fault : LineFault) (found : StopFault) (before after : Option (List ℕ)) → found ≡ run_fault fault → the_err {T = T} found ≡ the_err StopReadFault → LeavesNoEnd fault before after
     → (front : List ℕ) × HasNoEnd front × (before ≡ prepend front after)
 read_stop ReadFault found before after e is h = h
-read_stop {T} ScriptLong found before after e is h = absurd (let k : the_err {T = T} TooLong ≡ the_err RunReadFault = ap the_err (sym e) ∙ is in cc)
-read_stop {T} NoMemory found before after e is h = absurd (let k : the_err {T = T} RunNoMemory ≡ the_err RunReadFault = ap the_err (sym e) ∙ is in cc)
+read_stop {T} ScriptLong found before after e is h = absurd (let k : the_err {T = T} TooLong ≡ the_err StopReadFault = ap the_err (sym e) ∙ is in cc)
+read_stop {T} NoMemory found before after e is h = absurd (let k : the_err {T = T} StopNoMemory ≡ the_err StopReadFault = ap the_err (sym e) ∙ is in cc)
 
 -- what is answered as a whole line has not too many bytes
 pub has_at_most : (most : ℕ) (line : Line) (before after : Option (List (List ℕ))) → Answers most line before after → HasAtMost most line
@@ -71,16 +74,16 @@ has_at_most most Long before after h = tt
 has_at_most most End before after h = tt
 
 -- a fault of the script comes in the middle of a line
-pub stops_mid_line : (fault : LineFault) (found : RunFault) (bytes : List ℕ) (taken most : ℕ) → found ≡ run_fault fault → found ≢ RunNoMemory → Stops fault bytes taken most → HasNoEnd bytes
+pub stops_mid_line : (fault : LineFault) (found : StopFault) (bytes : List ℕ) (taken most : ℕ) → found ≡ run_fault fault → found ≢ StopNoMemory → Stops fault bytes taken most → HasNoEnd bytes
 stops_mid_line ReadFault found bytes taken most e is h = h.0
 stops_mid_line ScriptLong found bytes taken most e is h = h.0
 stops_mid_line NoMemory found bytes taken most e is h = absurd (is e)
 
-pub no_memory_at_read : {T : Type 0} (found : RunFault) → the_err {T = T} found ≡ the_err RunReadFault → found ≢ RunNoMemory
-no_memory_at_read {T} found is e = let k : the_err {T = T} RunNoMemory ≡ the_err RunReadFault = ap the_err (sym e) ∙ is in cc
+pub no_memory_at_read : {T : Type 0} (found : StopFault) → the_err {T = T} found ≡ the_err StopReadFault → found ≢ StopNoMemory
+no_memory_at_read {T} found is e = let k : the_err {T = T} StopNoMemory ≡ the_err StopReadFault = ap the_err (sym e) ∙ is in cc
 
-pub no_memory_at_length : {T : Type 0} (found : RunFault) → the_err {T = T} found ≡ the_err TooLong → found ≢ RunNoMemory
-no_memory_at_length {T} found is e = let k : the_err {T = T} RunNoMemory ≡ the_err TooLong = ap the_err (sym e) ∙ is in cc
+pub no_memory_at_length : {T : Type 0} (found : StopFault) → the_err {T = T} found ≡ the_err TooLong → found ≢ StopNoMemory
+no_memory_at_length {T} found is e = let k : the_err {T = T} StopNoMemory ≡ the_err TooLong = ap the_err (sym e) ∙ is in cc
 
 -- no line ends in the bytes that were kept
 pub none_kept : (kept read : List ℕ) → HasNoEnd (kept ++ read) → has_end kept ≡ false
@@ -99,3 +102,18 @@ pub some_to_come : (line : Line) (before after : ℕ) → UsesBytesUp line befor
 some_to_come (Whole bytes) before after h ends = omega (arith, h)
 some_to_come Long before after h ends = omega (arith, h)
 some_to_come End before after h ends = ends refl
+
+-- an image was not put: however many bytes were taken
+pub takes_unkept : (most : ℕ) (fault : KeepFault) (taken : ℕ) → TakesUpTo most (Err (unkept_fault fault)) taken
+takes_unkept most keep.WriteFault taken = tt
+takes_unkept most keep.NoMemory taken = tt
+takes_unkept most (keep.Refused why) taken = tt
+
+-- the run says that an image is refused where that is said of the image
+pub refused_so : {T : Type 0} (fault : KeepFault) (why : ImageFault) → the_err {T = T} (unkept_fault fault) ≡ the_err (Refused why) → fault ≡ keep.Refused why
+refused_so {T} keep.WriteFault why e = absurd (let k : the_err {T = T} WriteFault ≡ the_err (Refused why) = e in cc)
+refused_so {T} keep.NoMemory why e = absurd (let k : the_err {T = T} StopNoMemory ≡ the_err (Refused why) = e in cc)
+refused_so {T} (keep.Refused reason) why e = ap keep.Refused (why_is e)
+  where
+    why_is : the_err {T = T} (Refused reason) ≡ the_err (Refused why) → reason ≡ why
+    why_is k = cc

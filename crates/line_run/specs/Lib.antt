@@ -1,4 +1,5 @@
 pub mod Run
+pub mod Saves
 pub mod Parts
 pub mod Unfinished
 pub mod Prompt

@@ -13,9 +13,11 @@ pub record Done : Type 0 where
   pub left : ℕ
   pub faulty : Bool
 
--- what a line does: the run goes on, or it ends at the limit of firings, and the line prints this
+-- what a line does: the run goes on; it goes on, and behind the line the image of its state is put, before what the line prints is written; or
+-- it ends at the limit of firings, and the line prints this
 pub data LineEffect : Type 0 where
   goes_on : Done → LineEffect
+  saves : Done → LineEffect
   stops : List ℕ → LineEffect
 
 -- where a run is between two lines: how far it has come, and its world
@@ -56,9 +58,21 @@ state_after s done = state_in done.world (progress_after s.progress done.faulty 
 
 abbrev pub after_step : LineEffect → (Done → Outcome) → Outcome
 after_step (goes_on done) rest = then_run done.text (rest done)
+after_step (saves done) rest = then_run done.text (rest done)
 after_step (stops text) rest = then_run text at_limit
 
 -- the lines from a state on
 unfoldable pub run : Steps → RunState → List (List ℕ) → Outcome
 run steps s [] = at_end s
 run steps s (line ∷ lines) = after_step (steps s line) (λ (done : Done). run steps (state_after s done) lines)
+
+-- the state behind a line in front of those after it, where the line saves
+abbrev pub onto_saved : LineEffect → (Done → RunState) → (Done → List RunState) → List RunState
+onto_saved (goes_on done) behind rest = rest done
+onto_saved (saves done) behind rest = behind done ∷ rest done
+onto_saved (stops text) behind rest = []
+
+-- the states whose images are put, in their order: the state behind each line that saves
+unfoldable pub saved_states : Steps → RunState → List (List ℕ) → List RunState
+saved_states steps s [] = []
+saved_states steps s (line ∷ lines) = onto_saved (steps s line) (state_after s) (λ (done : Done). saved_states steps (state_after s done) lines)

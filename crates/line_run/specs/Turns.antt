@@ -1,22 +1,23 @@
 -- What the loop over the lines does in a turn.
-use Rattle.std.specs.Prelude.{◌≡◌, ◌<◌, ◌≤◌, ◌+◌, ℕ, ◌++◌, List, [], length, take, drop, Option, Some, None, Result, Ok, Err, IfSome}
+use Rattle.std.specs.Prelude.{◌≡◌, ◌<◌, ◌≤◌, ℕ, ◌++◌, List, [], length, take, drop, Option, Some, None, Result, Ok, Err, IfSome}
 use Rattle.fx_io.specs.Outside.{append}
 use Rattle.fx_io.specs.Lines.{with_line}
 use Rattle.fx_io.specs.declared.line.Line.{Line}
 use Rattle.fx_io.specs.declared.line.Line.TheVariants.{Whole, Long, End as line_end}
 use Rattle.rule_world.specs.Worlds.{World}
-use Rattle.line_run.specs.declared.fault.RunFault.{RunFault}
-use Rattle.line_run.specs.declared.fault.RunFault.TheVariants.{ReadFault, WriteFault, NoMemory, ScriptLong}
+use Rattle.line_run.specs.declared.fault.StopFault.{StopFault}
+use Rattle.line_run.specs.declared.fault.StopFault.TheVariants.{ReadFault, WriteFault, NoMemory, ScriptLong, Refused}
 use Rattle.line_run.specs.declared.turn.Turn.{Turn}
-use Rattle.line_run.specs.declared.turn.Turn.TheVariants.{Goes, Stops}
+use Rattle.line_run.specs.declared.turn.Turn.TheVariants.{Goes, Saves, Stops}
 use Rattle.line_run.specs.declared.turn.Progress.{Progress}
 use Rattle.line_run.specs.declared.turn.Ended.{Ended}
 use Rattle.line_run.specs.declared.turn.Ended.TheVariants.{Script, Limit}
-use Rattle.line_run.specs.Run.{RunState, LineEffect, goes_on, stops, progress_after}
+use Rattle.line_run.specs.Run.{RunState, LineEffect, goes_on, saves, stops, progress_after}
 
 -- a line was done: its text was gathered, and what took it stands for its world, or the limit was met
 abbrev pub Does : (World → Type 0) → LineEffect → List ℕ → List ℕ → Turn → Type 0
 Does stands (goes_on done) before after turn = (after ≡ before ++ done.text) × stands done.world × (turn ≡ Goes done.faulty done.left)
+Does stands (saves done) before after turn = (after ≡ before ++ done.text) × stands done.world × (turn ≡ Saves done.faulty done.left)
 Does stands (stops text) before after turn = (after ≡ before ++ text) × (turn ≡ Stops)
 
 -- the next of the lines ahead was done, or there was none
@@ -29,6 +30,7 @@ Turns stands step before after ahead behind (Some turn) =
 abbrev pub StaysReady : (Progress → ℕ → Type 0) → Progress → ℕ → Option Turn → Type 0
 StaysReady ready at n None = Unit {0}
 StaysReady ready at n (Some (Goes faulty left)) = ready (progress_after at faulty left) n
+StaysReady ready at n (Some (Saves faulty left)) = ready (progress_after at faulty left) n
 StaysReady ready at n (Some Stops) = Unit {0}
 
 -- a line that is whole has at most so many bytes
@@ -57,7 +59,7 @@ abbrev pub ended_as : {T : Type 0} → Option (T × Progress) → Ended
 ended_as None = Limit
 ended_as (Some found) = Script found.1.faulted
 
-abbrev pub as_ended : {T : Type 0} → Result (Option (T × Progress)) RunFault → Result Ended RunFault
+abbrev pub as_ended : {T : Type 0} → Result (Option (T × Progress)) StopFault → Result Ended StopFault
 as_ended (Ok found) = Ok (ended_as found)
 as_ended (Err fault) = Err fault
 
@@ -74,9 +76,10 @@ AtEnd (Script faulted) holds = holds
 AtEnd Limit holds = Unit {0}
 
 -- how many bytes of the script a run took: more than it may take where it says so, and never where it came to the end
-abbrev pub TakesUpTo : ℕ → Result Ended RunFault → ℕ → Type 0
+abbrev pub TakesUpTo : ℕ → Result Ended StopFault → ℕ → Type 0
 TakesUpTo most (Ok ended) n = AtEnd ended (n ≤ most)
 TakesUpTo most (Err ReadFault) n = n ≤ most
 TakesUpTo most (Err WriteFault) n = Unit {0}
 TakesUpTo most (Err NoMemory) n = Unit {0}
 TakesUpTo most (Err ScriptLong) n = most < n
+TakesUpTo most (Err (Refused why)) n = Unit {0}

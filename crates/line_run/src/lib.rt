@@ -1,5 +1,6 @@
-//! The loop over the lines of a script: it reads them, hands each to what takes it, and writes what they print before it reads on. It knows
-//! what takes the lines by a trait alone, and the outside by a source of the script and a sink.
+//! The loop over the lines of a script: it reads them, hands each to what takes it, and writes what they print before it reads on. Behind a line
+//! that saves the image of the state is put before what the line prints is written. It knows what takes the lines, and puts images, by a trait
+//! alone, and the outside by a source of the script and a sink.
 //! Calls that allocate answer `NoMemory` where memory is refused.
 #![tactic(auto)]
 
@@ -10,7 +11,7 @@ mod running;
 mod taker;
 mod turn;
 
-pub use fault::RunFault;
+pub use fault::{ImageFault, KeepFault, StopFault};
 pub use running::run_lines;
 pub use taker::LineTaker;
 pub use turn::{Ended, Progress, Turn};

@@ -70,6 +70,8 @@ impl Progress {
 pub enum Turn {
     /// It was done: whether it was a fault, and how many firings are left to the run.
     Goes(bool, u64),
+    /// As `Goes`, and the image of the state behind the line is to be put before what it prints is written.
+    Saves(bool, u64),
     /// It was a fire command, and a match was pending where no firing was left.
     Stops,
 }

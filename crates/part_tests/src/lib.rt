@@ -29,6 +29,8 @@ mod pages;
 #[cfg(test)]
 mod pending;
 #[cfg(test)]
+mod questions;
+#[cfg(test)]
 mod rows;
 #[cfg(test)]
 mod texts;

@@ -10,7 +10,7 @@ use Rattle.replay.proofs.Common.{wanted_by, wanted_from, wanted_rules, wanted_by
 use Rattle.replay.proofs.Common.{MayRefuse}
 use Rattle.command_words.specs.Asked.{asked_by}
 use Rattle.script_run.specs.Run.{run as run_lines, step_in}
-use Rattle.line_run.proofs.Ahead.{run_ended, append_nothing}
+use Rattle.line_run.proofs.Ahead.{append_nothing, stopped_at_once}
 use Rattle.line_run.proofs.Stops.{none_given}
 use Rattle.replay.specs.Wanted.{wanted, wanted_by_name, wanted_by_number}
 use Rattle.replay.proofs.Reports.{front_by, front_none}
@@ -203,26 +203,11 @@ load_done gives fires counts number limit w first last left given faults before 
     other answers is = grind (arith, answers, is)
 
 -- nothing of the script was taken, and nothing was written
-stopped_at_once : (setting : RunSetting) (begin : RunState) (script : List ℕ) (left before : Option (List ℕ)) → left ≡ Some script → StoppedAtRead (run_lines setting begin) script left before before
-stopped_at_once setting begin script left before tells =
-    let none : run_lines setting begin [] ≡ at_end begin = run_ended (step_in setting) begin in
-    record {
-      lines = [];
-      piece = [];
-      rest = script;
-      parts = refl;
-      ends = inl refl;
-      no_end = refl;
-      is_left = tells;
-      not_met = λ met. let k : Script begin.progress.faulted ≡ Limit = sym (ap (λ (o : Outcome). o.ended) none) ∙ met in absurd cc;
-      is_written = sym (append_nothing before) ∙ ap (append before) (sym (ap (λ (o : Outcome). o.bytes) none));
-    }
-
 nothing_stopped : (gives : Gives) (fires : Fires) (counts : Counts) (w : Wanted) (script : List ℕ) (left before : Option (List ℕ)) → left ≡ Some script
     → IsStopped gives fires counts w script left before before
-nothing_stopped gives fires counts (runs limit p) script left before tells = λ table are. stopped_at_once (setting_of gives fires counts limit p table) (first_state limit) script left before tells
+nothing_stopped gives fires counts (runs limit p) script left before tells = λ table are. stopped_at_once (step_in (setting_of gives fires counts limit p table)) (first_state limit) script left before tells
 nothing_stopped gives fires counts (resumes limit image p) script left before tells = λ table are w lawful is.
-    stopped_at_once (setting_of gives fires counts limit p table) (state_in w (progress_behind limit image.run)) script left before tells
+    stopped_at_once (step_in (setting_of gives fires counts limit p table)) (state_in w (progress_behind limit image.run)) script left before tells
 nothing_stopped gives fires counts (saves limit rules p) script left before tells = refl
 nothing_stopped gives fires counts (saves_on limit image p) script left before tells = refl
 nothing_stopped gives fires counts usage_line script left before tells = refl

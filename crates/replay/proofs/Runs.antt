@@ -8,8 +8,8 @@ use Rattle.replay.proofs.Common.{TellsScript, MayEnd, RunOf, Says, Report, IsRep
 use Rattle.replay.proofs.Common.{IsSaved, IsSaveStatus, IsStopped, TakesFor, checkpoint_report, fault_status, image_report, outcome_report, run_status, Wanted}
 use Rattle.replay.proofs.Common.{wanted_at, MayRefuse, IsImage}
 use Rattle.image_laws.specs.Images.{IsImageOf}
-use Rattle.line_run.specs.declared.fault.RunFault.{RunFault}
-use Rattle.line_run.specs.declared.fault.RunFault.TheVariants.{ReadFault, WriteFault, NoMemory, ScriptLong}
+use Rattle.script_run.specs.declared.run_fault.RunFault.{RunFault}
+use Rattle.script_run.specs.declared.run_fault.RunFault.TheVariants.{ReadFault, WriteFault, NoMemory, ScriptLong}
 use Rattle.line_run.specs.declared.turn.Ended.{Ended}
 use Rattle.line_run.specs.declared.turn.Progress.{Progress}
 use Rattle.script_run.specs.Run.{run as run_lines}

@@ -5,8 +5,8 @@ use Rattle.fx_io.specs.Lines.{lines_of}
 use Rattle.rule_model.specs.declared.life.LifeTable.{LifeTable}
 use Rattle.rule_lives.specs.Keeping.{AreLives}
 use Rattle.gen_load.specs.Script.{script_text}
-use Rattle.line_run.specs.declared.fault.RunFault.{RunFault}
-use Rattle.line_run.specs.declared.fault.RunFault.TheVariants.{ReadFault, WriteFault, NoMemory, ScriptLong}
+use Rattle.script_run.specs.declared.run_fault.RunFault.{RunFault}
+use Rattle.script_run.specs.declared.run_fault.RunFault.TheVariants.{ReadFault, WriteFault, NoMemory, ScriptLong}
 use Rattle.line_run.specs.declared.turn.Ended.{Ended}
 use Rattle.line_run.specs.declared.turn.Ended.TheVariants.{Script, Limit}
 use Rattle.script_run.specs.Firings.{Gives, Fires, Counts}

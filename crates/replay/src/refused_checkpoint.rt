@@ -53,6 +53,8 @@ pub fn refuse_checkpoint<K: Sink>(alloc: Global, out: &mut K, code: CheckpointCo
     ensures front { 5 ≤ result → AppendsFront (K.written out.old) (K.written out.new) (checkpoint_text code) }
     ensures answers { (result ≡ 9) ⊎ ((6 ≤ result) × (result ≤ 7)) }
     ensures cause { result ≡ 6 → Rose (K.faults out.old) (K.faults out.new) }
+    ensures counts { K.faults out.old ≤ K.faults out.new }
+    ensures files { K.files out.new ≡ K.files out.old }
 {
     let mut text = Vec::new(alloc);
     if push_code(&mut text, code).is_err() {

@@ -14,6 +14,7 @@ pub fn say<K: Sink>(out: &mut K, lines: &[u8], status: u8) -> u8
     ensures front { 5 ≤ result → AppendsFront (K.written out.old) (K.written out.new) lines.now }
     ensures either { (result ≡ status) ⊎ (result ≡ 6) }
     ensures cause { result ≡ 6 → Rose (K.faults out.old) (K.faults out.new) }
+    ensures files { K.files out.new ≡ K.files out.old }
 {
     match write_all(out, lines) {
         Ok(()) => status,
@@ -27,6 +28,7 @@ pub fn refuse<K: Sink>(alloc: Global, out: &mut K, refusal: Refusal) -> u8
     ensures front { 5 ≤ result → AppendsFront (K.written out.old) (K.written out.new) (refusal_text refusal) }
     ensures answers { (result ≡ 3) ⊎ ((6 ≤ result) × (result ≤ 7)) }
     ensures cause { result ≡ 6 → Rose (K.faults out.old) (K.faults out.new) }
+    ensures files { K.files out.new ≡ K.files out.old }
 {
     let mut text = Vec::new(alloc);
     match push_refusal(&mut text, refusal) {

@@ -4,7 +4,8 @@ ghost use Rattle.line_run.specs.Turns.{ended_as};
 ghost use Rattle.replay.specs.Report.{run_status, fault_status};
 
 use engine::Engine;
-use line_run::{Ended, Progress, RunFault};
+use line_run::{Ended, Progress};
+use script_run::RunFault;
 
 /// Of a run of which no call failed.
 pub(crate) fn status_of(ended: Ended) -> u8

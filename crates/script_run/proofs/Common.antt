@@ -18,13 +18,13 @@ pub use Rattle.rule_world.specs.Worlds.{World, empty_world}
 pub use Rattle.script_run.specs.Firings.{Fires, Firings, all_fired, firings, limit_met, none_left, one_less, onto_lines, then_fires, wants_one}
 pub use Rattle.script_run.specs.Run.{setting_of, setting_with, RunSetting, fire_step, run}
 pub use Rattle.line_run.specs.Run.{state_in, LineEffect, Done, Outcome, RunState, at_end, at_limit, goes_on}
-pub use Rattle.line_run.specs.Run.{state_after, stops, then_run, progress_after}
+pub use Rattle.line_run.specs.Run.{saves, state_after, stops, then_run, progress_after}
 pub use Rattle.script_run.specs.Run.{step_in, asked_step, command_step, fault_step, first_state, whole_run}
 pub use Rattle.script_run.specs.Texts.{has_fault, cell_text, is_fault, quoted_byte}
-pub use Rattle.script_run.specs.Written.{held_by, written_fault, written_held, written_limit, written_line, written_lines}
+pub use Rattle.script_run.specs.Written.{held_by, kept_by, written_kept, written_fault, written_held, written_limit, written_line, written_lines}
 pub use Rattle.script_run.specs.declared.form.Form.{Form}
 pub use Rattle.line_run.specs.Turns.{Does, Flushes, HasAtMost}
 pub use Rattle.script_run.specs.Turns.{EndsFirings, TakesScript}
 pub use Rattle.line_run.specs.declared.turn.Ended.{Ended}
 pub use Rattle.line_run.specs.declared.turn.Progress.{Progress}
-pub use Rattle.line_run.specs.declared.turn.Turn.TheVariants.{Goes, Stops}
+pub use Rattle.line_run.specs.declared.turn.Turn.TheVariants.{Goes, Saves, Stops}

@@ -2,7 +2,7 @@
 use Rattle.script_run.proofs.Common.{◌≡◌, inl, inr, ◌≤◌, ◌+◌, ◌-◌, ◌++◌, ◌==◌, ℕ, zero, suc, Bool, true, false, List, [], ◌∷◌, length, nat_lt, Option, Some}
 use Rattle.script_run.proofs.Common.{None, refl, sym, ap, subst, ◌∙◌, arith, if◌then◌else◌, onto_first, Program, World, empty_world, OutLine, Fires, Firings}
 use Rattle.script_run.proofs.Common.{all_fired, limit_met, none_left, onto_lines, then_fires, wants_one, one_less, RunSetting, RunState, Outcome, LineEffect}
-use Rattle.script_run.proofs.Common.{goes_on, stops, then_run, whole_run, first_state, state_in, state_after, step_in, fire_step, command_step, asked_step}
+use Rattle.script_run.proofs.Common.{goes_on, saves, stops, then_run, whole_run, first_state, state_in, state_after, step_in, fire_step, command_step, asked_step}
 use Rattle.std.proofs.lemmas.Option.{same_Some}
 use Rattle.fx_io.specs.Lines.{lines_of}
 use Rattle.checkpoint.specs.declared.image.RunPart.{RunPart}
@@ -13,9 +13,9 @@ use Rattle.script_read.specs.declared.asked.Command.TheVariants.{Change, Fire, H
 use Rattle.script_run.specs.Firings.{firings}
 use Rattle.line_run.specs.Parts.{EndsLine, first_part, run_part_at, progress_behind}
 use Rattle.script_run.specs.Parts.{run_on}
-use Rattle.line_run.specs.Run.{run as run_lines}
+use Rattle.line_run.specs.Run.{Done, Steps, run as run_lines}
 use Rattle.script_run.specs.Run.{run, line_step, at_most, closed, fire_by, is_fire_line, met_step, told_step}
-use Rattle.line_run.proofs.Ahead.{run_goes, run_stops, then_run-then_run}
+use Rattle.line_run.proofs.Ahead.{run_goes, run_saves, run_stops, then_run-then_run}
 
 abbrev comes_of : Outcome → Option RunState
 comes_of o = o.comes_to
@@ -25,24 +25,29 @@ bytes_of o = o.bytes
 
 -- ---- lines behind lines
 
-abbrev Joins : RunSetting → RunState → RunState → List (List ℕ) → List (List ℕ) → Type 0
-Joins setting s t xs ys = run setting s (xs ++ ys) ≡ then_run (run setting s xs).bytes (run setting t ys)
+abbrev Joins : Steps → RunState → RunState → List (List ℕ) → List (List ℕ) → Type 0
+Joins steps s t xs ys = run_lines steps s (xs ++ ys) ≡ then_run (run_lines steps s xs).bytes (run_lines steps t ys)
 
 pub no_more : (s t : RunState) → None ≡ Some t → ⊥
 no_more s t e = cc
 
-joined : (setting : RunSetting) (s t : RunState) (xs ys : List (List ℕ)) → (run setting s xs).comes_to ≡ Some t → Joins setting s t xs ys
+joined : (steps : Steps) (s t : RunState) (xs ys : List (List ℕ)) → (run_lines steps s xs).comes_to ≡ Some t → Joins steps s t xs ys
 unfolding run_lines
-joined setting s t [] ys e = ap (λ (u : RunState). run setting u ys) (same_Some s t e)
-joined setting s t (x ∷ xs) ys e = here (step_in setting s x) refl (λ u h. joined setting u t xs ys h)
+joined steps s t [] ys e = ap (λ (u : RunState). run_lines steps u ys) (same_Some s t e)
+joined steps s t (x ∷ xs) ys e = here (steps s x) refl (λ u h. joined steps u t xs ys h)
   where
-    here : (step : LineEffect) → step_in setting s x ≡ step → ((u : RunState) → (run setting u xs).comes_to ≡ Some t → Joins setting u t xs ys) → Joins setting s t (x ∷ xs) ys
-    here (goes_on done) is rest =
-        let first = run_goes (step_in setting) s x done is xs in
-        let comes : (run setting (state_after s done) xs).comes_to ≡ Some t = sym (ap comes_of first) ∙ e in
-        run_goes (step_in setting) s x done is (xs ++ ys) ∙ ap (then_run done.text) (rest (state_after s done) comes)
-        ∙ then_run-then_run done.text (run setting (state_after s done) xs).bytes (run setting t ys) ∙ ap (λ (z : List ℕ). then_run z (run setting t ys)) (sym (ap bytes_of first))
-    here (stops text) is rest = absurd (no_more s t (sym (ap comes_of (run_stops (step_in setting) s x text is xs)) ∙ e))
+    behind : (done : Done) → run_lines steps s (x ∷ xs) ≡ then_run done.text (run_lines steps (state_after s done) xs)
+        → run_lines steps s (x ∷ (xs ++ ys)) ≡ then_run done.text (run_lines steps (state_after s done) (xs ++ ys))
+        → ((u : RunState) → (run_lines steps u xs).comes_to ≡ Some t → Joins steps u t xs ys) → Joins steps s t (x ∷ xs) ys
+    behind done first all rest =
+        let comes : (run_lines steps (state_after s done) xs).comes_to ≡ Some t = sym (ap comes_of first) ∙ e in
+        all ∙ ap (then_run done.text) (rest (state_after s done) comes)
+        ∙ then_run-then_run done.text (run_lines steps (state_after s done) xs).bytes (run_lines steps t ys) ∙ ap (λ (z : List ℕ). then_run z (run_lines steps t ys)) (sym (ap bytes_of first))
+
+    here : (step : LineEffect) → steps s x ≡ step → ((u : RunState) → (run_lines steps u xs).comes_to ≡ Some t → Joins steps u t xs ys) → Joins steps s t (x ∷ xs) ys
+    here (goes_on done) is rest = behind done (run_goes steps s x done is xs) (run_goes steps s x done is (xs ++ ys)) rest
+    here (saves done) is rest = behind done (run_saves steps s x done is xs) (run_saves steps s x done is (xs ++ ys)) rest
+    here (stops text) is rest = absurd (no_more s t (sym (ap comes_of (run_stops steps s x text is xs)) ∙ e))
 
 -- ---- the firings that are left never rise
 
@@ -75,6 +80,7 @@ firings_within fires p most (suc n) w =
 
 abbrev pub StepWithin : ℕ → LineEffect → Type 0
 StepWithin most (goes_on done) = done.left ≤ most
+StepWithin most (saves done) = done.left ≤ most
 StepWithin most (stops text) = Unit {0}
 
 if_step : (n : ℕ) (flag : Bool) (a b : LineEffect) → StepWithin n a → StepWithin n b → StepWithin n (if flag then a else b)
@@ -87,6 +93,7 @@ fire_within setting number n (limit_met lines) h = tt
 
 met_within : (setting : RunSetting) (each number n : ℕ) (most : Option ℕ) (effect : LineEffect) → StepWithin n effect → StepWithin n (met_step setting each number most effect)
 met_within setting each number n most (goes_on done) h = h
+met_within setting each number n most (saves done) h = h
 met_within setting each number n most (stops text) h = tt
 
 by_within : (setting : RunSetting) (live : Option ℕ) (number n : ℕ) (w : World) (most : Option ℕ) → StepWithin n (fire_by setting live number n w most)
@@ -96,8 +103,9 @@ by_within setting (Some each) number n w most =
     met_within setting each number n most (fire_step setting number fired)
     (fire_within setting number n fired (firings_within setting.fires setting.program (Some (at_most each most)) n w))
 
-closed_within : (setting : RunSetting) (number had : ℕ) (fires : Bool) (n : ℕ) (effect : LineEffect) → StepWithin n effect → StepWithin n (closed setting number had fires effect)
+pub closed_within : (setting : RunSetting) (number had : ℕ) (fires : Bool) (n : ℕ) (effect : LineEffect) → StepWithin n effect → StepWithin n (closed setting number had fires effect)
 closed_within setting number had fires n (goes_on done) h = h
+closed_within setting number had fires n (saves done) h = h
 closed_within setting number had fires n (stops text) h = tt
 
 command_within : (setting : RunSetting) (number n : ℕ) (w : World) (c : Command) → StepWithin n (command_step setting number n w c)
@@ -118,16 +126,26 @@ step_within : (setting : RunSetting) (number n : ℕ) (w : World) (line : List �
 unfolding line_step
 step_within setting number n w line = closed_within setting number n (is_fire_line line) n (told_step setting number n w line) (told_within setting number n w line)
 
-pub run_within : (setting : RunSetting) (s t : RunState) (xs : List (List ℕ)) → (run setting s xs).comes_to ≡ Some t → t.progress.left ≤ s.progress.left
+-- no step leaves more firings than there were
+abbrev pub AreWithin : Steps → Type 0
+AreWithin steps = (s : RunState) (line : List ℕ) → StepWithin s.progress.left (steps s line)
+
+pub steps_within : (setting : RunSetting) → AreWithin (step_in setting)
+steps_within setting s line = step_within setting (s.progress.lines + 1) s.progress.left s.world line
+
+lines_within : (steps : Steps) → AreWithin steps → (s t : RunState) (xs : List (List ℕ)) → (run_lines steps s xs).comes_to ≡ Some t → t.progress.left ≤ s.progress.left
 unfolding run_lines
-run_within setting s t [] e = let is : s ≡ t = same_Some s t e in rw is (omega arith)
-run_within setting s t (x ∷ xs) e =
-    here (step_in setting s x) refl (step_within setting (s.progress.lines + 1) s.progress.left s.world x) (λ u h. run_within setting u t xs h)
+lines_within steps within s t [] e = let is : s ≡ t = same_Some s t e in rw is (omega arith)
+lines_within steps within s t (x ∷ xs) e = here (steps s x) refl (within s x) (λ u h. lines_within steps within u t xs h)
   where
-    here : (step : LineEffect) → step_in setting s x ≡ step → StepWithin s.progress.left step → ((u : RunState) → (run setting u xs).comes_to ≡ Some t → t.progress.left ≤ u.progress.left)
+    here : (step : LineEffect) → steps s x ≡ step → StepWithin s.progress.left step → ((u : RunState) → (run_lines steps u xs).comes_to ≡ Some t → t.progress.left ≤ u.progress.left)
         → t.progress.left ≤ s.progress.left
-    here (goes_on done) is within rest = omega (arith, within, rest (state_after s done) (sym (ap comes_of (run_goes (step_in setting) s x done is xs)) ∙ e))
-    here (stops text) is within rest = absurd (no_more s t (sym (ap comes_of (run_stops (step_in setting) s x text is xs)) ∙ e))
+    here (goes_on done) is low rest = omega (arith, low, rest (state_after s done) (sym (ap comes_of (run_goes steps s x done is xs)) ∙ e))
+    here (saves done) is low rest = omega (arith, low, rest (state_after s done) (sym (ap comes_of (run_saves steps s x done is xs)) ∙ e))
+    here (stops text) is low rest = absurd (no_more s t (sym (ap comes_of (run_stops steps s x text is xs)) ∙ e))
+
+pub run_within : (setting : RunSetting) (s t : RunState) (xs : List (List ℕ)) → (run setting s xs).comes_to ≡ Some t → t.progress.left ≤ s.progress.left
+run_within setting = lines_within (step_in setting) (steps_within setting)
 
 -- ---- what an image says of a run is where it goes on
 
@@ -144,20 +162,28 @@ on_is : (limit before one two : ℕ) → one ≤ limit - before → two ≤ one
     → (before + ((limit - before) - one)) + ((limit - (before + ((limit - before) - one))) - two) ≡ before + ((limit - before) - two)
 on_is limit before one two h k = grind (arith, h, k)
 
+-- where lines begin behind a part of a run with a limit
+abbrev behind_part : ℕ → World → RunPart → RunState
+behind_part limit w first = state_in w (progress_behind limit first)
+
 -- what an image says of a run behind an image is what it says of both runs as one
-pub part_joined : (setting : RunSetting) (w : World) (first : RunPart) (a b : List (List ℕ)) (s t : RunState) → (run_on setting w first a).comes_to ≡ Some s
-    → (run_on setting s.world (run_part_at setting.limit first s.progress) b).comes_to ≡ Some t
-    → run_part_at setting.limit (run_part_at setting.limit first s.progress) t.progress ≡ run_part_at setting.limit first t.progress
-part_joined setting w first a b s t one two =
-    let limit : ℕ = setting.limit in
-    let low : s.progress.left ≤ limit - first.firings = run_within setting (state_in w (progress_behind limit first)) s a one in
+pub parts_joined : (steps : Steps) → AreWithin steps → (limit : ℕ) (w : World) (first : RunPart) (a b : List (List ℕ)) (s t : RunState) → (run_lines steps (behind_part limit w first) a).comes_to ≡ Some s
+    → (run_lines steps (behind_part limit s.world (run_part_at limit first s.progress)) b).comes_to ≡ Some t
+    → run_part_at limit (run_part_at limit first s.progress) t.progress ≡ run_part_at limit first t.progress
+parts_joined steps within limit w first a b s t one two =
+    let low : s.progress.left ≤ limit - first.firings = lines_within steps within (behind_part limit w first) s a one in
     let less : t.progress.left ≤ s.progress.left =
     subst (λ n. t.progress.left ≤ n) (left_is limit first.firings s.progress.left low)
-    (run_within setting (state_in s.world (progress_behind limit (run_part_at limit first s.progress))) t b two) in
+    (lines_within steps within (behind_part limit s.world (run_part_at limit first s.progress)) t b two) in
     ap with_firings (on_is limit first.firings s.progress.left t.progress.left low less)
   where
     with_firings : ℕ → RunPart
     with_firings n = record { rules = first.rules; lines = t.progress.lines; firings = n; faulty = t.progress.faulted }
+
+pub part_joined : (setting : RunSetting) (w : World) (first : RunPart) (a b : List (List ℕ)) (s t : RunState) → (run_on setting w first a).comes_to ≡ Some s
+    → (run_on setting s.world (run_part_at setting.limit first s.progress) b).comes_to ≡ Some t
+    → run_part_at setting.limit (run_part_at setting.limit first s.progress) t.progress ≡ run_part_at setting.limit first t.progress
+part_joined setting = parts_joined (step_in setting) (steps_within setting) setting.limit
 
 all_left : (limit : ℕ) → limit ≡ limit - 0
 all_left limit = omega arith
@@ -190,9 +216,15 @@ unfolding lines_of
 lines_joined a b (inl none) = rw none refl
 lines_joined a b (inr last) = let r = front_lines last.0 b in rw last.1 (r.3 ∙ ap (λ (z : List (List ℕ)). z ++ lines_of b) (sym r.2))
 
+pub scripts_joined : (steps : Steps) → AreWithin steps → (limit : ℕ) (w : World) (first : RunPart) (a b : List ℕ) (s : RunState) → EndsLine a
+    → (run_lines steps (behind_part limit w first) (lines_of a)).comes_to ≡ Some s
+    → run_lines steps (behind_part limit w first) (lines_of (a ++ b))
+    ≡ then_run (run_lines steps (behind_part limit w first) (lines_of a)).bytes (run_lines steps (behind_part limit s.world (run_part_at limit first s.progress)) (lines_of b))
+scripts_joined steps within limit w first a b s ends comes =
+    let begin : RunState = behind_part limit w first in
+    ap (run_lines steps begin) (lines_joined a b ends) ∙ joined steps begin s (lines_of a) (lines_of b) comes
+    ∙ ap (λ (u : RunState). then_run (run_lines steps begin (lines_of a)).bytes (run_lines steps u (lines_of b))) (sym (goes_on_there limit first s (lines_within steps within begin s (lines_of a) comes)))
+
 pub script_joined : (setting : RunSetting) (w : World) (first : RunPart) (a b : List ℕ) (s : RunState) → EndsLine a → (run_on setting w first (lines_of a)).comes_to ≡ Some s
     → run_on setting w first (lines_of (a ++ b)) ≡ then_run (run_on setting w first (lines_of a)).bytes (run_on setting s.world (run_part_at setting.limit first s.progress) (lines_of b))
-script_joined setting w first a b s ends comes =
-    let begin : RunState = state_in w (progress_behind setting.limit first) in
-    ap (run setting begin) (lines_joined a b ends) ∙ joined setting begin s (lines_of a) (lines_of b) comes
-    ∙ ap (λ (u : RunState). then_run (run setting begin (lines_of a)).bytes (run setting u (lines_of b))) (sym (goes_on_there setting.limit first s (run_within setting begin s (lines_of a) comes)))
+script_joined setting = scripts_joined (step_in setting) (steps_within setting) setting.limit

@@ -1,7 +1,7 @@
 -- What changes and firings keep, a run keeps.
 use Rattle.script_run.proofs.Common.{◌≡◌, ◌+◌, ℕ, zero, suc, Bool, true, false, List, [], ◌∷◌, length, nat_lt, Option, Some, None, refl, sym, ap, ◌∙◌}
 use Rattle.script_run.proofs.Common.{if◌then◌else◌, World, OutLine, Firings, all_fired, limit_met, none_left, onto_lines, then_fires, wants_one, one_less}
-use Rattle.script_run.proofs.Common.{RunSetting, RunState, Outcome, LineEffect, goes_on, stops, state_after, step_in, fire_step, command_step, asked_step}
+use Rattle.script_run.proofs.Common.{RunSetting, RunState, Outcome, LineEffect, goes_on, saves, stops, state_after, step_in, fire_step, command_step, asked_step}
 use Rattle.std.proofs.lemmas.Option.{same_Some}
 use Rattle.script_read.specs.Asked.{Asked, asks, bad_json, bad_command, asked}
 use Rattle.script_read.specs.Blank.{is_line_blank}
@@ -11,7 +11,7 @@ use Rattle.script_read.specs.declared.asked.Command.TheVariants.{Change, Fire, H
 use Rattle.script_run.specs.Firings.{firings}
 use Rattle.line_run.specs.Run.{run as run_lines}
 use Rattle.script_run.specs.Run.{run, line_step, at_most, closed, fire_by, is_fire_line, met_step, told_step}
-use Rattle.line_run.proofs.Ahead.{run_goes, run_stops}
+use Rattle.line_run.proofs.Ahead.{run_goes, run_saves, run_stops}
 use Rattle.script_run.proofs.Joined.{no_more}
 
 module _ (setting : RunSetting) (Holds : World → Type 0)
@@ -47,6 +47,7 @@ module _ (setting : RunSetting) (Holds : World → Type 0)
 
   abbrev StepsTo : LineEffect → Type 0
   StepsTo (goes_on done) = Holds done.world
+  StepsTo (saves done) = Holds done.world
   StepsTo (stops text) = Unit {0}
 
   if_step : (flag : Bool) (a b : LineEffect) → StepsTo a → StepsTo b → StepsTo (if flag then a else b)
@@ -59,6 +60,7 @@ module _ (setting : RunSetting) (Holds : World → Type 0)
 
   met_to : (each number : ℕ) (most : Option ℕ) (effect : LineEffect) → StepsTo effect → StepsTo (met_step setting each number most effect)
   met_to each number most (goes_on done) h = h
+  met_to each number most (saves done) h = h
   met_to each number most (stops text) h = tt
 
   by_to : (live : Option ℕ) (number n : ℕ) (w : World) (most : Option ℕ) → Holds w → StepsTo (fire_by setting live number n w most)
@@ -69,6 +71,7 @@ module _ (setting : RunSetting) (Holds : World → Type 0)
 
   closed_to : (number had : ℕ) (fires : Bool) (effect : LineEffect) → StepsTo effect → StepsTo (closed setting number had fires effect)
   closed_to number had fires (goes_on done) h = h
+  closed_to number had fires (saves done) h = h
   closed_to number had fires (stops text) h = tt
 
   command_to : (number n : ℕ) (w : World) (c : Command) → Holds w → StepsTo (command_step setting number n w c)
@@ -94,4 +97,5 @@ module _ (setting : RunSetting) (Holds : World → Type 0)
       here : (step : LineEffect) → step_in setting s x ≡ step → StepsTo step
           → ((u : RunState) → Holds u.world → (run setting u xs).comes_to ≡ Some t → Holds t.world) → Holds t.world
       here (goes_on done) is there rest = rest (state_after s done) there (sym (ap (λ (o : Outcome). o.comes_to) (run_goes (step_in setting) s x done is xs)) ∙ e)
+      here (saves done) is there rest = rest (state_after s done) there (sym (ap (λ (o : Outcome). o.comes_to) (run_saves (step_in setting) s x done is xs)) ∙ e)
       here (stops text) is there rest = absurd (no_more s t (sym (ap (λ (o : Outcome). o.comes_to) (run_stops (step_in setting) s x text is xs)) ∙ e))

@@ -1,7 +1,7 @@
 -- A run whose limit of firings is not met does not depend on it.
 use Rattle.script_run.proofs.Common.{◌≡◌, ◌≤◌, ◌+◌, ◌-◌, ◌++◌, ◌||◌, ℕ, zero, suc, Bool, true, false, List, [], ◌∷◌, length, nat_lt, Option, Some, None, refl, sym, ap, ap₂, subst, ◌∙◌}
 use Rattle.script_run.proofs.Common.{arith, if◌then◌else◌, World, OutLine, Program, Fires, Firings, all_fired, limit_met, none_left, onto_lines, then_fires}
-use Rattle.script_run.proofs.Common.{wants_one, one_less, RunSetting, RunState, Outcome, LineEffect, goes_on, stops, state_after, step_in, fire_step}
+use Rattle.script_run.proofs.Common.{wants_one, one_less, RunSetting, RunState, Outcome, LineEffect, goes_on, saves, stops, state_after, step_in, fire_step}
 use Rattle.script_run.proofs.Common.{command_step, asked_step, first_state, whole_run, at_end, then_run, written_lines, has_fault, is_some, empty_world}
 use Rattle.std.proofs.lemmas.Option.{same_Some}
 use Rattle.script_read.specs.Asked.{Asked, asks, bad_json, bad_command, asked}
@@ -12,7 +12,7 @@ use Rattle.script_run.specs.Firings.{firings}
 use Rattle.script_run.specs.Limits.{with_limit, IsSameRun}
 use Rattle.line_run.specs.Run.{run as run_lines}
 use Rattle.script_run.specs.Run.{run, line_step, at_most, closed, end_text, fire_by, fired_of, is_fire_line, met_lines, met_step, told_step}
-use Rattle.line_run.proofs.Ahead.{run_goes, run_stops}
+use Rattle.line_run.proofs.Ahead.{run_goes, run_saves, run_stops}
 use Rattle.script_run.proofs.Joined.{no_more, run_within, StepWithin, told_within}
 
 -- ---- firings, of which so many and so many were left before
@@ -81,7 +81,11 @@ pub record AreSame (m n : ℕ) (a b : Outcome) (s t : RunState) : Type 0 where
 
 abbrev SameSteps : ℕ → ℕ → LineEffect → LineEffect → Type 0
 SameSteps m n (goes_on a) (goes_on b) = (a.text ≡ b.text) × (a.world ≡ b.world) × (a.faulty ≡ b.faulty) × (m + b.left ≡ n + a.left)
+SameSteps m n (saves a) (saves b) = (a.text ≡ b.text) × (a.world ≡ b.world) × (a.faulty ≡ b.faulty) × (m + b.left ≡ n + a.left)
+SameSteps m n (goes_on a) (saves b) = ⊥
+SameSteps m n (saves a) (goes_on b) = ⊥
 SameSteps m n (goes_on a) (stops b) = Unit {0}
+SameSteps m n (saves a) (stops b) = Unit {0}
 SameSteps m n (stops a) effect = Unit {0}
 
 if_steps : (m n : ℕ) (flag : Bool) (a b c d : LineEffect) → SameSteps m n a c → SameSteps m n b d → SameSteps m n (if flag then a else b) (if flag then c else d)
@@ -105,8 +109,13 @@ module _ (setting : RunSetting) (limit : ℕ) where
   met_same : (each number m n : ℕ) (most : Option ℕ) (a b : LineEffect) → SameSteps m n a b → SameSteps m n (met_step setting each number most a) (met_step other each number most b)
   met_same each number m n most (goes_on a) (goes_on b) h =
       (ap₂ (λ (text : List ℕ) (w : World). text ++ met_lines setting.form (setting.fires setting.program w) each number most) h.0 h.1, h.1, h.2, h.3)
+  met_same each number m n most (saves a) (saves b) h = h
+  met_same each number m n most (goes_on a) (saves b) h = absurd h
+  met_same each number m n most (saves a) (goes_on b) h = absurd h
   met_same each number m n most (goes_on a) (stops text) h = tt
+  met_same each number m n most (saves a) (stops text) h = tt
   met_same each number m n most (stops text) (goes_on b) h = tt
+  met_same each number m n most (stops text) (saves b) h = tt
   met_same each number m n most (stops text) (stops more) h = tt
 
   by_same : (live : Option ℕ) (number m n : ℕ) (w : World) (most : Option ℕ) → SameSteps m n (fire_by setting live number m w most) (fire_by other live number n w most)
@@ -126,8 +135,15 @@ module _ (setting : RunSetting) (limit : ℕ) where
   closed_same number m n fires (goes_on a) (goes_on b) low less h =
       let fired = fired_same fires m n a.left b.left a.world b.world h.1 (made_is m n a.left b.left h.3 low less) in
       (ap₂ (λ (text : List ℕ) (made : Option (ℕ × Bool)). text ++ end_text setting setting.live number made) h.0 fired, h.1, h.2, h.3)
+  closed_same number m n fires (saves a) (saves b) low less h =
+      let fired = fired_same fires m n a.left b.left a.world b.world h.1 (made_is m n a.left b.left h.3 low less) in
+      (ap₂ (λ (text : List ℕ) (made : Option (ℕ × Bool)). text ++ end_text setting setting.live number made) h.0 fired, h.1, h.2, h.3)
+  closed_same number m n fires (goes_on a) (saves b) low less h = absurd h
+  closed_same number m n fires (saves a) (goes_on b) low less h = absurd h
   closed_same number m n fires (goes_on a) (stops text) low less h = tt
+  closed_same number m n fires (saves a) (stops text) low less h = tt
   closed_same number m n fires (stops text) (goes_on b) low less h = tt
+  closed_same number m n fires (stops text) (saves b) low less h = tt
   closed_same number m n fires (stops text) (stops more) low less h = tt
 
   command_same : (number m n : ℕ) (w : World) (c : Command) → SameSteps m n (command_step setting number m w c) (command_step other number n w c)
@@ -188,8 +204,19 @@ module _ (setting : RunSetting) (limit : ℕ) where
           (rest c.world (faulted || c.faulty) c.left d.left) in
           rw (run_goes (step_in setting) (at_left lines faulted w m) x c is xs, run_goes (step_in other) (at_left lines faulted w n) x d also xs)
           (behind m n c.left d.left c.text d.text (run setting (state_after (at_left lines faulted w m) c) xs) (run other (state_after (at_left lines faulted w n) d) xs) same.0 same.3 ends)
+      here (saves c) (saves d) is also same rest =
+          let there : at_left (lines + 1) (faulted || c.faulty) c.world d.left ≡ state_after (at_left lines faulted w n) d
+          = ap₂ (λ (bad : Bool) (v : World). at_left (lines + 1) (faulted || bad) v d.left) same.2 same.1 in
+          let ends : SameEnds c.left d.left (run setting (state_after (at_left lines faulted w m) c) xs) (run other (state_after (at_left lines faulted w n) d) xs)
+          = subst (λ (u : RunState). SameEnds c.left d.left (run setting (state_after (at_left lines faulted w m) c) xs) (run other u xs)) there
+          (rest c.world (faulted || c.faulty) c.left d.left) in
+          rw (run_saves (step_in setting) (at_left lines faulted w m) x c is xs, run_saves (step_in other) (at_left lines faulted w n) x d also xs)
+          (behind m n c.left d.left c.text d.text (run setting (state_after (at_left lines faulted w m) c) xs) (run other (state_after (at_left lines faulted w n) d) xs) same.0 same.3 ends)
+      here (goes_on c) (saves d) is also same rest = absurd same
+      here (saves c) (goes_on d) is also same rest = absurd same
       here (stops text) b is also same rest = λ s t e f. absurd (no_more s s (sym (ap comes_of (run_stops (step_in setting) (at_left lines faulted w m) x text is xs)) ∙ e))
       here (goes_on c) (stops text) is also same rest = λ s t e f. absurd (no_more s t (sym (ap comes_of (run_stops (step_in other) (at_left lines faulted w n) x text also xs)) ∙ f))
+      here (saves c) (stops text) is also same rest = λ s t e f. absurd (no_more s t (sym (ap comes_of (run_stops (step_in other) (at_left lines faulted w n) x text also xs)) ∙ f))
 
 pub same_run : (setting : RunSetting) (limit : ℕ) (lines : List (List ℕ)) (s t : RunState) → (whole_run setting lines).comes_to ≡ Some s
     → (whole_run (with_limit limit setting) lines).comes_to ≡ Some t → IsSameRun setting.limit limit (whole_run setting lines) (whole_run (with_limit limit setting) lines) s t

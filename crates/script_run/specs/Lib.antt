@@ -4,6 +4,7 @@ pub mod Firings
 pub mod Run
 pub mod Parts
 pub mod Unfinished
+pub mod Reads
 pub mod Turns
 pub mod Limits
 pub mod Live

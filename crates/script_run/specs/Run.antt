@@ -10,7 +10,7 @@ use Rattle.script_read.specs.Blank.{is_line_blank}
 use Rattle.answer_lines.specs.declared.lines.OutLine.{OutLine}
 use Rattle.script_run.specs.declared.fault.LineCode.{LineCode}
 use Rattle.script_run.specs.declared.fault.LineCode.TheVariants.{LineLong, BadJson, BadCommand}
-use Rattle.line_run.specs.Run.{LineEffect, goes_on, stops, Outcome, RunState, state_in, run as run_lines}
+use Rattle.line_run.specs.Run.{LineEffect, goes_on, saves, stops, Outcome, RunState, state_in, run as run_lines}
 use Rattle.script_run.specs.declared.form.Form.{Form}
 use Rattle.script_run.specs.declared.form.Form.TheVariants.{Text}
 use Rattle.script_run.specs.Texts.{has_fault}
@@ -66,6 +66,7 @@ met_lines form next each number most = if wants_more each most && is_some next t
 abbrev pub met_step : RunSetting → ℕ → ℕ → Option ℕ → LineEffect → LineEffect
 met_step setting each number most (goes_on done) =
     goes_on (record done { text = done.text ++ met_lines setting.form (setting.fires setting.program done.world) each number most })
+met_step setting each number most (saves done) = saves done
 met_step setting each number most (stops text) = stops text
 
 -- a fire command, of a live run as many of its firings as there may be for each
@@ -133,6 +134,8 @@ end_text setting (Some each) number fired = written_done setting.form number fir
 abbrev pub closed : RunSetting → ℕ → ℕ → Bool → LineEffect → LineEffect
 closed setting number before fires (goes_on done) =
     goes_on (record done { text = done.text ++ end_text setting setting.live number (fired_of setting fires before done.left done.world) })
+closed setting number before fires (saves done) =
+    saves (record done { text = done.text ++ end_text setting setting.live number (fired_of setting fires before done.left done.world) })
 closed setting number before fires (stops text) = stops text
 
 -- a line of the script

@@ -60,9 +60,21 @@ met_text number each = codes "limit " ++ decimal number ++ codes " " ++ decimal 
 abbrev pub done_text : ℕ → List ℕ
 done_text number = codes "done " ++ decimal number ++ 10 ∷ []
 
+-- the image of a live run, for which the line of this number asks, is in its file
+abbrev pub saved_text : ℕ → List ℕ
+saved_text number = codes "saved " ++ decimal number ++ 10 ∷ []
+
+-- the id of a fact, and its type
+abbrev pub named_text : Program → FactId → TypeId → List ℕ
+named_text p id ty = decimal id.0 ++ codes " " ++ type_name (slice_get p.types ty.0) ++ 10 ∷ []
+
 -- a fact of a type is new
 abbrev pub new_text : Program → FactId → TypeId → List ℕ
-new_text p id ty = codes "new #" ++ decimal id.0 ++ codes " " ++ type_name (slice_get p.types ty.0) ++ 10 ∷ []
+new_text p id ty = codes "new #" ++ named_text p id ty
+
+-- a fact of a type is kept
+abbrev pub fact_text : Program → FactId → TypeId → List ℕ
+fact_text p id ty = codes "fact #" ++ named_text p id ty
 
 -- a line that a line of the script with this number gives; a run that prints text has no lines in full, which are objects
 unfoldable pub line_text : Program → ℕ → OutLine → List ℕ

@@ -1,15 +1,17 @@
 -- What a run prints, by the form of its answers: lines of text, or objects in JSON, one to a line.
 use Rattle.std.specs.Prelude.{ℕ, ◌++◌, Bool, List, [], ◌∷◌, Option, Some, None, if◌then◌else◌}
 use Rattle.std.specs.List.{flat_map}
+use Rattle.fx_base.specs.declared.fact.Fact.{Fact}
 use Rattle.rule_model.specs.declared.program.Program.{Program}
 use Rattle.rule_model.specs.declared.program.TypeInfo.{TypeInfo}
 use Rattle.answer_lines.specs.declared.lines.OutLine.{OutLine}
-use Rattle.answer_json.specs.Answers.{line_data, fault_data, limit_data, held_data, done_data, fired_data}
+use Rattle.answer_json.specs.Answers.{line_data, fault_data, limit_data, held_data, saved_data, kept_data, done_data, fired_data, counts_data}
 use Rattle.answer_json.specs.Objects.{json_line}
+use Rattle.answer_json.specs.declared.counted.Counted.{Counted}
 use Rattle.script_run.specs.declared.fault.LineCode.{LineCode}
 use Rattle.script_run.specs.declared.form.Form.{Form}
 use Rattle.script_run.specs.declared.form.Form.TheVariants.{Text, Objects}
-use Rattle.script_run.specs.Texts.{code_text, done_text, fault_text, held_line, limit_text, line_text, met_text}
+use Rattle.script_run.specs.Texts.{code_text, done_text, fact_text, fault_text, held_line, limit_text, line_text, met_text, saved_text}
 
 -- a line that a line of the script with this number gives
 abbrev pub written_line : Form → Program → ℕ → OutLine → List ℕ
@@ -45,6 +47,25 @@ written_held form line [] numbers = []
 written_held form line (ty ∷ types) [] = []
 written_held form line (ty ∷ types) (number ∷ numbers) =
     if ty.event then held_by form line ty.name number ++ written_held form line types numbers else written_held form line types (number ∷ numbers)
+
+-- the image for which the line of this number asks is in its file
+abbrev pub written_saved : Form → ℕ → List ℕ
+written_saved Text number = saved_text number
+written_saved (Objects names) number = json_line (saved_data number)
+
+-- a fact is kept
+abbrev pub kept_by : Form → Program → ℕ → Fact → List ℕ
+kept_by Text p number f = fact_text p f.id f.ty
+kept_by (Objects names) p number f = json_line (kept_data p number f)
+
+-- the kept facts for which the line of this number asks
+abbrev pub written_kept : Form → Program → ℕ → List Fact → List ℕ
+written_kept form p number facts = flat_map (kept_by form p number) facts
+
+-- the counts for which the line of this number asks, which text does not tell
+abbrev pub written_counts : Form → Program → ℕ → Counted → List ℕ
+written_counts Text p number counted = []
+written_counts (Objects names) p number counted = json_line (counts_data p number counted)
 
 -- a live run has done the line of this number: a fire command with so many firings, and a match that is pending or not
 abbrev pub fired_object : ℕ → Option (ℕ × Bool) → List ℕ

@@ -167,7 +167,7 @@ fn fire_each<E: Engine>(
     let (next, turn) = fire_all(alloc, engine, line, wanted, left, text)?;
     match turn {
         Turn::Stops => Ok((next, turn)),
-        Turn::Goes(..) => {
+        Turn::Goes(..) | Turn::Saves(..) => {
             tell_met(alloc, &next, line, each, most, text)?;
             Ok((next, turn))
         }

@@ -4,8 +4,9 @@ ghost use Rattle.fx_io.specs.Lines.{lines_of};
 ghost use Rattle.checkpoint.specs.declared.image.RunPart.{RunPart};
 ghost use Rattle.rule_world.specs.Worlds.{World, empty_world};
 ghost use Rattle.script_run.specs.Limits.{with_limit, IsSameRun};
-ghost use Rattle.line_run.specs.Parts.{EndsLine, first_part, run_part_at};
-ghost use Rattle.line_run.specs.Run.{RunState, then_run};
+ghost use Rattle.line_run.specs.Parts.{EndsLine, first_part, progress_behind, run_part_at};
+ghost use Rattle.line_run.specs.Run.{RunState, state_in, then_run};
+ghost use Rattle.script_run.specs.Live.{LiveSetting, run_live};
 ghost use Rattle.script_run.specs.Parts.{run_on};
 ghost use Rattle.script_run.specs.Run.{RunSetting, whole_run};
 
@@ -22,6 +23,20 @@ pub fn a_run_goes_on_behind_its_first_lines()
         → (run_on setting w first a).comes_to ≡ Some s → (run_on setting s.world (run_part_at setting.limit first s.progress) b).comes_to ≡ Some t
         → run_part_at setting.limit (run_part_at setting.limit first s.progress) t.progress ≡ run_part_at setting.limit first t.progress }
     ensures whole { (setting : RunSetting) (rules : List ℕ) (lines : List (List ℕ)) → whole_run setting lines ≡ run_on setting empty_world (first_part rules) lines }
+{}
+
+/// A live script in two parts: what it prints is what the first part prints, and behind it what the second prints in the world that the first comes to,
+/// behind what an image says of the run then; so a desk that goes on from an image and one without a break print the same, for ever.
+pub fn a_live_run_goes_on_behind_its_first_lines()
+    ensures parts { (live : LiveSetting) (limit : ℕ) (w : World) (first : RunPart) (a b : List ℕ) (s : RunState) → EndsLine a
+        → (run_live live (state_in w (progress_behind limit first)) (lines_of a)).comes_to ≡ Some s
+        → run_live live (state_in w (progress_behind limit first)) (lines_of (a ++ b))
+        ≡ then_run (run_live live (state_in w (progress_behind limit first)) (lines_of a)).bytes
+        (run_live live (state_in s.world (progress_behind limit (run_part_at limit first s.progress))) (lines_of b)) }
+    ensures part { (live : LiveSetting) (limit : ℕ) (w : World) (first : RunPart) (a b : List (List ℕ)) (s t : RunState)
+        → (run_live live (state_in w (progress_behind limit first)) a).comes_to ≡ Some s
+        → (run_live live (state_in s.world (progress_behind limit (run_part_at limit first s.progress))) b).comes_to ≡ Some t
+        → run_part_at limit (run_part_at limit first s.progress) t.progress ≡ run_part_at limit first t.progress }
 {}
 
 /// What a script prints and comes to does not depend on the limit of firings, where that is not met.

@@ -7,13 +7,16 @@ mod fault;
 mod firing;
 mod form;
 pub mod laws;
+mod line_read;
 mod live;
 mod obeying;
+mod run_fault;
 mod running;
 mod text;
 mod written;
 
 pub use form::Form;
-pub use live::{LIVE_MAX, run_live};
+pub use live::{LIVE_MAX, LiveLines};
+pub use run_fault::RunFault;
 pub use running::{run, run_from};
 pub use text::{name_of_rule, push_limit, push_number, push_quoted, push_signed};

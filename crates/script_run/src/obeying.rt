@@ -1,19 +1,21 @@
-ghost use Rattle.std.specs.Prelude.{◌≡◌, ◌+◌, ◌*◌, ◌<◌, ◌≤◌, ◌^◌, Option, length, IfOk, OnOk};
+ghost use Rattle.std.specs.Prelude.{◌≡◌, ◌+◌, ◌++◌, ◌*◌, ◌<◌, ◌≤◌, ◌^◌, Option, false, length, IfOk, OnOk};
 ghost use Rattle.rule_world.specs.Worlds.{World};
 ghost use Rattle.line_run.specs.Turns.{Does};
-ghost use Rattle.script_run.specs.Run.{RunSetting, command_step, fired_of, fires_command, is_fire_line, printed, setting_with, step_in, told_step};
+ghost use Rattle.script_run.specs.Reads.{fires_read, read_step};
+ghost use Rattle.script_run.specs.Run.{RunSetting, command_step, end_text, fault_step, fired_of, fires_command, is_fire_line, printed, setting_with, step_in, told_step};
 ghost use Rattle.script_run.specs.Turns.{Closes, Within};
 
 use crate::counting::push_kept;
 use crate::fault::LineCode;
 use crate::firing::{FireLine, fire};
 use crate::form::Form;
+use crate::line_read::{LineRead, read_line};
 use crate::written::{push_done, push_fault, push_lines};
 use engine::Engine;
 use fx_base::NoMemory;
-use fx_io::Line;
-use line_run::{LineTaker, Progress, Turn};
-use script_read::{Change, Command, CommandFault, Scratch, command_with, is_blank};
+use fx_io::{Line, Sink};
+use line_run::{KeepFault, LineTaker, Progress, Turn};
+use script_read::{Change, Command, Scratch};
 use std::alloc::Global;
 
 // Makes a change, and appends what it prints.
@@ -82,12 +84,12 @@ fn obey<E: Engine>(
     }
 }
 
-// What a line that is not too long came to.
-struct Obeyed<E: Engine> {
-    taker: Obeying<E>,
-    turn: Turn,
+/// What a line that is not too long came to.
+pub(crate) struct Obeyed<E: Engine> {
+    pub(crate) taker: Obeying<E>,
+    pub(crate) turn: Turn,
     // whether it was a fire command
-    fires: bool,
+    pub(crate) fires: bool,
 }
 
 fn fires_command(command: &Command) -> bool
@@ -96,7 +98,115 @@ fn fires_command(command: &Command) -> bool
     matches!(command, Command::Fire(_))
 }
 
+// Does what a command asks for, and appends what it prints.
+fn obey_command<E: Engine>(
+    alloc: Global,
+    taker: Obeying<E>,
+    at: Progress,
+    wanted: &Command,
+    text: &mut Vec<u8>,
+) -> Result<Obeyed<E>, NoMemory>
+    requires few { E.tags taker.engine + 16 * at.left < 2 ^ 62 }
+    requires counted { at.lines + 1 < 2 ^ 64 }
+    ensures done { IfOk result (λ r. (w : World) → E.stands taker.engine w
+        → Does (E.stands r.taker.engine) (command_step (setting_with taker.live taker.form E.gives E.fires E.counts taker.limit (E.made_with taker.engine) (E.table taker.engine)) (at.lines + 1) at.left w wanted.now)
+        text.old.items text.new.items r.turn) }
+    ensures fires { IfOk result (λ r. r.fires ≡ fires_command wanted.now) }
+    ensures limit { IfOk result (λ r. r.taker.limit ≡ taker.limit) }
+    ensures live { IfOk result (λ r. r.taker.live ≡ taker.live) }
+    ensures form { IfOk result (λ r. r.taker.form ≡ taker.form) }
+    ensures program { IfOk result (λ r. E.made_with r.taker.engine ≡ E.made_with taker.engine) }
+    ensures table { IfOk result (λ r. E.table r.taker.engine ≡ E.table taker.engine) }
+    ensures tags { IfOk result (λ r. Within (E.tags taker.engine + 16 * at.left + 16) (E.tags r.taker.engine) r.turn) }
+{
+    let fires = fires_command(wanted);
+    let Obeying {
+        engine,
+        limit,
+        live,
+        form,
+        scratch,
+    } = taker;
+    let line = FireLine {
+        number: at.lines + 1,
+        limit,
+        live,
+        form: &form,
+    };
+    let (engine, turn) = obey(alloc, engine, line, at.left, wanted, text)?;
+    let taker = Obeying {
+        engine,
+        limit,
+        live,
+        form,
+        scratch,
+    };
+    Ok(Obeyed { taker, turn, fires })
+}
+
+// Appends what is said of a line with this fault.
+fn refuse_line<E: Engine>(
+    alloc: Global,
+    taker: Obeying<E>,
+    at: Progress,
+    code: LineCode,
+    text: &mut Vec<u8>,
+) -> Result<Obeyed<E>, NoMemory>
+    requires counted { at.lines + 1 < 2 ^ 64 }
+    ensures done { IfOk result (λ r. (w : World) → E.stands taker.engine w
+        → Does (E.stands r.taker.engine) (fault_step taker.form (at.lines + 1) at.left w code)
+        text.old.items text.new.items r.turn) }
+    ensures fires { IfOk result (λ r. r.fires ≡ false) }
+    ensures limit { IfOk result (λ r. r.taker.limit ≡ taker.limit) }
+    ensures live { IfOk result (λ r. r.taker.live ≡ taker.live) }
+    ensures form { IfOk result (λ r. r.taker.form ≡ taker.form) }
+    ensures program { IfOk result (λ r. E.made_with r.taker.engine ≡ E.made_with taker.engine) }
+    ensures table { IfOk result (λ r. E.table r.taker.engine ≡ E.table taker.engine) }
+    ensures tags { IfOk result (λ r. Within (E.tags taker.engine + 16 * at.left + 16) (E.tags r.taker.engine) r.turn) }
+{
+    push_fault(text, alloc, &taker.form, at.lines + 1, code)?;
+    Ok(Obeyed {
+        taker,
+        turn: Turn::Goes(true, at.left),
+        fires: false,
+    })
+}
+
+/// Does what a line reads as, and appends what it prints.
+pub(crate) fn obey_read<E: Engine>(
+    alloc: Global,
+    taker: Obeying<E>,
+    at: Progress,
+    read: &LineRead,
+    text: &mut Vec<u8>,
+) -> Result<Obeyed<E>, NoMemory>
+    requires few { E.tags taker.engine + 16 * at.left < 2 ^ 62 }
+    requires counted { at.lines + 1 < 2 ^ 64 }
+    ensures done { IfOk result (λ r. (w : World) → E.stands taker.engine w
+        → Does (E.stands r.taker.engine) (read_step (setting_with taker.live taker.form E.gives E.fires E.counts taker.limit (E.made_with taker.engine) (E.table taker.engine)) (at.lines + 1) at.left w read.now)
+        text.old.items text.new.items r.turn) }
+    ensures fires { IfOk result (λ r. r.fires ≡ fires_read read.now) }
+    ensures limit { IfOk result (λ r. r.taker.limit ≡ taker.limit) }
+    ensures live { IfOk result (λ r. r.taker.live ≡ taker.live) }
+    ensures form { IfOk result (λ r. r.taker.form ≡ taker.form) }
+    ensures program { IfOk result (λ r. E.made_with r.taker.engine ≡ E.made_with taker.engine) }
+    ensures table { IfOk result (λ r. E.table r.taker.engine ≡ E.table taker.engine) }
+    ensures tags { IfOk result (λ r. Within (E.tags taker.engine + 16 * at.left + 16) (E.tags r.taker.engine) r.turn) }
+{
+    match read {
+        LineRead::Blank => Ok(Obeyed {
+            taker,
+            turn: Turn::Goes(false, at.left),
+            fires: false,
+        }),
+        LineRead::Asks(wanted) => obey_command(alloc, taker, at, wanted, text),
+        LineRead::BadJson => refuse_line(alloc, taker, at, LineCode::BadJson, text),
+        LineRead::BadCommand => refuse_line(alloc, taker, at, LineCode::BadCommand, text),
+    }
+}
+
 // Does what a line asks for that is not too long, and appends what it prints.
+#[tactic(auto, using(crate::proofs::Steps::told_read, crate::proofs::Steps::fires_line))]
 fn obey_line<E: Engine>(
     alloc: Global,
     taker: Obeying<E>,
@@ -118,62 +228,9 @@ fn obey_line<E: Engine>(
     ensures table { IfOk result (λ r. E.table r.taker.engine ≡ E.table taker.engine) }
     ensures tags { IfOk result (λ r. Within (E.tags taker.engine + 16 * at.left + 16) (E.tags r.taker.engine) r.turn) }
 {
-    if is_blank(line) {
-        let turn = Turn::Goes(false, at.left);
-        return Ok(Obeyed {
-            taker,
-            turn,
-            fires: false,
-        });
-    }
     let mut taker = taker;
-    let number = at.lines + 1;
-    match command_with(alloc, line, &mut taker.scratch) {
-        Ok(wanted) => {
-            let fires = fires_command(&wanted);
-            let Obeying {
-                engine,
-                limit,
-                live,
-                form,
-                scratch,
-            } = taker;
-            let line = FireLine {
-                number,
-                limit,
-                live,
-                form: &form,
-            };
-            let (engine, turn) = obey(alloc, engine, line, at.left, &wanted, text)?;
-            let taker = Obeying {
-                engine,
-                limit,
-                live,
-                form,
-                scratch,
-            };
-            Ok(Obeyed { taker, turn, fires })
-        }
-        Err(CommandFault::NoMemory) => Err(NoMemory),
-        Err(CommandFault::BadJson) => {
-            push_fault(text, alloc, &taker.form, number, LineCode::BadJson)?;
-            let turn = Turn::Goes(true, at.left);
-            Ok(Obeyed {
-                taker,
-                turn,
-                fires: false,
-            })
-        }
-        Err(CommandFault::BadCommand) => {
-            push_fault(text, alloc, &taker.form, number, LineCode::BadCommand)?;
-            let turn = Turn::Goes(true, at.left);
-            Ok(Obeyed {
-                taker,
-                turn,
-                fires: false,
-            })
-        }
-    }
+    let read = read_line(alloc, line, &mut taker.scratch)?;
+    obey_read(alloc, taker, at, &read, text)
 }
 
 // How many firings a fire command made before which so many were left, and whether a match is pending behind it.
@@ -188,8 +245,31 @@ fn made<E: Engine>(engine: &E, fires: bool, had: u64, left: u64) -> Option<(u64,
     }
 }
 
-// Appends what closes a line of a live run, where that goes on: a line before which so many firings were left.
-fn close<E: Engine>(
+// Appends what closes a line of a live run, behind which so many firings are left.
+fn close_live<E: Engine>(
+    alloc: Global,
+    taker: &Obeying<E>,
+    at: Progress,
+    fires: bool,
+    left: u64,
+    text: &mut Vec<u8>,
+) -> Result<(), NoMemory>
+    requires counted { at.lines + 1 < 2 ^ 64 }
+    ensures { OnOk result ((setting : RunSetting) (w : World) → E.stands taker.now.engine w → setting.fires ≡ E.fires → setting.program ≡ E.made_with taker.now.engine
+        → setting.form ≡ taker.now.form → setting.live ≡ taker.now.live
+        → text.new.items ≡ text.old.items ++ end_text setting setting.live (at.lines + 1) (fired_of setting fires at.left left w)) }
+{
+    match taker.live {
+        Some(_) => {
+            let fired = made(&taker.engine, fires, at.left, left);
+            push_done(text, alloc, &taker.form, at.lines + 1, fired)
+        }
+        None => Ok(()),
+    }
+}
+
+/// Appends what closes a line of a live run, where that goes on: a line before which so many firings were left.
+pub(crate) fn close<E: Engine>(
     alloc: Global,
     taker: &Obeying<E>,
     at: Progress,
@@ -203,17 +283,12 @@ fn close<E: Engine>(
 {
     match turn {
         Turn::Stops => Ok(()),
-        Turn::Goes(_, left) => match taker.live {
-            Some(_) => {
-                let fired = made(&taker.engine, fires, at.left, left);
-                push_done(text, alloc, &taker.form, at.lines + 1, fired)
-            }
-            None => Ok(()),
-        },
+        Turn::Goes(_, left) => close_live(alloc, taker, at, fires, left, text),
+        Turn::Saves(_, left) => close_live(alloc, taker, at, fires, left, text),
     }
 }
 
-impl<E: Engine> LineTaker for Obeying<E> {
+impl<E: Engine, K: Sink> LineTaker<K> for Obeying<E> {
     ghost stands = { λ taker. E.stands taker.engine };
 
     ghost steps = { λ taker. step_in (setting_with taker.live taker.form E.gives E.fires E.counts taker.limit (E.made_with taker.engine) (E.table taker.engine)) };
@@ -224,6 +299,11 @@ impl<E: Engine> LineTaker for Obeying<E> {
 
     // the tags given, and those that the firings that are left and these lines may give
     ghost ready = { λ taker at n. E.tags taker.engine + 16 * at.left + 16 * n < 2 ^ 62 };
+
+    // no image is put
+    ghost puts = { λ _ _ before after. after ≡ before };
+
+    ghost refuses = { λ _ _ _. ⊥ };
 
     fn take(
         self,
@@ -252,5 +332,9 @@ impl<E: Engine> LineTaker for Obeying<E> {
                 Ok((taker, Some(turn)))
             }
         }
+    }
+
+    fn keep(&self, _alloc: Global, _at: Progress, _out: &mut K) -> Result<(), KeepFault> {
+        Ok(())
     }
 }

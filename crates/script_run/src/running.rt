@@ -6,17 +6,18 @@ ghost use Rattle.rule_world.specs.Programs.{IsRunnable};
 ghost use Rattle.rule_world.specs.Worlds.{World};
 ghost use Rattle.line_run.specs.Prompt.{heard, whole_lines, IsPromptRun};
 ghost use Rattle.line_run.specs.Run.{state_in};
-ghost use Rattle.line_run.specs.Turns.{AtEnd, ReachesWorld, ended_as, as_ended};
+ghost use Rattle.line_run.specs.Turns.{AtEnd, ReachesWorld, ended_as};
 ghost use Rattle.line_run.specs.Unfinished.{StoppedAtRead};
 ghost use Rattle.script_run.specs.Run.{setting_of, run as run_lines, whole_run};
-ghost use Rattle.script_run.specs.Turns.{TakesScript};
+ghost use Rattle.script_run.specs.Turns.{TakesScript, as_ended};
 ghost use Rattle.script_run.specs.Unfinished.{Long};
 
 use crate::form::Form;
 use crate::obeying::{Obeying, boxed_scratch};
+use crate::run_fault::RunFault;
 use engine::Engine;
 use fx_io::{Sink, Source};
-use line_run::{Ended, Progress, RunFault, run_lines};
+use line_run::{Ended, Progress, StopFault, run_lines};
 use rule_model::{LifeTable, Program};
 use std::alloc::Global;
 
@@ -82,7 +83,11 @@ pub fn run_from<E: Engine, S: Source<K>, K: Sink>(
     match run_lines(alloc, taker, at, SCRIPT_MAX, script, out, silent) {
         Ok(Some((taker, at))) => Ok(Some((taker.engine, at))),
         Ok(None) => Ok(None),
-        Err(fault) => Err(fault),
+        Err(StopFault::ReadFault) => Err(RunFault::ReadFault),
+        Err(StopFault::WriteFault) => Err(RunFault::WriteFault),
+        Err(StopFault::ScriptLong) => Err(RunFault::ScriptLong),
+        // No line of a recorded script saves, so none is refused.
+        Err(StopFault::NoMemory) | Err(StopFault::Refused(_)) => Err(RunFault::NoMemory),
     }
 }
 

@@ -1,11 +1,12 @@
 ghost use Rattle.std.specs.Prelude.{◌≡◌, ◌++◌, OnOk, slice_get};
 ghost use Rattle.std.specs.Fmt.{decimal, signed_decimal};
 ghost use Rattle.std.specs.List.{flat_map};
-ghost use Rattle.script_run.specs.Texts.{type_name, rule_name, quoted_byte, cell_text, done_text, fault_text, limit_text, met_text, line_text, new_text};
+ghost use Rattle.script_run.specs.Texts.{type_name, rule_name, quoted_byte, cell_text, done_text, fact_text, fault_text, limit_text, met_text, line_text};
+ghost use Rattle.script_run.specs.Texts.{named_text, new_text, saved_text};
 
 use crate::fault::LineCode;
 use engine::{Cell, OutLine};
-use fx_base::{FactId, NoMemory, TypeId};
+use fx_base::{Fact, FactId, NoMemory, TypeId};
 use itoa::Buffer;
 use rule_model::{Program, Rule, TypeInfo};
 
@@ -87,15 +88,40 @@ fn push_cells(text: &mut Vec<u8>, cells: &[Cell]) -> Result<(), NoMemory>
     Ok(())
 }
 
+// Appends the id of a fact and its type, which end a line.
+fn push_named(text: &mut Vec<u8>, program: &Program, id: FactId, ty: TypeId) -> Result<(), NoMemory>
+    ensures { OnOk result (text.new.items ≡ text.old.items ++ named_text program.now id ty) }
+{
+    push_number(text, id.0)?;
+    text.extend_from_slice(b" ")?;
+    let name = name_of_type(program.types.as_slice(), ty.0 as usize);
+    text.extend_from_slice(name.as_bytes())?;
+    text.push(b'\n')?;
+    Ok(())
+}
+
 // Appends the line of a new fact.
 fn push_new(text: &mut Vec<u8>, program: &Program, id: FactId, ty: TypeId) -> Result<(), NoMemory>
     ensures { OnOk result (text.new.items ≡ text.old.items ++ new_text program.now id ty) }
 {
     text.extend_from_slice(b"new #")?;
-    push_number(text, id.0)?;
-    text.extend_from_slice(b" ")?;
-    let name = name_of_type(program.types.as_slice(), ty.0 as usize);
-    text.extend_from_slice(name.as_bytes())?;
+    push_named(text, program, id, ty)
+}
+
+/// Appends the line of a fact that is kept.
+pub(crate) fn push_fact(text: &mut Vec<u8>, program: &Program, fact: &Fact) -> Result<(), NoMemory>
+    ensures { OnOk result (text.new.items ≡ text.old.items ++ fact_text program.now fact.now.id fact.now.ty) }
+{
+    text.extend_from_slice(b"fact #")?;
+    push_named(text, program, fact.id, fact.ty)
+}
+
+/// Appends the line of an image that is in its file, as the line of the script with this number asks.
+pub(crate) fn push_saved(text: &mut Vec<u8>, number: u64) -> Result<(), NoMemory>
+    ensures { OnOk result (text.new.items ≡ text.old.items ++ saved_text number) }
+{
+    text.extend_from_slice(b"saved ")?;
+    push_number(text, number)?;
     text.push(b'\n')?;
     Ok(())
 }

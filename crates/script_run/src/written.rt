@@ -1,13 +1,15 @@
 //! What a run prints, by the form of its answers.
 ghost use Rattle.std.specs.Prelude.{◌≡◌, ◌++◌, ◌||◌, IfOk, OnOk, option_map};
 ghost use Rattle.script_run.specs.Texts.{has_fault, is_fault};
-ghost use Rattle.script_run.specs.Written.{written_done, written_fault, written_limit, written_line, written_lines, written_met};
+ghost use Rattle.script_run.specs.Written.{kept_by, written_counts, written_done, written_fault, written_kept, written_limit};
+ghost use Rattle.script_run.specs.Written.{written_line, written_lines, written_met, written_saved};
 
 use crate::fault::LineCode;
 use crate::form::Form;
 use crate::text;
+use answer_json::Counted;
 use engine::OutLine;
-use fx_base::NoMemory;
+use fx_base::{Fact, NoMemory};
 use rule_model::Program;
 use std::alloc::Global;
 
@@ -102,6 +104,72 @@ pub(crate) fn push_met(
     match form {
         Form::Text => text::push_met(text, number, each),
         Form::Objects(_) => answer_json::push_limit(text, alloc, number, each),
+    }
+}
+
+/// Appends that the image for which the line of this number asks is in its file.
+pub(crate) fn push_saved(
+    text: &mut Vec<u8>,
+    alloc: Global,
+    form: &Form,
+    number: u64,
+) -> Result<(), NoMemory>
+    ensures { OnOk result (text.new.items ≡ text.old.items ++ written_saved form.now number) }
+{
+    match form {
+        Form::Text => text::push_saved(text, number),
+        Form::Objects(_) => answer_json::push_saved(text, alloc, number),
+    }
+}
+
+/// Appends what is said of a fact that is kept.
+pub(crate) fn push_fact(
+    text: &mut Vec<u8>,
+    alloc: Global,
+    form: &Form,
+    program: &Program,
+    number: u64,
+    fact: &Fact,
+) -> Result<(), NoMemory>
+    ensures { OnOk result (text.new.items ≡ text.old.items ++ kept_by form.now program.now number fact.now) }
+{
+    match form {
+        Form::Text => text::push_fact(text, program, fact),
+        Form::Objects(_) => answer_json::push_kept(text, alloc, program, number, fact),
+    }
+}
+
+/// Appends the kept facts for which the line of this number asks.
+pub(crate) fn push_kept(
+    text: &mut Vec<u8>,
+    alloc: Global,
+    form: &Form,
+    program: &Program,
+    number: u64,
+    facts: &[Fact],
+) -> Result<(), NoMemory>
+    ensures { OnOk result (text.new.items ≡ text.old.items ++ written_kept form.now program.now number facts.now) }
+{
+    for fact in facts {
+        push_fact(text, alloc, form, program, number, fact)?;
+    }
+    Ok(())
+}
+
+/// Appends the counts for which the line of this number asks, where the form is of objects.
+pub(crate) fn push_counts(
+    text: &mut Vec<u8>,
+    alloc: Global,
+    form: &Form,
+    program: &Program,
+    number: u64,
+    counted: &Counted,
+) -> Result<(), NoMemory>
+    ensures { OnOk result (text.new.items ≡ text.old.items ++ written_counts form.now program.now number counted.now) }
+{
+    match form {
+        Form::Text => Ok(()),
+        Form::Objects(_) => answer_json::push_counts(text, alloc, program, number, counted),
     }
 }
 

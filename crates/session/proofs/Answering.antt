@@ -1,5 +1,5 @@
 -- What two clauses of a call say together, and answers of firings that stand for less.
-use Rattle.session.proofs.Common.{◌≡◌, List, Option, Some, None, Result, Ok, Err, IfOk, World}
+use Rattle.session.proofs.Common.{List, Option, Some, None, Result, Ok, Err, IfOk, World}
 use Rattle.engine.specs.Answers.{FiringAnswers}
 use Rattle.answer_lines.specs.declared.lines.Fired.{Fired}
 use Rattle.answer_lines.specs.declared.lines.OutLine.{OutLine}

@@ -2,3 +2,4 @@ mod Common
 mod OfImage
 mod Stops
 mod Answering
+mod Questions

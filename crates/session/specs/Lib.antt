@@ -2,3 +2,4 @@ pub mod Sessions
 pub mod Restores
 pub mod Codes
 pub mod Holds
+pub mod Inspected

@@ -1,5 +1,6 @@
 //! The engine: it keeps the facts of a program that some rule can still need, its clock, the network of its rules and an agenda, and
-//! answers the lines of each change and firing, in brief or in full. What it answers is the world's, which keeps every fact.
+//! answers the lines of each change and firing, in brief or in full. What it answers is the world's, which keeps every fact. It tells what
+//! it keeps, and counts.
 //! Calls that allocate answer `NoMemory` where memory is refused.
 #![tactic(auto)]
 
@@ -8,6 +9,7 @@ mod counting;
 mod course;
 mod detailed;
 mod firing;
+mod inspecting;
 pub mod laws;
 mod moving;
 mod refreshing;
@@ -20,7 +22,7 @@ mod state;
 mod steps;
 
 pub use detailed::DetailedSession;
-pub use engine::{Cell, Detail, Engine, Fired, Lines, OutLine};
+pub use engine::{Cell, Detail, Engine, Fired, Inspect, Lines, OutLine, WorldCounts};
 pub use rule_world::Code;
 pub use session::Session;
 pub use session_laws::{Memory, Setting};

@@ -126,8 +126,8 @@ fn boxed(alloc: Global, state: State, memory: Memory) -> Result<(Box<State>, Box
     Ok((Box::new(alloc, state)?, Box::new(alloc, memory)?))
 }
 
-// Copies of these facts, in their order.
-fn copies_of(alloc: Global, facts: &[&Fact]) -> Result<Vec<Fact>, NoMemory>
+/// Copies of these facts, in their order.
+pub(crate) fn copies_of(alloc: Global, facts: &[&Fact]) -> Result<Vec<Fact>, NoMemory>
     ensures { IfOk result (λ copies. copies.items ≡ lent facts.now) }
 {
     let mut copies = Vec::with_capacity(alloc, facts.len())?;

@@ -29,9 +29,9 @@ pub(crate) fn saliences_of(alloc: Global, rules: &[Rule]) -> Result<Vec<i64>, No
     Ok(all)
 }
 
-/// An engine of a program, whose lines tell in brief, or in full as those of `DetailedSession`. It keeps, under their tags, the present facts that some rule can still need, the
-/// moments at which events expire, the clock, what the entry points have reached, whether the world has begun, an agenda, the network of
-/// its rules, and the events whose lives end.
+/// An engine of a program, whose lines tell in brief, or in full as those of `DetailedSession`. It keeps, under their tags, the present
+/// facts that some rule can still need, the moments at which events expire, the clock, what the entry points have reached, whether the world
+/// has begun, an agenda, the network of its rules, and the events whose lives end.
 #[derive(Drop)]
 pub struct Session {
     pub(crate) setting: Running,

@@ -89,7 +89,8 @@ module _ (held : HeldFacts) (facts : List Fact) (h : Holds held facts) (ids : Ha
   type_counted ty count c =
       c.2 ∙ same_length (λ id tag. is_of ty id (map_of.get held tag)) c.0 (ids_of (facts_of_type ty facts)) c.1 (of_type ty) ∙ length-map (facts_of_type ty facts) (λ (f : Fact). f.id.0)
 
-  all_counted : (types : List TypeId) (counts : List ℕ) → AreCounts held types counts → counts ≡ map (λ (ty : TypeId). length (facts_of_type ty.0 facts)) types
+  -- each count is that of the facts of its type
+  pub all_counted : (types : List TypeId) (counts : List ℕ) → AreCounts held types counts → counts ≡ map (λ (ty : TypeId). length (facts_of_type ty.0 facts)) types
   all_counted [] [] are = refl
   all_counted [] (count ∷ counts) are = absurd are
   all_counted (ty ∷ types) [] are = absurd are

@@ -57,11 +57,11 @@ class Desk(Run):
         self.tell(number, LimitOfLine(self.limit))
 
     def kept(self, type_name: Optional[str]) -> list[Kept]:
-        """The kept facts of a type, or of all, in the order of their ids."""
+        """The kept facts of a type, or of all, in the order of their tags: as they came, or were modified last."""
         if type_name is not None and type_name not in self.world.program.types:
             raise Fault("UnknownType")
         facts = [f for f in kept_facts(self.world) if type_name in (None, f.type)]
-        return [Kept(f) for f in sorted(facts, key=lambda f: f.id)]
+        return [Kept(f) for f in sorted(facts, key=lambda f: f.tag)]
 
     def counted(self) -> Counted:
         w, kept = self.world, Counter(f.type for f in kept_facts(self.world))

@@ -1,4 +1,4 @@
-use Rattle.std.proofs.Common.{sym, subst, option_map}
+use Rattle.std.proofs.Common.{sym, subst}
 use Rattle.std.specs.Prelude.{IfSome}
 use Rattle.script_run.specs.declared.form.Form.{Form}
 use Rattle.desk.specs.Lives.{live_of}
@@ -8,16 +8,16 @@ use Rattle.desk.proofs.serving.run_by_form.Goals as goal
 
 pub returns-in-Text-clause-stopped : goal.returns-in-Text-clause-stopped
 returns-in-Text-clause-stopped g c five =
-    subst (λ (form : Form). IfSome (g.S.Source.left c.args.script.now) (λ bytes. IsStoppedRun (meanings (both g.E.Engine.gives g.E.Engine.fires g.E.Engine.counts g.D.Engine.gives g.D.Engine.fires g.D.Engine.counts) form) (live_of c.args.live (option_map (λ name. name.now) c.args.image)) bytes
-    (g.S.Source.left c.run.new.script) (g.K.Sink.written c.args.out.now) (g.K.Sink.written c.run.new.out))) (sym c.in-Text.is) (c.run.ensures.stopped five)
+    subst (λ (form : Form). IfSome (g.S.Source.left c.args.script.now) (λ bytes. IsStoppedRun (meanings (both g.E.Engine.gives g.E.Engine.fires g.E.Engine.counts g.D.Engine.gives g.D.Engine.fires g.D.Engine.counts) form) (live_of c.args.live) bytes
+    (g.S.Source.left c.run.new.script) (g.K.Sink.written c.args.out.now) (g.K.Sink.written c.run.new.out) (g.K.Sink.files c.args.out.now) (g.K.Sink.files c.run.new.out))) (sym c.in-Text.is) (c.run.ensures.stopped five)
 
 pub returns-in-Objects-clause-served : goal.returns-in-Objects-clause-served
 returns-in-Objects-clause-served g c =
-    subst (λ (form : Form). IfSome (g.S.Source.left c.args.script.now) (λ bytes. IsRun (meanings (both g.E.Engine.gives g.E.Engine.fires g.E.Engine.counts g.D.Engine.gives g.D.Engine.fires g.D.Engine.counts) form) (live_of c.args.live (option_map (λ name. name.now) c.args.image)) bytes
-    (g.K.Sink.written c.args.out.now) (g.K.Sink.written c.run-in-Objects.new.out) (g.T.Store.files c.args.store.now) (g.T.Store.files c.run-in-Objects.new.store) c.run-in-Objects.result)) (sym c.in-Objects.is)
+    subst (λ (form : Form). IfSome (g.S.Source.left c.args.script.now) (λ bytes. IsRun (meanings (both g.E.Engine.gives g.E.Engine.fires g.E.Engine.counts g.D.Engine.gives g.D.Engine.fires g.D.Engine.counts) form) (live_of c.args.live) bytes
+    (g.K.Sink.written c.args.out.now) (g.K.Sink.written c.run-in-Objects.new.out) (g.K.Sink.files c.args.out.now) (g.K.Sink.files c.run-in-Objects.new.out) c.run-in-Objects.result)) (sym c.in-Objects.is)
     c.run-in-Objects.ensures.served
 
 pub returns-in-Objects-clause-stopped : goal.returns-in-Objects-clause-stopped
 returns-in-Objects-clause-stopped g c five =
-    subst (λ (form : Form). IfSome (g.S.Source.left c.args.script.now) (λ bytes. IsStoppedRun (meanings (both g.E.Engine.gives g.E.Engine.fires g.E.Engine.counts g.D.Engine.gives g.D.Engine.fires g.D.Engine.counts) form) (live_of c.args.live (option_map (λ name. name.now) c.args.image)) bytes
-    (g.S.Source.left c.run-in-Objects.new.script) (g.K.Sink.written c.args.out.now) (g.K.Sink.written c.run-in-Objects.new.out))) (sym c.in-Objects.is) (c.run-in-Objects.ensures.stopped five)
+    subst (λ (form : Form). IfSome (g.S.Source.left c.args.script.now) (λ bytes. IsStoppedRun (meanings (both g.E.Engine.gives g.E.Engine.fires g.E.Engine.counts g.D.Engine.gives g.D.Engine.fires g.D.Engine.counts) form) (live_of c.args.live) bytes
+    (g.S.Source.left c.run-in-Objects.new.script) (g.K.Sink.written c.args.out.now) (g.K.Sink.written c.run-in-Objects.new.out) (g.K.Sink.files c.args.out.now) (g.K.Sink.files c.run-in-Objects.new.out))) (sym c.in-Objects.is) (c.run-in-Objects.ensures.stopped five)

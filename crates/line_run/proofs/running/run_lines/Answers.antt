@@ -1,16 +1,18 @@
-use Rattle.line_run.proofs.Common.{◌≡◌, ℕ, Ok, subst, to_come, ◌++◌, true, false, not, [], take, arith, sym, ap, ◌∙◌, refl, append, AppendsFront, lines_of, lines_ahead, Goes}
-use Rattle.line_run.proofs.Common.{Stops, state_in, at_end, at_limit, run}
+use Rattle.line_run.proofs.Common.{◌≡◌, ℕ, Ok, Err, subst, to_come, ◌++◌, true, false, not, [], take, arith, sym, ap, ◌∙◌, refl, inl, inr, append, AppendsFront, lines_of, lines_ahead, Goes, Saves, Stops}
+use Rattle.line_run.proofs.Common.{World, state_in, at_end, at_limit, run}
 use Rattle.fx_io.specs.Reader.{Reader}
-use Rattle.line_run.specs.declared.fault.RunFault.TheVariants.{NoMemory, WriteFault}
+use Rattle.line_run.specs.declared.fault.KeepFault.{KeepFault}
+use Rattle.line_run.specs.declared.fault.StopFault.TheVariants.{NoMemory, WriteFault}
+use Rattle.line_run.specs.Faults.{unkept_fault}
 use Rattle.line_run.specs.Prompt.{heard}
-use Rattle.line_run.proofs.Ahead.{goes_further, ends_there, flushed, all_done, no_line, no_more, heard_run, heard_ended, stopped, stopped_in}
-use Rattle.line_run.proofs.Ahead.{stopped_at_read, long_run, long_heard}
-use Rattle.line_run.proofs.Asking.{asks_first, asks_flushed, asks_mid_line, asks_turned, nothing_said, said_flushed, said_hushed, said_stays}
+use Rattle.line_run.proofs.Ahead.{goes_turn, saves_turn, saves_at, saves_of, behind_is, goes_further, ends_there, flushed, flushed_front, front_flushed, all_flushed, before_saving}
+use Rattle.line_run.proofs.Ahead.{all_done, all_put, no_line, no_line_saves, no_more, no_more_saves, none_saved, heard_run, heard_ended, stopped, stopped_in, stopped_kept}
+use Rattle.line_run.proofs.Ahead.{stopped_kept_err, stopped_in_kept, stopped_at_read, refused_there, long_run, long_heard}
+use Rattle.line_run.proofs.Ahead.{told_err, if_told, at_start, moves_on, written_then, append_nothing}
+use Rattle.line_run.proofs.Asking.{asks_first, asks_flushed, asks_mid_line, asks_turned, nothing_said, said_flushed, said_hushed, said_stays, said_front}
 use Rattle.line_run.proofs.Asking.{quiet_first, quiet_so, quiet_flushed, quiet_front, quiet_all}
-use Rattle.line_run.proofs.Ahead.{told_err, if_told, at_start, moves_on, flushed_front, written_then, append_nothing}
-use Rattle.line_run.proofs.Stops.{err_of, given_since, takes_stop, long_stop, read_stop, long_taken, exhausted, none_given, stops_mid_line}
-use Rattle.line_run.proofs.Stops.{no_memory_at_read}
-use Rattle.line_run.proofs.Stops.{no_memory_at_length, none_kept, has_at_most, first_to_come, last_to_come, some_to_come}
+use Rattle.line_run.proofs.Stops.{err_of, given_since, takes_stop, takes_unkept, refused_so, long_stop, read_stop, long_taken, exhausted, none_given, stops_mid_line}
+use Rattle.line_run.proofs.Stops.{no_memory_at_read, no_memory_at_length, none_kept, has_at_most, first_to_come, last_to_come, some_to_come}
 use Rattle.line_run.proofs.running.run_lines.Goals as goal
 use Rattle.line_run.proofs.running.run_lines.Goals.{then-not-is_ready, else-not-is_ready}
 
@@ -24,7 +26,7 @@ pub returns-in-Err-clause-front : goal.returns-in-Err-clause-front
 returns-in-Err-clause-front g c w st =
     let inv = c.loop-text.invariant in
     let so = inv.so_far.2 w st in
-    let now = flushed (g.K.Sink.written c.flush.new.out) c.flush.new.text.items so.2 c.in_ok-flush.ensures.ok in
+    let now = flushed (g.K.Sink.written c.flush.new.out) c.flush.new.text.items (g.K.Sink.files c.flush.new.out) so.2 c.in_ok-flush.ensures.ok c.flush.ensures.files in
     stopped (g.S.Source.left c.args.script.now) now
 
 pub returns-in-Err-clause-taken : goal.returns-in-Err-clause-taken
@@ -41,7 +43,7 @@ returns-in-Err-clause-long g c w st is =
     let steps = g.T.LineTaker.steps c.args.taker in
     let inv = c.loop-text.invariant in
     let so = inv.so_far.2 w st in
-    let now = flushed (g.K.Sink.written c.flush.new.out) c.flush.new.text.items so.2 c.in_ok-flush.ensures.ok in
+    let now = flushed (g.K.Sink.written c.flush.new.out) c.flush.new.text.items (g.K.Sink.files c.flush.new.out) so.2 c.in_ok-flush.ensures.ok c.flush.ensures.files in
     let gives = c.in-Err.ensures.gives inv.fault in
     let stops = rw inv.total_max at gives.2 in
     let taken = long_taken c.in-Err.fault c.of_line_fault.result _ c.next_line.new.self.taken c.args.most c.of_line_fault.ensures is stops in
@@ -55,7 +57,7 @@ returns-in-Err-clause-stopped_at_read g c w st is =
     let steps = g.T.LineTaker.steps c.args.taker in
     let inv = c.loop-text.invariant in
     let so = inv.so_far.2 w st in
-    let now = flushed (g.K.Sink.written c.flush.new.out) c.flush.new.text.items so.2 c.in_ok-flush.ensures.ok in
+    let now = flushed (g.K.Sink.written c.flush.new.out) c.flush.new.text.items (g.K.Sink.files c.flush.new.out) so.2 c.in_ok-flush.ensures.ok c.flush.ensures.files in
     let gives = c.in-Err.ensures.gives inv.fault in
     let stop = read_stop c.in-Err.fault c.of_line_fault.result _ _ c.of_line_fault.ensures is (c.in-Err.ensures.stops inv.fault) in
     let mid = stops_mid_line c.in-Err.fault c.of_line_fault.result _ _ _ c.of_line_fault.ensures (no_memory_at_read c.of_line_fault.result is) gives.2 in
@@ -64,14 +66,31 @@ returns-in-Err-clause-stopped_at_read g c w st is =
       | then-not-is_ready w ↦ c.in_ok-flush.ensures.all (w.wanted-is ∙ ap not w.if-not-is_ready.true)
       | else-not-is_ready w ↦ absurd (let both : true ≡ false = sym w.if-not-is_ready.false ∙ c.is_ready.ensures ∙ not_ready in cc)
     ] in
-    stopped_at_read (g.S.Source.left c.args.script.now) (g.S.Source.left c.next_line.new.source) (state_in so.0 c.loop-text.at) now none (heard_ended c.args.silent steps (state_in so.0 c.loop-text.at)) stop
+    if_told (g.S.Source.left c.args.script.now) (λ bytes it. it.stop)
+    (stopped_at_read (g.S.Source.left c.args.script.now) (g.S.Source.left c.next_line.new.source) (state_in so.0 c.loop-text.at) now none (heard_ended c.args.silent steps (state_in so.0 c.loop-text.at)) (none_saved steps (state_in so.0 c.loop-text.at)) stop)
+
+pub returns-in-Err-clause-kept_at_read : goal.returns-in-Err-clause-kept_at_read
+returns-in-Err-clause-kept_at_read g c w st is =
+    let steps = g.T.LineTaker.steps c.args.taker in
+    let inv = c.loop-text.invariant in
+    let so = inv.so_far.2 w st in
+    let now = flushed (g.K.Sink.written c.flush.new.out) c.flush.new.text.items (g.K.Sink.files c.flush.new.out) so.2 c.in_ok-flush.ensures.ok c.flush.ensures.files in
+    let gives = c.in-Err.ensures.gives inv.fault in
+    let stop = read_stop c.in-Err.fault c.of_line_fault.result _ _ c.of_line_fault.ensures is (c.in-Err.ensures.stops inv.fault) in
+    let mid = stops_mid_line c.in-Err.fault c.of_line_fault.result _ _ _ c.of_line_fault.ensures (no_memory_at_read c.of_line_fault.result is) gives.2 in
+    let not_ready = none_kept c.loop-text.reader.kept gives.0 mid in
+    let none : c.flush.new.text.items ≡ [] = elim c.if-not-is_ready.branch [
+      | then-not-is_ready w ↦ c.in_ok-flush.ensures.all (w.wanted-is ∙ ap not w.if-not-is_ready.true)
+      | else-not-is_ready w ↦ absurd (let both : true ≡ false = sym w.if-not-is_ready.false ∙ c.is_ready.ensures ∙ not_ready in cc)
+    ] in
+    stopped_at_read (g.S.Source.left c.args.script.now) (g.S.Source.left c.next_line.new.source) (state_in so.0 c.loop-text.at) now none (heard_ended c.args.silent steps (state_in so.0 c.loop-text.at)) (none_saved steps (state_in so.0 c.loop-text.at)) stop
 
 pub returns-in-Err-clause-stopped_at_length : goal.returns-in-Err-clause-stopped_at_length
 returns-in-Err-clause-stopped_at_length g c w st is =
     let steps = g.T.LineTaker.steps c.args.taker in
     let inv = c.loop-text.invariant in
     let so = inv.so_far.2 w st in
-    let now = flushed (g.K.Sink.written c.flush.new.out) c.flush.new.text.items so.2 c.in_ok-flush.ensures.ok in
+    let now = flushed (g.K.Sink.written c.flush.new.out) c.flush.new.text.items (g.K.Sink.files c.flush.new.out) so.2 c.in_ok-flush.ensures.ok c.flush.ensures.files in
     let gives = c.in-Err.ensures.gives inv.fault in
     let stop = long_stop c.in-Err.fault c.of_line_fault.result _ _ c.of_line_fault.ensures is (c.in-Err.ensures.stops inv.fault) in
     let mid = stops_mid_line c.in-Err.fault c.of_line_fault.result _ _ _ c.of_line_fault.ensures (no_memory_at_length c.of_line_fault.result is) gives.2 in
@@ -80,14 +99,15 @@ returns-in-Err-clause-stopped_at_length g c w st is =
       | then-not-is_ready w ↦ c.in_ok-flush.ensures.all (w.wanted-is ∙ ap not w.if-not-is_ready.true)
       | else-not-is_ready w ↦ absurd (let both : true ≡ false = sym w.if-not-is_ready.false ∙ c.is_ready.ensures ∙ not_ready in cc)
     ] in
-    stopped_at_read (g.S.Source.left c.args.script.now) (g.S.Source.left c.next_line.new.source) (state_in so.0 c.loop-text.at) now none (heard_ended c.args.silent steps (state_in so.0 c.loop-text.at)) stop
+    if_told (g.S.Source.left c.args.script.now) (λ bytes it. it.stop)
+    (stopped_at_read (g.S.Source.left c.args.script.now) (g.S.Source.left c.next_line.new.source) (state_in so.0 c.loop-text.at) now none (heard_ended c.args.silent steps (state_in so.0 c.loop-text.at)) (none_saved steps (state_in so.0 c.loop-text.at)) stop)
 
 pub returns-in_err-next-clause-front : goal.returns-in_err-next-clause-front
 returns-in_err-next-clause-front g c w st =
     let steps = g.T.LineTaker.steps c.args.taker in
     let inv = c.loop-text.invariant in
     let so = inv.so_far.2 w st in
-    let now = flushed (g.K.Sink.written c.flush.new.out) c.flush.new.text.items so.2 c.in_ok-flush.ensures.ok in
+    let now = flushed (g.K.Sink.written c.flush.new.out) c.flush.new.text.items (g.K.Sink.files c.flush.new.out) so.2 c.in_ok-flush.ensures.ok c.flush.ensures.files in
     told_err (g.S.Source.left c.args.script.now) c.from_residual-in_err-next.result (λ bytes. AppendsFront (g.K.Sink.written c.args.out.now) (g.K.Sink.written c.flush.new.out) (heard c.args.silent (run steps (state_in w c.args.at) (lines_of bytes))).bytes)
     (stopped (g.S.Source.left c.args.script.now) now)
 
@@ -103,7 +123,7 @@ returns-in_err-write_all-in-None-clause-front g c w st =
     let steps = g.T.LineTaker.steps c.args.taker in
     let inv = c.loop-text.invariant in
     let so = inv.so_far.2 w st in
-    let now = flushed (g.K.Sink.written c.flush.new.out) c.flush.new.text.items so.2 c.in_ok-flush.ensures.ok in
+    let now = flushed (g.K.Sink.written c.flush.new.out) c.flush.new.text.items (g.K.Sink.files c.flush.new.out) so.2 c.in_ok-flush.ensures.ok c.flush.ensures.files in
     let answers = rw inv.line_max at c.in-Ok.ensures.line in
     let ended = rw c.in-None.is at (c.in_ok-next.ensures.turn so.0 _ _ so.1 answers) in
     let none = said_flushed c.args.silent _ _ c.loop-text.text.items c.flush.new.text.items inv.hushed c.in_ok-flush.ensures.ok in
@@ -130,7 +150,7 @@ returns-in-None-clause-done g c =
       all ∙ written_then (g.K.Sink.written c.args.out.now) _ _ (flushed_front (g.K.Sink.written c.args.out.now) inv.so_far.0 inv.so_far.1 flush) c.hush.new.text.items,
       λ w st.
           let so = inv.so_far.2 w st in
-          let now = flushed (g.K.Sink.written c.flush.new.out) c.flush.new.text.items so.2 flush in
+          let now = flushed (g.K.Sink.written c.flush.new.out) c.flush.new.text.items (g.K.Sink.files c.flush.new.out) so.2 flush c.flush.ensures.files in
           let answers = rw inv.line_max at c.in-Ok.ensures.line in
           let ended = rw c.in-None.is at (c.in_ok-next.ensures.turn so.0 _ _ so.1 answers) in
           let same : c.in_ok-next.next ≡ c.loop-text.taker = c.in_ok-next.ensures.stays c.in-None.is in
@@ -165,7 +185,7 @@ returns-in_err-write_all-in-Some-Stops-clause-front g c w st =
     let steps = g.T.LineTaker.steps c.args.taker in
     let inv = c.loop-text.invariant in
     let so = inv.so_far.2 w st in
-    let now = flushed (g.K.Sink.written c.flush.new.out) c.flush.new.text.items so.2 c.in_ok-flush.ensures.ok in
+    let now = flushed (g.K.Sink.written c.flush.new.out) c.flush.new.text.items (g.K.Sink.files c.flush.new.out) so.2 c.in_ok-flush.ensures.ok c.flush.ensures.files in
     let answers = rw inv.line_max at c.in-Ok.ensures.line in
     let is : c.in-Some-Stops.field-0 ≡ Stops = rw c.in-Some-Stops.is at c.in-Some-Stops.field-0-is in
     let turn = rw (c.in-Some-Stops.is, is, inv.steps) at (c.in_ok-next.ensures.turn so.0 _ _ so.1 answers) in
@@ -194,7 +214,7 @@ returns-in-Some-Stops-clause-done g c =
       all ∙ written_then (g.K.Sink.written c.args.out.now) _ _ (flushed_front (g.K.Sink.written c.args.out.now) inv.so_far.0 inv.so_far.1 flush) c.hush.new.text.items,
       λ w st.
           let so = inv.so_far.2 w st in
-          let now = flushed (g.K.Sink.written c.flush.new.out) c.flush.new.text.items so.2 flush in
+          let now = flushed (g.K.Sink.written c.flush.new.out) c.flush.new.text.items (g.K.Sink.files c.flush.new.out) so.2 flush c.flush.ensures.files in
           let answers = rw inv.line_max at c.in-Ok.ensures.line in
           let is : c.in-Some-Stops.field-0 ≡ Stops = rw c.in-Some-Stops.is at c.in-Some-Stops.field-0-is in
           let turn = rw (c.in-Some-Stops.is, is, inv.steps) at (c.in_ok-next.ensures.turn so.0 _ _ so.1 answers) in
@@ -223,15 +243,17 @@ loop-text-init g c =
       so_far = (
         [],
         sym (append_nothing (g.K.Sink.written c.args.out.now)),
-        λ w st. (w, st, at_start {all = heard_run c.args.silent steps (state_in w c.args.at)} (g.S.Source.left c.args.script.now) (g.K.Sink.written c.args.out.now) c.in_ok-reader.reader.kept c.new-text.result.items kept c.new-text.ensures.items),
+        λ w st. (w, st, at_start {all = heard_run c.args.silent steps (state_in w c.args.at)} (g.S.Source.left c.args.script.now) (g.K.Sink.written c.args.out.now) (g.K.Sink.files c.args.out.now) c.in_ok-reader.reader.kept c.new-text.result.items kept c.new-text.ensures.items),
       );
-      asks = asks_first steps (g.T.LineTaker.stands c.args.taker) g.K.Sink.written (g.K.Sink.written c.args.out.now) c.args.silent c.args.at (g.S.Source.may_ask c.args.script.now) c.in_ok-reader.reader.kept c.new-text.result.items
+      asks = asks_first steps (g.T.LineTaker.puts c.args.taker) (g.T.LineTaker.stands c.args.taker) g.K.Sink.written g.K.Sink.files (g.K.Sink.written c.args.out.now) c.args.silent c.args.at (g.K.Sink.files c.args.out.now) (g.S.Source.may_ask c.args.script.now) c.in_ok-reader.reader.kept c.new-text.result.items
           kept c.new-text.ensures.items c.requires.prompt;
       hushed = nothing_said c.args.silent c.new-text.result.items c.new-text.ensures.items;
       quiet = quiet_first c.args.silent (g.K.Sink.written c.args.out.now);
       program = refl;
       table = refl;
       steps = refl;
+      puts = λ s before after put. put;
+      refuses = λ s why is. is;
       ready = subst (λ (n : ℕ). g.T.LineTaker.ready c.args.taker c.args.at n) (sym (first_to_come c.args.most c.in_ok-reader.reader.taken c.in_ok-reader.reader.kept taken kept)) c.requires.ready;
       total = rw taken refl;
       given = rw taken (none_given (g.S.Source.given c.args.script.now));
@@ -243,9 +265,12 @@ loop-text-init g c =
       out_counts = omega arith;
     }
 
-pub loop-text-preserved : goal.loop-text-preserved
-loop-text-preserved g c =
+pub loop-text-preserved-in-Some-Goes : goal.loop-text-preserved-in-Some-Goes
+loop-text-preserved-in-Some-Goes g c =
     let steps = g.T.LineTaker.steps c.args.taker in
+    let puts = g.T.LineTaker.puts c.args.taker in
+    let stands = g.T.LineTaker.stands c.in_ok-next.next in
+    let files = g.K.Sink.files c.flush.new.out in
     let inv = c.loop-text.invariant in
     let answers = rw inv.line_max at c.in-Ok.ensures.line in
     let is : c.in-Some-Goes.field-0 ≡ Goes c.in-Some-Goes.bad c.in-Some-Goes.left = rw c.in-Some-Goes.is at c.in-Some-Goes.field-0-is in
@@ -260,23 +285,31 @@ loop-text-preserved g c =
         flushed_front (g.K.Sink.written c.args.out.now) inv.so_far.0 inv.so_far.1 c.in_ok-flush.ensures.ok,
         λ w st.
             let so = inv.so_far.2 w st in
-            let now = flushed (g.K.Sink.written c.flush.new.out) c.flush.new.text.items so.2 c.in_ok-flush.ensures.ok in
-            let turn = rw (c.in-Some-Goes.is, is, inv.steps) at (c.in_ok-next.ensures.turn so.0 _ _ so.1 answers) in
-            let moved = moves_on _ _ c.in-Ok.line turn.0 c.loop-text.reader.kept gives.0 c.next_line.new.self.kept _ _ _ _ _ _ gives.1 gives.2 turn.1 in
-            goes_further c.args.silent steps (state_in so.0 c.loop-text.at) c.in-Some-Goes.bad c.in-Some-Goes.left c.next-at.result turn.0 c.flush.new.text.items c.take.new.text.items c.hush.new.text.items
-            (g.T.LineTaker.stands c.in_ok-next.next) now turn.1 moved turn.2 none c.hush.ensures c.next-at.ensures,
+            let now = flushed (g.K.Sink.written c.flush.new.out) c.flush.new.text.items files so.2 c.in_ok-flush.ensures.ok c.flush.ensures.files in
+            let does = rw (c.in-Some-Goes.is, is, inv.steps) at (c.in_ok-next.ensures.turn so.0 _ _ so.1 answers) in
+            let moved = moves_on _ _ c.in-Ok.line does.0 c.loop-text.reader.kept gives.0 c.next_line.new.self.kept _ _ _ _ _ _ gives.1 gives.2 does.1 in
+            let turn = goes_turn puts steps (state_in so.0 c.loop-text.at) does.0 c.flush.new.text.items c.take.new.text.items stands c.in-Some-Goes.bad c.in-Some-Goes.left c.next-at.result files does.2 c.next-at.ensures in (
+              turn.done.world,
+              turn.there,
+              goes_further c.args.silent steps (state_in so.0 c.loop-text.at) c.next-at.result does.0 c.flush.new.text.items c.take.new.text.items c.hush.new.text.items stands files now does.1 moved turn none c.hush.ensures,
+            ),
       );
-      asks = asks_turned steps (g.T.LineTaker.stands c.args.taker) (g.T.LineTaker.stands c.loop-text.taker) (g.T.LineTaker.stands c.in_ok-next.next) c.loop-text.at c.next-at.result g.K.Sink.written (g.K.Sink.written c.args.out.now)
-          (g.K.Sink.written c.flush.new.out) c.flush.new.text.items c.take.new.text.items c.hush.new.text.items c.loop-text.reader.kept asked.0 c.next_line.new.self.kept c.in-Some-Goes.bad c.in-Some-Goes.left
+      asks = asks_turned steps puts (g.T.LineTaker.stands c.args.taker) (g.T.LineTaker.stands c.loop-text.taker) stands c.loop-text.at c.next-at.result g.K.Sink.written g.K.Sink.files (g.K.Sink.written c.args.out.now)
+          (g.K.Sink.written c.flush.new.out) files files c.flush.new.text.items c.take.new.text.items c.hush.new.text.items c.loop-text.reader.kept asked.0 c.next_line.new.self.kept
           (g.S.Source.may_ask c.loop-text.script) (g.S.Source.may_ask c.next_line.new.source) c.args.silent c.loop-text.reader.line_max c.in-Ok.line _ _ inv.line_max answers
-          (λ v ahead behind st a. rw (c.in-Some-Goes.is, is, inv.steps) at (c.in_ok-next.ensures.turn v ahead behind st a)) c.hush.ensures c.next-at.ensures asked.1 asked.2
-          (asks_flushed steps (g.T.LineTaker.stands c.args.taker) g.K.Sink.written (g.K.Sink.written c.args.out.now) c.args.silent (g.T.LineTaker.stands c.loop-text.taker) c.loop-text.at _ _ c.loop-text.text.items
-          c.flush.new.text.items c.loop-text.reader.kept (g.S.Source.may_ask c.loop-text.script) c.in_ok-flush.ensures.ok inv.asks);
+          (λ v ahead behind st a.
+          let does = rw (c.in-Some-Goes.is, is, inv.steps) at (c.in_ok-next.ensures.turn v ahead behind st a) in
+          (does.0, does.1, goes_turn puts steps (state_in v c.loop-text.at) does.0 c.flush.new.text.items c.take.new.text.items stands c.in-Some-Goes.bad c.in-Some-Goes.left c.next-at.result files does.2 c.next-at.ensures))
+          c.hush.ensures asked.1 asked.2
+          (asks_flushed steps puts (g.T.LineTaker.stands c.args.taker) g.K.Sink.written g.K.Sink.files (g.K.Sink.written c.args.out.now) c.args.silent (g.T.LineTaker.stands c.loop-text.taker) c.loop-text.at _ _ _ files
+          c.loop-text.text.items c.flush.new.text.items c.loop-text.reader.kept (g.S.Source.may_ask c.loop-text.script) c.in_ok-flush.ensures.ok c.flush.ensures.files inv.asks);
       hushed = said_hushed c.args.silent c.take.new.text.items c.hush.new.text.items c.hush.ensures;
       quiet = quiet_flushed c.args.silent _ _ _ c.loop-text.text.items c.flush.new.text.items inv.hushed c.in_ok-flush.ensures.ok inv.quiet;
       program = c.in_ok-next.ensures.program ∙ inv.program;
       table = c.in_ok-next.ensures.table ∙ inv.table;
       steps = c.in_ok-next.ensures.steps ∙ inv.steps;
+      puts = λ s before after put. inv.puts s before after ((c.in_ok-next.ensures.puts s before after).0 put);
+      refuses = λ s why refused. inv.refuses s why ((c.in_ok-next.ensures.refuses s why).0 refused);
       ready = rw c.next-at.ensures (rw (c.in-Some-Goes.is, is) at (c.in_ok-next.ensures.ready _ _ inv.ready less));
       total = inv.total ∙ c.next_line.ensures.total;
       given = given_since (g.S.Source.given c.args.script.now) c.loop-text.reader.taken c.next_line.new.self.taken _ _ c.next_line.ensures.taken inv.given c.next_line.ensures.together;
@@ -286,6 +319,77 @@ loop-text-preserved g c =
       few = rw c.next-at.ensures (omega (arith, less, inv.few, c.next_line.ensures.total_max, inv.total_max));
       script_counts = omega (arith, c.next_line.ensures.counts);
       out_counts = omega (arith, c.flush.ensures.counts);
+    }
+
+pub loop-text-preserved : goal.loop-text-preserved
+loop-text-preserved g c =
+    let steps = g.T.LineTaker.steps c.args.taker in
+    let puts = g.T.LineTaker.puts c.args.taker in
+    let stands = g.T.LineTaker.stands c.in_ok-next.next in
+    let files = g.K.Sink.files c.flush_front.new.out in
+    let files_next = g.K.Sink.files c.keep.new.out in
+    let same_files : files ≡ g.K.Sink.files c.loop-text.out = c.flush_front.ensures.files ∙ c.flush.ensures.files in
+    let inv = c.loop-text.invariant in
+    let answers = rw inv.line_max at c.in-Ok.ensures.line in
+    let is : c.in-Some-Saves.field-0 ≡ Saves c.in-Some-Saves.bad c.in-Some-Saves.left = rw c.in-Some-Saves.is at c.in-Some-Saves.field-0-is in
+    let goes_on = rw (c.next_line.ensures.total_max ∙ inv.total_max, inv.total_max) at c.in-Ok.ensures.goes_on in
+    let less = rw c.in-Some-Saves.is at (c.in_ok-next.ensures.smaller _ _ goes_on) in
+    let gives = c.in-Ok.ensures.gives inv.fault in
+    let asked = c.in-Ok.ensures.asks inv.fault in
+    let none = said_flushed c.args.silent _ _ c.loop-text.text.items c.flush.new.text.items inv.hushed c.in_ok-flush.ensures.ok in
+    let hushed = said_hushed c.args.silent c.take.new.text.items c.hush.new.text.items c.hush.ensures in
+    let front = front_flushed c.len-before.result c.hush.new.text.items (g.K.Sink.written c.flush.new.out) (g.K.Sink.written c.keep.new.out) c.flush_front.new.text.items
+    (c.keep.ensures.written ∙ c.in_ok-flush_front-in-Some-Saves.ensures.ok) c.in_ok-flush_front-in-Some-Saves.ensures.rest in
+    let put : (v : World) → stands v → puts (state_in v c.next-behind.result) files files_next =
+    λ v there. inv.puts _ _ _ ((c.in_ok-next.ensures.puts _ _ _).0 (c.in_ok-keep-in-Some-Saves.ensures.put v there)) in
+    record {
+      so_far = (
+        (inv.so_far.0 ++ take c.in_ok-flush.ensures.ok.0 c.loop-text.text.items) ++ take front.0 c.hush.new.text.items,
+        flushed_front (g.K.Sink.written c.args.out.now) (inv.so_far.0 ++ take c.in_ok-flush.ensures.ok.0 c.loop-text.text.items)
+            (flushed_front (g.K.Sink.written c.args.out.now) inv.so_far.0 inv.so_far.1 c.in_ok-flush.ensures.ok) front,
+        λ w st.
+            let so = inv.so_far.2 w st in
+            let now = flushed (g.K.Sink.written c.flush.new.out) c.flush.new.text.items files so.2 c.in_ok-flush.ensures.ok same_files in
+            let does = rw (c.in-Some-Saves.is, is, inv.steps) at (c.in_ok-next.ensures.turn so.0 _ _ so.1 answers) in
+            let moved = moves_on _ _ c.in-Ok.line does.0 c.loop-text.reader.kept gives.0 c.next_line.new.self.kept _ _ _ _ _ _ gives.1 gives.2 does.1 in
+            let turn = saves_turn puts steps (state_in so.0 c.loop-text.at) does.0 c.flush.new.text.items c.take.new.text.items stands c.in-Some-Saves.bad c.in-Some-Saves.left c.next-behind.result files files_next does.2
+            c.next-behind.ensures put in
+            let further = goes_further c.args.silent steps (state_in so.0 c.loop-text.at) c.next-behind.result does.0 c.flush.new.text.items c.take.new.text.items c.hush.new.text.items stands files_next now does.1 moved turn none
+            c.hush.ensures in
+            (turn.done.world, turn.there, flushed (g.K.Sink.written c.keep.new.out) c.flush_front.new.text.items files_next further front refl),
+      );
+      asks = asks_flushed steps puts (g.T.LineTaker.stands c.args.taker) g.K.Sink.written g.K.Sink.files (g.K.Sink.written c.args.out.now) c.args.silent stands c.next-behind.result _ _ files_next files_next
+          c.hush.new.text.items c.flush_front.new.text.items c.next_line.new.self.kept (g.S.Source.may_ask c.next_line.new.source) front refl
+          (asks_turned steps puts (g.T.LineTaker.stands c.args.taker) (g.T.LineTaker.stands c.loop-text.taker) stands c.loop-text.at c.next-behind.result g.K.Sink.written g.K.Sink.files (g.K.Sink.written c.args.out.now)
+          (g.K.Sink.written c.flush.new.out) files files_next c.flush.new.text.items c.take.new.text.items c.hush.new.text.items c.loop-text.reader.kept asked.0 c.next_line.new.self.kept
+          (g.S.Source.may_ask c.loop-text.script) (g.S.Source.may_ask c.next_line.new.source) c.args.silent c.loop-text.reader.line_max c.in-Ok.line _ _ inv.line_max answers
+          (λ v ahead behind st a.
+          let does = rw (c.in-Some-Saves.is, is, inv.steps) at (c.in_ok-next.ensures.turn v ahead behind st a) in (
+            does.0,
+            does.1,
+            saves_turn puts steps (state_in v c.loop-text.at) does.0 c.flush.new.text.items c.take.new.text.items stands c.in-Some-Saves.bad c.in-Some-Saves.left c.next-behind.result files files_next does.2
+                c.next-behind.ensures put,
+          ))
+          c.hush.ensures asked.1 asked.2
+          (asks_flushed steps puts (g.T.LineTaker.stands c.args.taker) g.K.Sink.written g.K.Sink.files (g.K.Sink.written c.args.out.now) c.args.silent (g.T.LineTaker.stands c.loop-text.taker) c.loop-text.at _ _ _ files
+          c.loop-text.text.items c.flush.new.text.items c.loop-text.reader.kept (g.S.Source.may_ask c.loop-text.script) c.in_ok-flush.ensures.ok same_files inv.asks));
+      hushed = said_flushed c.args.silent _ _ c.hush.new.text.items c.flush_front.new.text.items hushed front;
+      quiet = quiet_flushed c.args.silent _ _ _ c.hush.new.text.items c.flush_front.new.text.items hushed front
+          (quiet_flushed c.args.silent _ _ _ c.loop-text.text.items c.flush.new.text.items inv.hushed c.in_ok-flush.ensures.ok inv.quiet);
+      program = c.in_ok-next.ensures.program ∙ inv.program;
+      table = c.in_ok-next.ensures.table ∙ inv.table;
+      steps = c.in_ok-next.ensures.steps ∙ inv.steps;
+      puts = λ s before after put. inv.puts s before after ((c.in_ok-next.ensures.puts s before after).0 put);
+      refuses = λ s why refused. inv.refuses s why ((c.in_ok-next.ensures.refuses s why).0 refused);
+      ready = rw c.next-behind.ensures (rw (c.in-Some-Saves.is, is) at (c.in_ok-next.ensures.ready _ _ inv.ready less));
+      total = inv.total ∙ c.next_line.ensures.total;
+      given = given_since (g.S.Source.given c.args.script.now) c.loop-text.reader.taken c.next_line.new.self.taken _ _ c.next_line.ensures.taken inv.given c.next_line.ensures.together;
+      line_max = c.next_line.ensures.line_max ∙ inv.line_max;
+      total_max = c.next_line.ensures.total_max ∙ inv.total_max;
+      fault = c.in-Ok.ensures.none;
+      few = rw c.next-behind.ensures (omega (arith, less, inv.few, c.next_line.ensures.total_max, inv.total_max));
+      script_counts = omega (arith, c.next_line.ensures.counts);
+      out_counts = omega (arith, c.flush.ensures.counts, c.flush_front.ensures.counts, c.keep.ensures.counts);
     }
 
 pub take-requires-clause-short : goal.take-requires-clause-short
@@ -309,15 +413,15 @@ next_line-requires g c =
     let inv = c.loop-text.invariant in
     record {
       asks = λ none.
-          asks_mid_line steps (g.T.LineTaker.stands c.args.taker) g.K.Sink.written (g.K.Sink.written c.args.out.now) c.args.silent (g.T.LineTaker.stands c.loop-text.taker) c.loop-text.at c.flush.new.out
+          asks_mid_line steps (g.T.LineTaker.puts c.args.taker) (g.T.LineTaker.stands c.args.taker) g.K.Sink.written g.K.Sink.files (g.K.Sink.written c.args.out.now) c.args.silent (g.T.LineTaker.stands c.loop-text.taker) c.loop-text.at c.flush.new.out
           c.flush.new.text.items c.loop-text.reader.kept (g.S.Source.may_ask c.loop-text.script)
           (λ no_end. elim c.if-not-is_ready.branch [
             | then-not-is_ready w ↦ c.in_ok-flush.ensures.all (w.wanted-is ∙ ap not w.if-not-is_ready.true)
             | else-not-is_ready w ↦ absurd (let both : true ≡ false = sym w.if-not-is_ready.false ∙ c.is_ready.ensures ∙ no_end in cc)
           ])
           (quiet_flushed c.args.silent _ _ _ c.loop-text.text.items c.flush.new.text.items inv.hushed c.in_ok-flush.ensures.ok inv.quiet)
-          (asks_flushed steps (g.T.LineTaker.stands c.args.taker) g.K.Sink.written (g.K.Sink.written c.args.out.now) c.args.silent (g.T.LineTaker.stands c.loop-text.taker) c.loop-text.at _ _ c.loop-text.text.items
-          c.flush.new.text.items c.loop-text.reader.kept (g.S.Source.may_ask c.loop-text.script) c.in_ok-flush.ensures.ok inv.asks);
+          (asks_flushed steps (g.T.LineTaker.puts c.args.taker) (g.T.LineTaker.stands c.args.taker) g.K.Sink.written g.K.Sink.files (g.K.Sink.written c.args.out.now) c.args.silent (g.T.LineTaker.stands c.loop-text.taker)
+          c.loop-text.at _ _ _ (g.K.Sink.files c.flush.new.out) c.loop-text.text.items c.flush.new.text.items c.loop-text.reader.kept (g.S.Source.may_ask c.loop-text.script) c.in_ok-flush.ensures.ok c.flush.ensures.files inv.asks);
     }
 
 -- ---- a silent run writes nothing
@@ -368,3 +472,227 @@ returns-in-Some-Stops-clause-quiet g c =
     let none = said_hushed c.args.silent c.take.new.text.items c.hush.new.text.items c.hush.ensures in
     let all : g.K.Sink.written c.write_all-in-Some-Stops.new.sink ≡ append (g.K.Sink.written c.flush.new.out) c.hush.new.text.items = c.in_ok-write_all-in-Some-Stops.ensures.ok ∙ ap (append (g.K.Sink.written c.flush.new.out)) c.deref-in-Some-Stops.ensures.value in
     quiet_so c.args.silent _ _ (quiet_all c.args.silent _ _ _ c.hush.new.text.items none all flushed)
+
+-- ---- a line that saves
+
+pub returns-in_err-flush_front-in-Some-Saves-clause-front : goal.returns-in_err-flush_front-in-Some-Saves-clause-front
+returns-in_err-flush_front-in-Some-Saves-clause-front g c w st =
+    let steps = g.T.LineTaker.steps c.args.taker in
+    let inv = c.loop-text.invariant in
+    let so = inv.so_far.2 w st in
+    let now = flushed (g.K.Sink.written c.flush.new.out) c.flush.new.text.items (g.K.Sink.files c.flush.new.out) so.2 c.in_ok-flush.ensures.ok c.flush.ensures.files in
+    let answers = rw inv.line_max at c.in-Ok.ensures.line in
+    let is : c.in-Some-Saves.field-0 ≡ Saves c.in-Some-Saves.bad c.in-Some-Saves.left = rw c.in-Some-Saves.is at c.in-Some-Saves.field-0-is in
+    let does = rw (c.in-Some-Saves.is, is, inv.steps) at (c.in_ok-next.ensures.turn so.0 _ _ so.1 answers) in
+    let none = said_flushed c.args.silent _ _ c.loop-text.text.items c.flush.new.text.items inv.hushed c.in_ok-flush.ensures.ok in
+    let before = before_saving (g.T.LineTaker.stands c.in_ok-next.next) (steps (state_in so.0 c.loop-text.at) does.0) c.args.silent c.len-before.result c.flush.new.text.items c.take.new.text.items c.hush.new.text.items
+    c.in-Some-Saves.bad c.in-Some-Saves.left does.2 none c.hush.ensures (c.len-before.ensures ∙ c.flush.new.text.ok.0) in
+    let part : AppendsFront (g.K.Sink.written c.flush.new.out) (g.K.Sink.written c.flush_front.new.out) c.flush.new.text.items = rw before at c.in_err-flush_front-in-Some-Saves.ensures.err in
+    told_err (g.S.Source.left c.args.script.now) c.from_residual-in_err-flush_front-in-Some-Saves.result (λ bytes. AppendsFront (g.K.Sink.written c.args.out.now) (g.K.Sink.written c.flush_front.new.out) (heard c.args.silent (run steps (state_in w c.args.at) (lines_of bytes))).bytes)
+    (stopped_in (g.S.Source.left c.args.script.now) (g.K.Sink.written c.flush_front.new.out) now part)
+
+pub returns-in_err-flush_front-in-Some-Saves-clause-quiet : goal.returns-in_err-flush_front-in-Some-Saves-clause-quiet
+returns-in_err-flush_front-in-Some-Saves-clause-quiet g c =
+    let inv = c.loop-text.invariant in
+    let flushed = quiet_flushed c.args.silent (g.K.Sink.written c.args.out.now) _ _ c.loop-text.text.items c.flush.new.text.items inv.hushed c.in_ok-flush.ensures.ok inv.quiet in
+    let hushed = said_hushed c.args.silent c.take.new.text.items c.hush.new.text.items c.hush.ensures in
+    quiet_so c.args.silent _ _ (quiet_front c.args.silent _ _ _ (take c.len-before.result c.hush.new.text.items) (said_front c.args.silent c.len-before.result c.hush.new.text.items hushed) c.in_err-flush_front-in-Some-Saves.ensures.err flushed)
+
+pub returns-in_err-flush_front-in-Some-Saves-clause-taken : goal.returns-in_err-flush_front-in-Some-Saves-clause-taken
+returns-in_err-flush_front-in-Some-Saves-clause-taken g c =
+    let inv = c.loop-text.invariant in
+    let most = rw inv.total_max at c.next_line.ensures.at_most in
+    let all = given_since (g.S.Source.given c.args.script.now) c.loop-text.reader.taken c.next_line.new.self.taken _ _ c.next_line.ensures.taken inv.given c.next_line.ensures.together in
+    rw (err_of c.from_residual-in_err-flush_front-in-Some-Saves.result WriteFault c.from_residual-in_err-flush_front-in-Some-Saves.ensures.0 c.from_residual-in_err-flush_front-in-Some-Saves.ensures.1) (c.next_line.new.self.taken, all, tt, most)
+
+pub returns-in_err-keep-in-Some-Saves-clause-front : goal.returns-in_err-keep-in-Some-Saves-clause-front
+returns-in_err-keep-in-Some-Saves-clause-front g c w st =
+    let steps = g.T.LineTaker.steps c.args.taker in
+    let inv = c.loop-text.invariant in
+    let so = inv.so_far.2 w st in
+    let now = flushed (g.K.Sink.written c.flush.new.out) c.flush.new.text.items (g.K.Sink.files c.flush.new.out) so.2 c.in_ok-flush.ensures.ok c.flush.ensures.files in
+    let answers = rw inv.line_max at c.in-Ok.ensures.line in
+    let is : c.in-Some-Saves.field-0 ≡ Saves c.in-Some-Saves.bad c.in-Some-Saves.left = rw c.in-Some-Saves.is at c.in-Some-Saves.field-0-is in
+    let does = rw (c.in-Some-Saves.is, is, inv.steps) at (c.in_ok-next.ensures.turn so.0 _ _ so.1 answers) in
+    let none = said_flushed c.args.silent _ _ c.loop-text.text.items c.flush.new.text.items inv.hushed c.in_ok-flush.ensures.ok in
+    let before = before_saving (g.T.LineTaker.stands c.in_ok-next.next) (steps (state_in so.0 c.loop-text.at) does.0) c.args.silent c.len-before.result c.flush.new.text.items c.take.new.text.items c.hush.new.text.items
+    c.in-Some-Saves.bad c.in-Some-Saves.left does.2 none c.hush.ensures (c.len-before.ensures ∙ c.flush.new.text.ok.0) in
+    let all : g.K.Sink.written c.keep.new.out ≡ append (g.K.Sink.written c.flush.new.out) c.flush.new.text.items = c.keep.ensures.written ∙ rw before at c.in_ok-flush_front-in-Some-Saves.ensures.ok in
+    told_err (g.S.Source.left c.args.script.now) c.from_residual-in_err-keep-in-Some-Saves.result (λ bytes. AppendsFront (g.K.Sink.written c.args.out.now) (g.K.Sink.written c.keep.new.out) (heard c.args.silent (run steps (state_in w c.args.at) (lines_of bytes))).bytes)
+    (stopped (g.S.Source.left c.args.script.now) (flushed (g.K.Sink.written c.keep.new.out) [] (g.K.Sink.files c.flush.new.out) now (all_flushed c.flush.new.text.items _ _ all) refl))
+
+pub returns-in_err-keep-in-Some-Saves-clause-quiet : goal.returns-in_err-keep-in-Some-Saves-clause-quiet
+returns-in_err-keep-in-Some-Saves-clause-quiet g c =
+    let inv = c.loop-text.invariant in
+    let flushed = quiet_flushed c.args.silent (g.K.Sink.written c.args.out.now) _ _ c.loop-text.text.items c.flush.new.text.items inv.hushed c.in_ok-flush.ensures.ok inv.quiet in
+    let hushed = said_hushed c.args.silent c.take.new.text.items c.hush.new.text.items c.hush.ensures in
+    let all : g.K.Sink.written c.keep.new.out ≡ append (g.K.Sink.written c.flush.new.out) (take c.len-before.result c.hush.new.text.items) = c.keep.ensures.written ∙ c.in_ok-flush_front-in-Some-Saves.ensures.ok in
+    quiet_so c.args.silent _ _ (quiet_all c.args.silent _ _ _ (take c.len-before.result c.hush.new.text.items) (said_front c.args.silent c.len-before.result c.hush.new.text.items hushed) all flushed)
+
+pub returns-in_err-keep-in-Some-Saves-clause-taken : goal.returns-in_err-keep-in-Some-Saves-clause-taken
+returns-in_err-keep-in-Some-Saves-clause-taken g c =
+    let inv = c.loop-text.invariant in
+    let most = rw inv.total_max at c.next_line.ensures.at_most in
+    let all = given_since (g.S.Source.given c.args.script.now) c.loop-text.reader.taken c.next_line.new.self.taken _ _ c.next_line.ensures.taken inv.given c.next_line.ensures.together in
+    let is = err_of c.from_residual-in_err-keep-in-Some-Saves.result (unkept_fault c.in_err-keep-in-Some-Saves.field-0.0) c.from_residual-in_err-keep-in-Some-Saves.ensures.0 c.from_residual-in_err-keep-in-Some-Saves.ensures.1 in
+    rw is (c.next_line.new.self.taken, all, takes_unkept c.args.most c.in_err-keep-in-Some-Saves.field-0.0 c.next_line.new.self.taken, most)
+
+-- ---- the images that are put
+
+pub returns-in-None-clause-kept : goal.returns-in-None-clause-kept
+returns-in-None-clause-kept g c w st =
+    let steps = g.T.LineTaker.steps c.args.taker in
+    let inv = c.loop-text.invariant in
+    let so = inv.so_far.2 w st in
+    let now = flushed (g.K.Sink.written c.flush.new.out) c.flush.new.text.items (g.K.Sink.files c.flush.new.out) so.2 c.in_ok-flush.ensures.ok c.flush.ensures.files in
+    let answers = rw inv.line_max at c.in-Ok.ensures.line in
+    let ended = rw c.in-None.is at (c.in_ok-next.ensures.turn so.0 _ _ so.1 answers) in
+    rw c.write_all.ensures.files (all_put (g.S.Source.left c.args.script.now) now (no_line_saves steps (state_in so.0 c.loop-text.at) (lines_ahead c.loop-text.reader.kept (g.S.Source.left c.loop-text.script)) ended.0))
+
+pub returns-in-Some-Stops-clause-kept : goal.returns-in-Some-Stops-clause-kept
+returns-in-Some-Stops-clause-kept g c w st =
+    let steps = g.T.LineTaker.steps c.args.taker in
+    let inv = c.loop-text.invariant in
+    let so = inv.so_far.2 w st in
+    let now = flushed (g.K.Sink.written c.flush.new.out) c.flush.new.text.items (g.K.Sink.files c.flush.new.out) so.2 c.in_ok-flush.ensures.ok c.flush.ensures.files in
+    let answers = rw inv.line_max at c.in-Ok.ensures.line in
+    let is : c.in-Some-Stops.field-0 ≡ Stops = rw c.in-Some-Stops.is at c.in-Some-Stops.field-0-is in
+    let turn = rw (c.in-Some-Stops.is, is, inv.steps) at (c.in_ok-next.ensures.turn so.0 _ _ so.1 answers) in
+    let gives = c.in-Ok.ensures.gives inv.fault in
+    let moved = moves_on _ _ c.in-Ok.line turn.0 c.loop-text.reader.kept gives.0 c.next_line.new.self.kept _ _ _ _ _ _ gives.1 gives.2 turn.1 in
+    let none = said_flushed c.args.silent _ _ c.loop-text.text.items c.flush.new.text.items inv.hushed c.in_ok-flush.ensures.ok in
+    let there = ends_there c.args.silent steps (state_in so.0 c.loop-text.at) turn.0 c.flush.new.text.items c.take.new.text.items c.hush.new.text.items (g.T.LineTaker.stands c.in_ok-next.next) now turn.1 moved turn.2 none c.hush.ensures in
+    rw c.write_all-in-Some-Stops.ensures.files (all_put (g.S.Source.left c.args.script.now) there (no_more_saves (lines_ahead c.next_line.new.self.kept (g.S.Source.left c.next_line.new.source))))
+
+pub returns-in_err-reader-clause-kept_front : goal.returns-in_err-reader-clause-kept_front
+returns-in_err-reader-clause-kept_front g c w st =
+    let steps = g.T.LineTaker.steps c.args.taker in
+    stopped_kept_err (g.S.Source.left c.args.script.now) c.from_residual.result
+    (at_start {puts = g.T.LineTaker.puts c.args.taker} {all = heard_run c.args.silent steps (state_in w c.args.at)} (g.S.Source.left c.args.script.now) (g.K.Sink.written c.args.out.now) (g.K.Sink.files c.args.out.now) [] [] refl refl)
+    (none_saved steps (state_in w c.args.at))
+
+pub returns-in_err-flush-clause-kept_front : goal.returns-in_err-flush-clause-kept_front
+returns-in_err-flush-clause-kept_front g c w st =
+    let steps = g.T.LineTaker.steps c.args.taker in
+    let so = c.loop-text.invariant.so_far.2 w st in
+    stopped_in_kept (g.S.Source.left c.args.script.now) c.from_residual-in_err-flush.result (g.K.Sink.written c.flush.new.out) (g.K.Sink.files c.flush.new.out) so.2 (none_saved steps (state_in so.0 c.loop-text.at)) c.in_err-flush.ensures.err c.flush.ensures.files
+
+pub returns-in-Err-clause-kept_front : goal.returns-in-Err-clause-kept_front
+returns-in-Err-clause-kept_front g c w st =
+    let steps = g.T.LineTaker.steps c.args.taker in
+    let inv = c.loop-text.invariant in
+    let so = inv.so_far.2 w st in
+    let now = flushed (g.K.Sink.written c.flush.new.out) c.flush.new.text.items (g.K.Sink.files c.flush.new.out) so.2 c.in_ok-flush.ensures.ok c.flush.ensures.files in
+    stopped_kept (g.S.Source.left c.args.script.now) now (none_saved steps (state_in so.0 c.loop-text.at))
+
+pub returns-in_err-next-clause-kept_front : goal.returns-in_err-next-clause-kept_front
+returns-in_err-next-clause-kept_front g c w st =
+    let steps = g.T.LineTaker.steps c.args.taker in
+    let inv = c.loop-text.invariant in
+    let so = inv.so_far.2 w st in
+    let now = flushed (g.K.Sink.written c.flush.new.out) c.flush.new.text.items (g.K.Sink.files c.flush.new.out) so.2 c.in_ok-flush.ensures.ok c.flush.ensures.files in
+    stopped_kept_err (g.S.Source.left c.args.script.now) c.from_residual-in_err-next.result now (none_saved steps (state_in so.0 c.loop-text.at))
+
+pub returns-in_err-write_all-in-None-clause-kept_front : goal.returns-in_err-write_all-in-None-clause-kept_front
+returns-in_err-write_all-in-None-clause-kept_front g c w st =
+    let steps = g.T.LineTaker.steps c.args.taker in
+    let inv = c.loop-text.invariant in
+    let so = inv.so_far.2 w st in
+    let now = flushed (g.K.Sink.written c.flush.new.out) c.flush.new.text.items (g.K.Sink.files c.flush.new.out) so.2 c.in_ok-flush.ensures.ok c.flush.ensures.files in
+    let answers = rw inv.line_max at c.in-Ok.ensures.line in
+    let ended = rw c.in-None.is at (c.in_ok-next.ensures.turn so.0 _ _ so.1 answers) in
+    let none = said_flushed c.args.silent _ _ c.loop-text.text.items c.flush.new.text.items inv.hushed c.in_ok-flush.ensures.ok in
+    let stays = said_stays c.args.silent c.flush.new.text.items c.take.new.text.items c.hush.new.text.items none ended.1 c.hush.ensures in
+    let part : AppendsFront (g.K.Sink.written c.flush.new.out) (g.K.Sink.written c.write_all.new.sink) c.flush.new.text.items =
+    rw (sym stays, sym c.deref.ensures.value) c.in_err-write_all-in-None.ensures.err in
+    stopped_in_kept (g.S.Source.left c.args.script.now) c.from_residual-in_err-write_all-in-None.result (g.K.Sink.written c.write_all.new.sink) (g.K.Sink.files c.write_all.new.sink) now (none_saved steps (state_in so.0 c.loop-text.at)) part c.write_all.ensures.files
+
+pub returns-in_err-write_all-in-Some-Stops-clause-kept_front : goal.returns-in_err-write_all-in-Some-Stops-clause-kept_front
+returns-in_err-write_all-in-Some-Stops-clause-kept_front g c w st =
+    let steps = g.T.LineTaker.steps c.args.taker in
+    let inv = c.loop-text.invariant in
+    let so = inv.so_far.2 w st in
+    let now = flushed (g.K.Sink.written c.flush.new.out) c.flush.new.text.items (g.K.Sink.files c.flush.new.out) so.2 c.in_ok-flush.ensures.ok c.flush.ensures.files in
+    let answers = rw inv.line_max at c.in-Ok.ensures.line in
+    let is : c.in-Some-Stops.field-0 ≡ Stops = rw c.in-Some-Stops.is at c.in-Some-Stops.field-0-is in
+    let turn = rw (c.in-Some-Stops.is, is, inv.steps) at (c.in_ok-next.ensures.turn so.0 _ _ so.1 answers) in
+    let gives = c.in-Ok.ensures.gives inv.fault in
+    let moved = moves_on _ _ c.in-Ok.line turn.0 c.loop-text.reader.kept gives.0 c.next_line.new.self.kept _ _ _ _ _ _ gives.1 gives.2 turn.1 in
+    let none = said_flushed c.args.silent _ _ c.loop-text.text.items c.flush.new.text.items inv.hushed c.in_ok-flush.ensures.ok in
+    let there = ends_there c.args.silent steps (state_in so.0 c.loop-text.at) turn.0 c.flush.new.text.items c.take.new.text.items c.hush.new.text.items (g.T.LineTaker.stands c.in_ok-next.next) now turn.1 moved turn.2 none c.hush.ensures in
+    let part : AppendsFront (g.K.Sink.written c.flush.new.out) (g.K.Sink.written c.write_all-in-Some-Stops.new.sink) c.hush.new.text.items = rw (sym c.deref-in-Some-Stops.ensures.value) c.in_err-write_all-in-Some-Stops.ensures.err in
+    stopped_in_kept (g.S.Source.left c.args.script.now) c.from_residual-in_err-write_all-in-Some-Stops.result (g.K.Sink.written c.write_all-in-Some-Stops.new.sink) (g.K.Sink.files c.write_all-in-Some-Stops.new.sink) there refl part
+    c.write_all-in-Some-Stops.ensures.files
+
+pub returns-in_err-flush_front-in-Some-Saves-clause-kept_front : goal.returns-in_err-flush_front-in-Some-Saves-clause-kept_front
+returns-in_err-flush_front-in-Some-Saves-clause-kept_front g c w st =
+    let steps = g.T.LineTaker.steps c.args.taker in
+    let inv = c.loop-text.invariant in
+    let so = inv.so_far.2 w st in
+    let now = flushed (g.K.Sink.written c.flush.new.out) c.flush.new.text.items (g.K.Sink.files c.flush.new.out) so.2 c.in_ok-flush.ensures.ok c.flush.ensures.files in
+    let answers = rw inv.line_max at c.in-Ok.ensures.line in
+    let is : c.in-Some-Saves.field-0 ≡ Saves c.in-Some-Saves.bad c.in-Some-Saves.left = rw c.in-Some-Saves.is at c.in-Some-Saves.field-0-is in
+    let does = rw (c.in-Some-Saves.is, is, inv.steps) at (c.in_ok-next.ensures.turn so.0 _ _ so.1 answers) in
+    let none = said_flushed c.args.silent _ _ c.loop-text.text.items c.flush.new.text.items inv.hushed c.in_ok-flush.ensures.ok in
+    let before = before_saving (g.T.LineTaker.stands c.in_ok-next.next) (steps (state_in so.0 c.loop-text.at) does.0) c.args.silent c.len-before.result c.flush.new.text.items c.take.new.text.items c.hush.new.text.items
+    c.in-Some-Saves.bad c.in-Some-Saves.left does.2 none c.hush.ensures (c.len-before.ensures ∙ c.flush.new.text.ok.0) in
+    let part : AppendsFront (g.K.Sink.written c.flush.new.out) (g.K.Sink.written c.flush_front.new.out) c.flush.new.text.items = rw before at c.in_err-flush_front-in-Some-Saves.ensures.err in
+    stopped_in_kept (g.S.Source.left c.args.script.now) c.from_residual-in_err-flush_front-in-Some-Saves.result (g.K.Sink.written c.flush_front.new.out) (g.K.Sink.files c.flush_front.new.out) now (none_saved steps (state_in so.0 c.loop-text.at)) part c.flush_front.ensures.files
+
+-- the files are as they were, or the image of this line is put too
+pub returns-in_err-keep-in-Some-Saves-clause-kept_front : goal.returns-in_err-keep-in-Some-Saves-clause-kept_front
+returns-in_err-keep-in-Some-Saves-clause-kept_front g c w st =
+    let steps = g.T.LineTaker.steps c.args.taker in
+    let inv = c.loop-text.invariant in
+    let so = inv.so_far.2 w st in
+    let now = flushed (g.K.Sink.written c.flush.new.out) c.flush.new.text.items (g.K.Sink.files c.flush.new.out) so.2 c.in_ok-flush.ensures.ok c.flush.ensures.files in
+    let answers = rw inv.line_max at c.in-Ok.ensures.line in
+    let is : c.in-Some-Saves.field-0 ≡ Saves c.in-Some-Saves.bad c.in-Some-Saves.left = rw c.in-Some-Saves.is at c.in-Some-Saves.field-0-is in
+    let does = rw (c.in-Some-Saves.is, is, inv.steps) at (c.in_ok-next.ensures.turn so.0 _ _ so.1 answers) in
+    let none = said_flushed c.args.silent _ _ c.loop-text.text.items c.flush.new.text.items inv.hushed c.in_ok-flush.ensures.ok in
+    let before = before_saving (g.T.LineTaker.stands c.in_ok-next.next) (steps (state_in so.0 c.loop-text.at) does.0) c.args.silent c.len-before.result c.flush.new.text.items c.take.new.text.items c.hush.new.text.items
+    c.in-Some-Saves.bad c.in-Some-Saves.left does.2 none c.hush.ensures (c.len-before.ensures ∙ c.flush.new.text.ok.0) in
+    let all : g.K.Sink.written c.keep.new.out ≡ append (g.K.Sink.written c.flush.new.out) c.flush.new.text.items = c.keep.ensures.written ∙ rw before at c.in_ok-flush_front-in-Some-Saves.ensures.ok in
+    let puts = g.T.LineTaker.puts c.args.taker in
+    let stands = g.T.LineTaker.stands c.in_ok-next.next in
+    let files = g.K.Sink.files c.keep.new.out in
+    let script = g.S.Source.left c.args.script.now in
+    let gives = c.in-Ok.ensures.gives inv.fault in
+    let moved = moves_on _ _ c.in-Ok.line does.0 c.loop-text.reader.kept gives.0 c.next_line.new.self.kept _ _ _ _ _ _ gives.1 gives.2 does.1 in
+    let it = saves_of stands (steps (state_in so.0 c.loop-text.at) does.0) c.flush.new.text.items c.take.new.text.items c.in-Some-Saves.bad c.in-Some-Saves.left does.2 in
+    elim (c.in_err-keep-in-Some-Saves.ensures.failed it.0.world it.3) [
+      | inl same ↦ stopped_kept_err script c.from_residual-in_err-keep-in-Some-Saves.result
+          (flushed (g.K.Sink.written c.keep.new.out) [] files now (all_flushed c.flush.new.text.items _ _ all) (same ∙ c.flush_front.ensures.files)) (none_saved steps (state_in so.0 c.loop-text.at))
+      | inr put ↦
+          let put_first = inv.puts _ _ _ ((c.in_ok-next.ensures.puts _ _ _).0 (rw c.flush_front.ensures.files at put)) in
+          let turn = saves_at puts steps (state_in so.0 c.loop-text.at) does.0 c.flush.new.text.items c.take.new.text.items stands c.in-Some-Saves.bad c.in-Some-Saves.left c.next-behind.result (g.K.Sink.files c.flush.new.out) files it
+          c.next-behind.ensures put_first in
+          let further = goes_further c.args.silent steps (state_in so.0 c.loop-text.at) c.next-behind.result does.0 c.flush.new.text.items c.take.new.text.items c.hush.new.text.items stands files now does.1 moved turn none c.hush.ensures in
+          let front = front_flushed c.len-before.result c.hush.new.text.items (g.K.Sink.written c.flush.new.out) (g.K.Sink.written c.keep.new.out) c.flush_front.new.text.items
+          (c.keep.ensures.written ∙ c.in_ok-flush_front-in-Some-Saves.ensures.ok) c.in_ok-flush_front-in-Some-Saves.ensures.rest in
+          stopped_kept_err script c.from_residual-in_err-keep-in-Some-Saves.result (flushed (g.K.Sink.written c.keep.new.out) c.flush_front.new.text.items files further front refl)
+          (none_saved steps (state_in turn.done.world c.next-behind.result))
+    ]
+
+pub returns-in_err-keep-in-Some-Saves-clause-refused : goal.returns-in_err-keep-in-Some-Saves-clause-refused
+returns-in_err-keep-in-Some-Saves-clause-refused g c w st why told =
+    let steps = g.T.LineTaker.steps c.args.taker in
+    let inv = c.loop-text.invariant in
+    let so = inv.so_far.2 w st in
+    let now = flushed (g.K.Sink.written c.flush.new.out) c.flush.new.text.items (g.K.Sink.files c.flush.new.out) so.2 c.in_ok-flush.ensures.ok c.flush.ensures.files in
+    let answers = rw inv.line_max at c.in-Ok.ensures.line in
+    let is : c.in-Some-Saves.field-0 ≡ Saves c.in-Some-Saves.bad c.in-Some-Saves.left = rw c.in-Some-Saves.is at c.in-Some-Saves.field-0-is in
+    let does = rw (c.in-Some-Saves.is, is, inv.steps) at (c.in_ok-next.ensures.turn so.0 _ _ so.1 answers) in
+    let none = said_flushed c.args.silent _ _ c.loop-text.text.items c.flush.new.text.items inv.hushed c.in_ok-flush.ensures.ok in
+    let before = before_saving (g.T.LineTaker.stands c.in_ok-next.next) (steps (state_in so.0 c.loop-text.at) does.0) c.args.silent c.len-before.result c.flush.new.text.items c.take.new.text.items c.hush.new.text.items
+    c.in-Some-Saves.bad c.in-Some-Saves.left does.2 none c.hush.ensures (c.len-before.ensures ∙ c.flush.new.text.ok.0) in
+    let all : g.K.Sink.written c.keep.new.out ≡ append (g.K.Sink.written c.flush.new.out) c.flush.new.text.items = c.keep.ensures.written ∙ rw before at c.in_ok-flush_front-in-Some-Saves.ensures.ok in
+    let stands = g.T.LineTaker.stands c.in_ok-next.next in
+    let it = saves_of stands (steps (state_in so.0 c.loop-text.at) does.0) c.flush.new.text.items c.take.new.text.items c.in-Some-Saves.bad c.in-Some-Saves.left does.2 in
+    let found = err_of c.from_residual-in_err-keep-in-Some-Saves.result (unkept_fault c.in_err-keep-in-Some-Saves.field-0.0) c.from_residual-in_err-keep-in-Some-Saves.ensures.0 c.from_residual-in_err-keep-in-Some-Saves.ensures.1 in
+    let fault = c.in_err-keep-in-Some-Saves.was ∙ ap (λ (z : KeepFault). Err z) (refused_so c.in_err-keep-in-Some-Saves.field-0.0 why (sym found ∙ told)) in
+    let same = c.keep.ensures.refused_files why fault ∙ c.flush_front.ensures.files in
+    let behind = behind_is (state_in so.0 c.loop-text.at) it.0 c.in-Some-Saves.bad c.in-Some-Saves.left c.next-behind.result it.4 it.5 c.next-behind.ensures in
+    let refused = inv.refuses _ why ((c.in_ok-next.ensures.refuses _ why).0 (c.keep.ensures.refused why fault it.0.world it.3)) in
+    refused_there (g.S.Source.left c.args.script.now) c.args.silent steps (state_in so.0 c.loop-text.at) does.0 _ it.0 (g.T.LineTaker.refuses c.args.taker) why
+    (flushed (g.K.Sink.written c.keep.new.out) [] (g.K.Sink.files c.keep.new.out) now (all_flushed c.flush.new.text.items _ _ all) same) does.1 it.1 (rw behind refused)

@@ -1,4 +1,4 @@
-use Rattle.session.proofs.Common.{◌≡◌, ◌∙◌, subst, fires_in, World}
+use Rattle.session.proofs.Common.{◌≡◌, ◌∙◌, subst, fires_in}
 use Rattle.engine.specs.Answers.{FiringAnswers}
 use Rattle.answer_lines.specs.declared.lines.Detail.{Detail}
 use Rattle.answer_lines.specs.declared.lines.Detail.TheVariants.{Full}

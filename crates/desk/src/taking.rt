@@ -1,0 +1,122 @@
+//! What takes the lines of a live run, and puts the images of the states behind those that save.
+ghost use Rattle.std.specs.Prelude.{◌≡◌, ◌+◌, ◌*◌, ◌<◌, ◌^◌, Some, IfOk, is_some};
+ghost use Rattle.line_run.specs.Parts.{run_part_at};
+ghost use Rattle.script_run.specs.Live.{live_by, live_step, most_firings};
+ghost use Rattle.desk.specs.Keeping.{IsPutBehind, IsRefusedBehind, refusal_code};
+
+use crate::ending::keep;
+use checkpoint::RunPart;
+use engine::{Engine, Inspect};
+use fx_base::{NoMemory, Seq, Text};
+use fx_io::Line;
+use fx_store::FileSink;
+use line_run::{KeepFault, LineTaker, Progress, Turn};
+use script_run::{Form, LIVE_MAX, LiveLines};
+use std::alloc::Global;
+
+/// What takes the lines of a live run, with what an image says of the run before it began, and the name of its image, where one is given.
+#[derive(Drop)]
+pub(crate) struct Keeping<E: Inspect> {
+    pub(crate) lines: LiveLines<E>,
+    pub(crate) first: RunPart,
+    pub(crate) image: Option<Text>,
+}
+
+fn part_copy(alloc: Global, part: &RunPart) -> Result<RunPart, NoMemory>
+    ensures { IfOk result (λ copy. copy ≡ part.now) }
+{
+    Ok(RunPart {
+        rules: Seq::from_vec(part.rules.as_slice().to_vec(alloc)?),
+        lines: part.lines,
+        firings: part.firings,
+        faulty: part.faulty,
+    })
+}
+
+fn name_copy(alloc: Global, name: &Option<Text>) -> Result<Option<Text>, NoMemory>
+    ensures { IfOk result (λ copy. copy ≡ name.now) }
+{
+    match name {
+        Some(name) => Ok(Some(Text::new(alloc, name.as_str())?)),
+        None => Ok(None),
+    }
+}
+
+impl<E: Inspect> Keeping<E> {
+    /// Takes lines with this engine: with at most so many firings for each fire command, with answers of this form, behind this part of a run, and with
+    /// the name of its image, where one is given.
+    pub(crate) fn new(
+        alloc: Global,
+        engine: E,
+        each: u64,
+        form: Form,
+        first: &RunPart,
+        image: &Option<Text>,
+    ) -> Result<Keeping<E>, NoMemory>
+        ensures engine { IfOk result (λ it. it.lines.obeying.engine ≡ engine) }
+        ensures limit { IfOk result (λ it. it.lines.obeying.limit ≡ most_firings) }
+        ensures live { IfOk result (λ it. it.lines.obeying.live ≡ Some each) }
+        ensures form { IfOk result (λ it. it.lines.obeying.form ≡ form) }
+        ensures has { IfOk result (λ it. it.lines.has_image ≡ is_some image.now) }
+        ensures first { IfOk result (λ it. it.first ≡ first.now) }
+        ensures image { IfOk result (λ it. it.image ≡ image.now) }
+    {
+        let lines = LiveLines::new(alloc, engine, each, form, image.is_some())?;
+        let first = part_copy(alloc, first)?;
+        let image = name_copy(alloc, image)?;
+        Ok(Keeping {
+            lines,
+            first,
+            image,
+        })
+    }
+}
+
+impl<E: Inspect, K: FileSink> LineTaker<K> for Keeping<E> {
+    ghost stands = { λ it. E.stands it.lines.obeying.engine };
+
+    ghost steps = { λ it. live_step (live_by it.lines.obeying.live it.lines.obeying.form E.gives E.fires E.counts it.lines.obeying.limit
+        (E.made_with it.lines.obeying.engine) (E.table it.lines.obeying.engine) it.lines.has_image) };
+
+    ghost program = { λ it. E.made_with it.lines.obeying.engine };
+
+    ghost table = { λ it. E.table it.lines.obeying.engine };
+
+    // the tags given, and those that the firings that are left and these lines may give
+    ghost ready = { λ it at n. E.tags it.lines.obeying.engine + 16 * at.left + 16 * n < 2 ^ 62 };
+
+    ghost puts = { λ it s before after. IsPutBehind (E.made_with it.lines.obeying.engine) (E.table it.lines.obeying.engine) it.first s before after it.image };
+
+    ghost refuses = { λ it s why. IsRefusedBehind (E.made_with it.lines.obeying.engine) (E.table it.lines.obeying.engine) it.first s (refusal_code why) };
+
+    fn take(
+        self,
+        alloc: Global,
+        at: Progress,
+        line: Line,
+        text: &mut Vec<u8>,
+    ) -> Result<(Self, Option<Turn>), NoMemory> {
+        let Keeping {
+            lines,
+            first,
+            image,
+        } = self;
+        let (lines, turn) = lines.take(alloc, at, line, text)?;
+        let next = Keeping {
+            lines,
+            first,
+            image,
+        };
+        Ok((next, turn))
+    }
+
+    fn keep(&self, alloc: Global, at: Progress, out: &mut K) -> Result<(), KeepFault> {
+        match &self.image {
+            Some(name) => {
+                let run = at.part(part_copy(alloc, &self.first)?, LIVE_MAX);
+                keep::<E, K>(alloc, self.lines.engine(), run, name.as_str(), out)
+            }
+            None => Ok(()),
+        }
+    }
+}
