@@ -6,6 +6,7 @@ import unittest
 from pathlib import Path
 
 from sozhipen_tools.documents.check import LIMITS, found_in, long_sentences
+from sozhipen_tools.documents.doors import door_faults
 from sozhipen_tools.documents.figures import (clause_faults, edit_faults, example_faults, figure_faults, figures,
                                               number_of)
 from sozhipen_tools.documents.graph import edges_of, graph_faults
@@ -200,6 +201,77 @@ class Houses(unittest.TestCase):
 
     def test_this_tree(self) -> None:
         self.assertEqual(list(house_faults(Tree())), [])
+
+
+DOORS = {
+    "crates.txt": "# --- network: nodes\nmemory:\nnode: memory\nnet: memory node\n"
+                  "# --- session: engines\nengine: net\n",
+    "crates/memory/src/lib.rt": "pub struct Memory {\n    rows: Vec<u64>,\n    key: Key,\n    pub size: u64,\n}\n\n"
+                                "pub struct Key {\n    field: u8,\n}\n",
+    "crates/node/src/lib.rt": "pub struct Node {\n    memory: Memory,\n    next: Box<Memory>,\n}\n\nimpl Node {\n"
+                              "    pub fn size(&self) -> u64\n        ensures { result ≡ self.now.memory.size }\n}\n",
+    "crates/node/specs/Doors.antt": "pub key_of : Node → Key\nkey_of node = node.memory.key\n",
+    "crates/net/src/lib.rt": "pub enum Place {\n    Of(Node),\n    Empty,\n}\n\n"
+                             "pub struct Net {\n    memory: Own,\n}\n\npub struct Own {\n    key: Key,\n}\n",
+    "crates/net/specs/Kept.antt": "pub record Shown : Type 0 where\n  pub node : Node\n  pub memory : Memory\n\n",
+    "crates/engine/src/lib.rt": "pub struct Engine {\n    net: Net,\n}\n",
+}
+
+
+class Doors(unittest.TestCase):
+    """A tree of crates with structs inside structs."""
+
+    def found(self, path: str, text: str) -> list[str]:
+        folder = tempfile.TemporaryDirectory()
+        self.addCleanup(folder.cleanup)
+        for name, content in {**DOORS, path: DOORS.get(path, "") + text}.items():
+            file = Path(folder.name, name)
+            file.parent.mkdir(parents=True, exist_ok=True)
+            file.write_text(content, encoding="utf-8")
+        return [str(fault) for fault in door_faults(Tree(Path(folder.name)))]
+
+    def test_one_field_of_another_crate(self) -> None:
+        self.assertEqual(self.found("crates/net/specs/Kept.antt", "keeps : (n : Node) → n.memory ≡ n.memory\n"), [])
+
+    def test_two_fields_of_other_crates(self) -> None:
+        told = "keeps : (m n : Node) → m.memory.key ≡ key_of n\n"
+        self.assertEqual(self.found("crates/net/specs/Kept.antt", told),
+                         ["crates/net/specs/Kept.antt:5: m.memory.key looks into memory of node::Node and key of "
+                          "memory::Memory"])
+
+    def test_through_a_box_in_a_contract(self) -> None:
+        code = "\nfn put(n: &Node)\n    ensures { n.now.next.rows.items ≡ n.now.memory.size }\n{}\n"
+        self.assertEqual(self.found("crates/net/src/lib.rt", code),
+                         ["crates/net/src/lib.rt:15: n.now.next.rows.items looks into next of node::Node and rows of "
+                          "memory::Memory"])
+
+    def test_what_a_constructor_holds(self) -> None:
+        told = "rows : Place → List ℕ\nrows (place.Of node) = node.memory.rows.items\nrows Empty = []\n"
+        self.assertEqual(self.found("crates/net/specs/Rows.antt", told),
+                         ["crates/net/specs/Rows.antt:2: node.memory.rows.items looks into memory of node::Node and "
+                          "rows of memory::Memory"])
+
+    def test_fields_of_that_name_elsewhere(self) -> None:
+        told = ("-- m.memory.key\nuse Rattle.node.specs.memory.key.{a}\n"
+                "keeps : (m : Net) (s : Shown) → m.memory.key ≡ s.memory.key\n")
+        self.assertEqual(self.found("crates/net/specs/Keeps.antt", told), [])
+        self.assertEqual(self.found("crates/net/proofs/Told.antt", "told = λ it. it.memory.key\n"), [])
+
+    def test_an_unknown_name_that_can_be_read_in_one_way(self) -> None:
+        self.assertEqual(self.found("crates/net/proofs/Told.antt", "told = λ it. it.next.rows.items\n"),
+                         ["crates/net/proofs/Told.antt:1: it.next.rows.items looks into next and rows, private fields "
+                          "of other crates"])
+
+    def test_behind_a_field_of_the_same_crate(self) -> None:
+        told = "told : (e : Engine) → e.net.memory.key ≡ e.net\n"
+        self.assertEqual(self.found("crates/engine/specs/Told.antt", told),
+                         ["crates/engine/specs/Told.antt:1: e.net.memory.key looks into memory of net::Net and key of "
+                          "net::Own"])
+
+    def test_networks_of_this_tree(self) -> None:
+        home = houses(Tree().text("crates.txt"))
+        crates = [name for name, house in home.items() if house in ("ground", "meaning", "network", "session")]
+        self.assertEqual(list(map(str, door_faults(Tree(), crates))), [])
 
 
 class Texts(unittest.TestCase):

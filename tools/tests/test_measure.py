@@ -13,7 +13,7 @@ from unittest import mock
 
 from support import evaluator
 
-from sozhipen_tools.bench import costs, measure, parts, rule_files, unproved
+from sozhipen_tools.bench import costs, measure, parts, rule_files, soak, unproved
 from sozhipen_tools.bench.loads import FIRE
 from sozhipen_tools.bench.sharing import LOADS
 
@@ -194,6 +194,24 @@ class Measuring(Case):
         self.assertIn("no such program: gone", self.refused("--replay", "gone", "inserts:100"))
         self.assertIn("--list, or --replay PROGRAM", self.refused(*there))
         self.assertIn("--list, or --replay PROGRAM", self.refused(*there, "--runs", "0", "inserts:100"))
+
+
+class Soaks(Case):
+    def soaked(self, desk: object) -> tuple[int, str]:
+        with contextlib.redirect_stdout(io.StringIO()) as out:
+            status = soak.main(["--desk", str(desk), "--lines", "60", "--every", "20", "--load", "pairs"])
+        return status, out.getvalue()
+
+    def test_lines_and_saves_are_told(self) -> None:
+        status, out = self.soaked(evaluator(self.folder, "reference.desk"))
+        self.assertEqual(status, 0, out)
+        self.assertRegex(out, r"^without saves: \d+ lines, [\d.]+ s, status 1\n  a line: p50 ")
+        self.assertRegex(out, r"with saves: \d+ lines, [\d.]+ s, status 0\n  a line: p50 ")
+        self.assertRegex(out, r"  a save: p50 .* 2 told, image [\d.]+ MiB\n$")
+
+    def test_a_save_that_is_not_told_is_seen(self) -> None:
+        evaluates = evaluator(self.folder, "reference.desk")
+        self.assertEqual(self.soaked(self.program("forgetful", f"{evaluates} \"$@\" | LD_PRELOAD= grep -v saved"))[0], 1)
 
 
 class Costs(Case):

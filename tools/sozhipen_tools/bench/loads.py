@@ -739,3 +739,10 @@ def fraud_script(n: int, rng: Random) -> Iterator[str]:
 def fraud(n: int, rng: Random) -> Load:
     """50 rules over 2,000 cards, 200 merchants and three types of events, 50 ms apart, a fire after each 20."""
     return Load(FRAUD_TYPES + fraud_rules(), fraud_script(n, rng))
+
+
+@load
+def fraud_reference(n: int, rng: Random) -> Load:
+    """The same desk, whose cards and merchants are tables marked `@reference`: events are forgotten."""
+    types = FRAUD_TYPES.replace("Card id", "Card @reference id").replace("Merchant id", "Merchant @reference id")
+    return Load(types + fraud_rules(), fraud_script(n, rng))

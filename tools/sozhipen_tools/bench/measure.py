@@ -212,11 +212,17 @@ def latency(program: str, files: Files) -> str:
     return f"  on a pipe {spread(times)}  a mark alone {share(marks, 0.5)} µs"
 
 
-def by_lines(program: str, files: Files) -> str:
-    folder = files.rules.parent
-    clock, told = folder / "line_clock.so", folder / "times"
+def line_clock(folder: Path) -> Path:
+    """The library, made there, that hands a program its input line by line, and clocks each."""
+    clock = folder / "line_clock.so"
     subprocess.run(["cc", "-O2", "-shared", "-fPIC", "-o", clock, Path(__file__).with_name("line_clock.c"), "-ldl"],
                    check=True)
+    return clock
+
+
+def by_lines(program: str, files: Files) -> str:
+    folder = files.rules.parent
+    clock, told = line_clock(folder), folder / "times"
     with open(files.script, "rb") as script:
         subprocess.run(program_words(program, files), stdin=script, stdout=subprocess.DEVNULL, check=True,
                        env={**os.environ, "LD_PRELOAD": str(clock), "LINE_CLOCK": str(told)})

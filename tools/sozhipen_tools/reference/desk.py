@@ -5,8 +5,13 @@ next.
 
 Answers are objects in JSON, one to a line, or with --text lines of text. --limit is the greatest number of firings of
 each fire command. The run goes on from the image in the file of --image, where it is there; a line that saves, and the
-end of the script, put one there. The statuses are those of `replay` (docs/SCRIPT.md). It is slow, and for short
-streams.
+end of the script, put one there. Where the image is of other rules, the run goes on under those of RULES, as
+images/changes.py says, and tells of each rule first whether it stays, is new or is gone:
+
+    {"change":"stays","rule":"big"}         or as text         rule "big" stays
+
+The file of an image that is refused stays as it is. The statuses are those of `replay` (docs/SCRIPT.md). It is slow,
+and for short streams.
 """
 
 from __future__ import annotations
@@ -16,8 +21,8 @@ import sys
 from dataclasses import dataclass
 from typing import Iterable, Optional
 
-from .images.resume import Refused, resumed, saved
-from .meaning.answers import object_of, text_of
+from .images.resume import Refused, resumed_under, saved
+from .meaning.answers import RuleChanged, object_of, text_of
 from .meaning.desk import Desk, Save
 from .meaning.program import Program
 from .meaning.run import Run
@@ -69,10 +74,15 @@ class ImageFile:
 
 
 def desk_at_start(program: Program, limit: int, as_text: bool, image: Optional[bytes], save: Optional[Save]) -> Desk:
-    """A desk before its first line: a new one, or one that goes on from an image; or Refused."""
-    state = Run(World(program), limit, limit, []) if image is None else resumed(image, program, limit)
-    return Desk(state.world, limit, limit, [], number=state.number, firings=state.firings, faulty=state.faulty,
+    """A desk before its first line, with what it tells of its rules: a new one, or one that goes on from an image; or
+    Refused."""
+    state, rules = Run(World(program), limit, limit, []), list[RuleChanged]()
+    if image is not None:
+        state, rules = resumed_under(image, program, limit)
+    desk = Desk(state.world, limit, limit, [], number=state.number, firings=state.firings, faulty=state.faulty,
                 save=save, write=text_of if as_text else object_of)
+    desk.tell(desk.number, *rules)
+    return desk
 
 
 def asked_desk(program: Program, a: Asked) -> Desk:
@@ -90,6 +100,8 @@ def scripted(program: Program, a: Asked, lines: Iterable[bytes]) -> int:
     """Runs a script up to its end, and leaves an image; the status."""
     try:
         state = asked_desk(program, a)
+        put_lines(state.lines)
+        state.lines.clear()
         for line in lines:
             state.number += 1
             state.line(state.number, line.removesuffix(b"\n"))

@@ -80,7 +80,8 @@ def begun(program: Program, image: bytes) -> Run:
     run = resumed(image, program, LIMIT)
     w = run.world
     if isinstance(w, LadenWorld) and not w.extras:
-        run.world = World(program, w.facts, w.clock, w.last_starts, w.promises, w.next_id, w.next_tag, w.fired, w.begun)
+        run.world = World(w.program, w.facts, w.clock, w.last_starts, w.promises, w.next_id, w.next_tag, w.fired,
+                          w.begun)
     return run
 
 

@@ -4,6 +4,11 @@ The bytes are `FXC1` and the fields in their order. Numbers of 8, 16 or 64 bits 
 with a sign in two's complement; a truth value is a byte 0 or 1; a list is its length, of 64 bits, and its members; a
 text is the list of its bytes, in UTF-8; a value is a byte 0, 1 or 2 for a whole number, a truth value or a text, and
 its content. Nothing follows.
+
+Where an image says by which lives its run forgets, its bytes are `FXC2`, the same fields, and behind them the list of
+the lives of all types in the order of the rule file: a byte 0 for a plain type; a byte 1 and the milliseconds of its
+`@expires`, with a sign; a byte 2 and the milliseconds of a finite life, with a sign; a byte 3 for a life for ever. The
+run of an image without lives forgets by those of its rules.
 """
 
 from __future__ import annotations
@@ -11,11 +16,12 @@ from __future__ import annotations
 import builtins
 import os
 from dataclasses import dataclass
-from typing import BinaryIO, Callable, TypeVar
+from typing import BinaryIO, Callable, Optional, TypeVar
 
 from ..meaning.trees import Value
 
 HEAD = b"FXC1"
+HEAD_WITH_LIVES = b"FXC2"
 
 T = TypeVar("T")
 
@@ -85,8 +91,19 @@ class Extra:
     values: tuple[int, ...]
 
 
+PLAIN, EXPLICIT, FINITE, ENDLESS = range(4)
+
+
+@dataclass(frozen=True)
+class ImageLife:
+    """How long events of a type are kept: its sort, and the milliseconds of an explicit or a finite life."""
+    sort: int
+    ms: int = 0
+
+
 @dataclass(frozen=True)
 class Image:
+    """`lives` are those of all types, None where they are those of the rules."""
     run: RunPart
     clock: int
     begun: bool
@@ -97,6 +114,7 @@ class Image:
     facts: tuple[ImageFact, ...]
     fired: tuple[FiredMatch, ...]
     extras: tuple[Extra, ...]
+    lives: Optional[tuple[ImageLife, ...]] = None
 
 
 # ---- bytes of an image
@@ -142,9 +160,19 @@ def extra_bytes(e: Extra) -> bytes:
             + listed(signed, e.values))
 
 
+def life_bytes(life: ImageLife) -> bytes:
+    return unsigned(life.sort, 1) + (signed(life.ms) if life.sort in (EXPLICIT, FINITE) else b"")
+
+
 def encode(image: Image) -> bytes:
+    if image.lives is None:
+        return HEAD + field_bytes(image)
+    return HEAD_WITH_LIVES + field_bytes(image) + listed(life_bytes, image.lives)
+
+
+def field_bytes(image: Image) -> bytes:
     run = image.run
-    return (HEAD + string(run.rules) + unsigned(run.lines) + unsigned(run.firings) + flag(run.faulty)
+    return (string(run.rules) + unsigned(run.lines) + unsigned(run.firings) + flag(run.faulty)
             + signed(image.clock) + flag(image.begun) + listed(signed, image.last_starts)
             + listed(signed, image.promises) + unsigned(image.next_id) + unsigned(image.next_tag)
             + listed(fact_bytes, image.facts) + listed(lambda m: unsigned(m.rule, 2) + row_bytes(m.row), image.fired)
@@ -221,12 +249,24 @@ class ImageReader:
     def run(self) -> RunPart:
         return RunPart(self.string(), self.unsigned(), self.unsigned(), self.flag())
 
-    def image(self) -> Image:
-        if self.bytes(len(HEAD)) != HEAD:
+    def life(self) -> ImageLife:
+        sort = self.unsigned(1)
+        if sort > ENDLESS:
             raise BadImage
+        return ImageLife(sort, self.signed() if sort in (EXPLICIT, FINITE) else 0)
+
+    def says_lives(self) -> bool:
+        """What the first bytes tell of those behind the fields."""
+        head = self.bytes(len(HEAD))
+        if head not in (HEAD, HEAD_WITH_LIVES):
+            raise BadImage
+        return head == HEAD_WITH_LIVES
+
+    def image(self) -> Image:
+        says_lives = self.says_lives()
         found = Image(self.run(), self.signed(), self.flag(), self.listed(self.signed), self.listed(self.signed),
                       self.unsigned(), self.unsigned(), self.listed(self.fact), self.listed(self.fired),
-                      self.listed(self.extra))
+                      self.listed(self.extra), self.listed(self.life) if says_lives else None)
         if self.place < len(self.data):
             raise BadImage
         return found
@@ -240,8 +280,7 @@ def decode(data: bytes) -> Image:
 def head_in(file: BinaryIO) -> Head:
     """The head of the image in a file, without a look at the rest; or BadImage."""
     front = ImageReader(file.read(len(HEAD) + 8))
-    if front.bytes(len(HEAD)) != HEAD:
-        raise BadImage
+    front.says_lives()
     try:
         file.seek(front.unsigned(), os.SEEK_CUR)
     except (OSError, OverflowError):

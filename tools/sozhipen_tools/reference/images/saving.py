@@ -2,18 +2,21 @@
 
 from __future__ import annotations
 
+from dataclasses import replace
 from typing import Iterable
 
-from ..meaning.keeping import kept_facts, lives_of
-from ..meaning.program import Program, TypeInfo
+from ..meaning.keeping import inferred_lives, kept_facts, lives_of
+from ..meaning.program import Lives, Program, TypeInfo
 from ..meaning.temporal import INFINITE
 from ..meaning.trees import Folded, Plain, kind_of_value
 from ..meaning.worlds import TIME_END, Fact, Row, World, arguments, candidates, passes
-from .image import Extra, FiredMatch, Image, ImageFact, ImageRow, Named, RunPart
+from .image import (ENDLESS, EXPLICIT, FINITE, PLAIN, Extra, FiredMatch, Image, ImageFact, ImageLife, ImageRow, Named,
+                    RunPart)
 from .laden import Beyond, Extras, LadenWorld, beyond_of, key_of, rows_before
 from .prefixes import owners
 
 NUMBER_END = 2**61
+LIFE_END = 2**62
 
 
 # ---- the image of a world
@@ -43,9 +46,19 @@ def extras_under(k: int, j: int, w: World, kept: set[int]) -> list[Extra]:
     return sorted(found, key=lambda e: (e.row.tags, e.row.values))
 
 
+def image_life(info: TypeInfo, lives: Lives) -> ImageLife:
+    if not info.event:
+        return ImageLife(PLAIN)
+    if info.expires is not None:
+        return ImageLife(EXPLICIT, info.expires)
+    life = lives[info.name]
+    return ImageLife(ENDLESS) if life == INFINITE else ImageLife(FINITE, int(life))
+
+
 def image_of(w: World, run: RunPart) -> Image:
     """The clock, the numbers, and what is kept: facts, marks of matches that name kept facts alone, and what rows of
-    kept facts have beyond them. What several rules begin with stands under the first of them."""
+    kept facts have beyond them; the lives, where they are not those of the rules. What several rules begin with stands
+    under the first of them."""
     program, entries = w.program, list(w.program.latenesses)
     types = list(program.types)
     facts = sorted(kept_facts(w), key=lambda f: f.tag)
@@ -61,7 +74,9 @@ def image_of(w: World, run: RunPart) -> Image:
                        for f in facts),
                  tuple(FiredMatch(k, ImageRow(tuple(Named(ids[tag], tag) for tag in tags), values))
                        for k, tags, values in fired),
-                 tuple(extras))
+                 tuple(extras),
+                 None if program.lives is None
+                 else tuple(image_life(info, program.lives) for info in program.types.values()))
 
 
 def is_too_large(image: Image) -> bool:
@@ -84,8 +99,18 @@ def extras_of(image: Image) -> Extras:
     return extras
 
 
+def program_of(image: Image, program: Program) -> Program:
+    """The program, a run of which forgets by the lives that the image says."""
+    if image.lives is None:
+        return program
+    lives: Lives = {name: INFINITE if life.sort == ENDLESS else life.ms
+                    for name, life in zip(program.types, image.lives) if life.sort in (FINITE, ENDLESS)}
+    return replace(program, lives=lives)
+
+
 def world_of(image: Image, program: Program) -> LadenWorld:
-    """The world of the facts of an image, with what its rows have beyond them."""
+    """The world of the facts of an image, with what its rows have beyond them, and its lives."""
+    program = program_of(image, program)
     entries = list(program.latenesses)
     return LadenWorld(program, tuple(fact_of(f, program) for f in image.facts), image.clock,
                       dict(zip(entries, image.last_starts)), dict(zip(entries, image.promises)), image.next_id,
@@ -140,6 +165,23 @@ def facts_fit(image: Image, program: Program) -> bool:
             and all(s == sorted(s) for s in starts.values()))
 
 
+def is_safe(life: ImageLife, info: TypeInfo, program: Program) -> bool:
+    """No event of the type is forgotten too early by the life: a finite one is at least that of the rules. A plain type
+    and an explicit expiry are called what they are."""
+    if not info.event or info.expires is not None:
+        return life == image_life(info, {})
+    least = inferred_lives(program)[info.name]
+    return life == ImageLife(ENDLESS) or life.sort == FINITE and least <= life.ms <= LIFE_END
+
+
+def lives_fit(image: Image, program: Program) -> bool:
+    """The lives that it says are safe for the program."""
+    if image.lives is None:
+        return True
+    infos = list(program.types.values())
+    return len(image.lives) == len(infos) and all(is_safe(*it, program) for it in zip(image.lives, infos))
+
+
 def extra_fits(e: Extra, program: Program) -> bool:
     """It stands under the first rule that begins so, at a condition that binds nothing, on events of a finite life; its
     values are those of an accumulate, rising."""
@@ -171,6 +213,9 @@ def rows_fit(image: Image, w: LadenWorld) -> bool:
 
 def fits(image: Image, program: Program) -> bool:
     """Whether a run of the program can go on from an image; its text of the rules aside."""
+    if not lives_fit(image, program):
+        return False
+    program = program_of(image, program)
     extras_in_order = is_sorted([(e.rule, e.condition, e.row.tags, e.row.values) for e in image.extras])
     fired_in_order = is_sorted([(m.rule, m.row.tags, m.row.values) for m in image.fired])
     if not (numbers_fit(image, program) and facts_fit(image, program) and extras_in_order and fired_in_order

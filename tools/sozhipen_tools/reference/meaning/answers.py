@@ -103,8 +103,20 @@ class FireDone:
     pending: bool
 
 
+# ---- what is told before the first line
+
+
+@dataclass(frozen=True)
+class RuleChanged:
+    """Of other rules over a running state: whether a rule of this name stays, is new, or is gone."""
+    name: str
+    change: str
+
+
+STAYS, NEW, GONE = "stays", "new", "gone"
+
 Answer = Union[Inserted, Modified, Retracted, Fired, Faulted, Held, LimitOfRun, LimitOfLine, Saved, Kept, Counted, Done,
-               FireDone]
+               FireDone, RuleChanged]
 
 
 # ---- as text
@@ -133,7 +145,8 @@ TEXTS: dict[type, Callable[[Any, int], str]] = {
     Saved: lambda a, n: f"saved {n}",
     Kept: lambda a, n: f"fact #{a.fact.id} {a.fact.type}",
     Done: lambda a, n: f"done {n}",
-    FireDone: lambda a, n: f"done {n}"}
+    FireDone: lambda a, n: f"done {n}",
+    RuleChanged: lambda a, n: f"rule {quoted(a.name)} {a.change}"}
 
 
 def text_of(answer: Answer, number: int) -> Optional[str]:
@@ -181,11 +194,13 @@ MEMBERS: dict[type, Callable[[Any], dict[str, Any]]] = {
     Counted: lambda a: {"clock": a.clock, "counts": a.counts, "firings": a.firings, "floors": a.floors,
                         "pending": a.pending},
     Done: lambda a: {},
-    FireDone: lambda a: {"fired": a.fired, "pending": a.pending}}
+    FireDone: lambda a: {"fired": a.fired, "pending": a.pending},
+    RuleChanged: lambda a: {"rule": a.name, "change": a.change}}
 
 
 def object_of(answer: Answer, number: int) -> str:
     """The object of an answer to the script's line of this number, in JSON."""
     place = "done" if isinstance(answer, (Done, FireDone)) else "line"
-    return json.dumps({place: number, **MEMBERS[type(answer)](answer)}, sort_keys=True, separators=(",", ":"),
+    numbered = {} if isinstance(answer, RuleChanged) else {place: number}
+    return json.dumps({**numbered, **MEMBERS[type(answer)](answer)}, sort_keys=True, separators=(",", ":"),
                       ensure_ascii=False)

@@ -5,19 +5,23 @@ from __future__ import annotations
 
 from collections import Counter
 from functools import lru_cache
-from typing import Union
 
 from .answers import Held
 from .lives import life_of_type
-from .program import Program
+from .program import Lives, Program
 from .temporal import INFINITE
 from .worlds import Fact, World, is_present, pending, present
 
 
 @lru_cache(maxsize=16)
-def lives_of(program: Program) -> dict[str, Union[int, float]]:
-    """The lives of the event types that have no explicit expiry."""
+def inferred_lives(program: Program) -> Lives:
+    """The lives of the event types that have no explicit expiry, by the rules."""
     return {t.name: life_of_type(program, t.name) for t in program.types.values() if t.event and t.expires is None}
+
+
+def lives_of(program: Program) -> Lives:
+    """The lives by which a run of the program forgets."""
+    return inferred_lives(program) if program.lives is None else program.lives
 
 
 def is_kept(f: Fact, w: World, named: set[int]) -> bool:

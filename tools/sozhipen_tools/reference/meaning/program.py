@@ -156,17 +156,21 @@ def sight_of_actions(rule: Rule, types: dict[str, TypeInfo]) -> Sight:
 
 # ---- the program of an accepted file
 
+# By the event types that have no explicit expiry: for how many milliseconds behind their end events are kept.
+Lives = dict[str, Union[int, float]]
+
 
 @dataclass(frozen=True, eq=False)
 class Program:
-    """An accepted rule file; `written` are the items as they were read, `titles` the names that the rules have
-    there."""
+    """An accepted rule file; `written` are the items as they were read, `titles` the names that the rules have there.
+    `lives` are those by which a run of it forgets, where they are not those of its rules."""
     types: dict[str, TypeInfo]
     latenesses: dict[str, int]
     rules: list[Rule]
     observed: set[str]
     written: tuple[Item, ...] = ()
     titles: tuple[str, ...] = ()
+    lives: Optional[Lives] = None
 
     def title(self, rule: int) -> str:
         """The name by which a rule is printed: that of the rule as it was read, where it is written out."""
