@@ -1,7 +1,7 @@
 ghost use Rattle.std.specs.Prelude.{◌≡◌, IfOk};
 
 use crate::programs::program;
-use checkpoint::{RunPart, encode};
+use checkpoint::{ImagePieces, LentImage, RunPart, encode};
 use expiry_infer::lives as inferred;
 use fx_base::{NoMemory, Seq, Text};
 use rule_model::LifeTable;
@@ -66,14 +66,23 @@ fn first_part(alloc: Global) -> RunPart {
     }
 }
 
+/// The bytes of an image of a few facts, piece by piece.
+fn all_pieces(alloc: Global, image: LentImage<'_>) -> Result<Vec<u8>, NoMemory> {
+    let mut pieces = ImagePieces::new(image);
+    let mut bytes = Vec::new(alloc);
+    for _ in 0..8 {
+        pieces.put_next(&mut bytes)?;
+    }
+    Ok(bytes)
+}
+
 #[test]
 fn an_engine_tells_what_it_would_save(rt: HostRuntime) -> Result<(), Fail> {
     let alloc = rt.alloc();
     let session = opened(alloc, ITEM)?;
     let (session, _) = session.apply(alloc, &item(alloc, 11)?)?;
     assert_eq!(rt; session.tags_given(), 1);
-    let image = session.image(alloc, first_part(alloc))?;
-    let told = encode(alloc, &image)?;
+    let told = all_pieces(alloc, session.image(alloc, first_part(alloc))?)?;
     let saved = session.save(alloc, first_part(alloc))?;
     assert!(rt; told.as_slice() == encode(alloc, &saved)?.as_slice());
     Ok(())

@@ -6,6 +6,7 @@ pub use Rattle.std.specs.Ordering.{eq_by_cmp}
 pub use Rattle.beta_join.specs.Turns.{TurnedMemories}
 pub use Rattle.join_tests.specs.Joins.{Look, joins}
 pub use Rattle.pair_memory.proofs.Turning.{any_name, less_more, more_more, keeps_then, name_absent, name_present, row_absent, row_present}
+pub use Rattle.pair_memory.proofs.Keeping.{seen_after, if_not}
 pub use Rattle.pair_memory.specs.Joined.{has_name, joined, splits, unjoined}
 pub use Rattle.pair_memory.specs.Memories.{has_left, has_right, made, KeepsMemories}
 pub use Rattle.pair_memory.specs.declared.memories.Memories.{Memories}

@@ -178,11 +178,13 @@ module _ {S : Type 0} (m n : Memories S) (look : Look) (who : Named) (change cha
       (name_less (joins m.pattern look) (has_left m look) (has_right m look) who) (name_inside (joins m.pattern look) (has_left m look) (has_right m look) who there) leave
 
   pub name_arrives : KeepsMemories m n look (has_left m look) (λ c. has_right m look c || eq_by_cmp name_cmp who c) → has_right m look who ≡ false
-      → ((r : Row) → has rows r ≡ joined (joins m.pattern look) (has_left m look) (eq_by_cmp name_cmp who) r)
+      → ((r : Row) → has rows r ≡ joined (joins n.pattern look) (has_left n look) (eq_by_cmp name_cmp who) r)
       → ((old now : Row → Bool) → LeadsRows old now change.gone.keys change.come.keys → ((r : Row) → has rows r ≡ true → now r ≡ false) → LeadsRows old (along now rows) changed.gone.keys changed.come.keys)
       → TurnedMemories m n look (has_left m look) (λ c. has_right m look c || eq_by_cmp name_cmp who c) change changed
   name_arrives keeps new are arrive =
-      rows_arrive m n look (has_left m look) _ keeps change changed rows (joined (joins m.pattern look) (has_left m look) (eq_by_cmp name_cmp who)) are
+      rows_arrive m n look (has_left m look) _ keeps change changed rows (joined (joins m.pattern look) (has_left m look) (eq_by_cmp name_cmp who))
+      (λ r. are r ∙ ap (λ (p : Pattern). joined (joins p look) (has_left n look) (eq_by_cmp name_cmp who) r) keeps.pattern
+      ∙ joined_alike (joins m.pattern look) (has_left n look) (has_left m look) (eq_by_cmp name_cmp who) (eq_by_cmp name_cmp who) keeps.rows (λ c. refl) r)
       (name_more (joins m.pattern look) (has_left m look) (has_right m look) who) (name_outside (joins m.pattern look) (has_left m look) (has_right m look) who new) arrive
 
 module _ {S : Type 0} (m n : Memories S) (look : Look) (who : Named) (change : Change) where

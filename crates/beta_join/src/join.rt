@@ -219,11 +219,12 @@ impl BetaJoin {
         ensures { OnOk result (TurnedMemories self.old.memories self.new.memories (F.map facts.now)
             (has_left self.old.memories (F.map facts.now)) (λ c. has_right self.old.memories (F.map facts.now) c && not (eq_by_cmp name_cmp who c)) change.old change.new) }
     {
-        if self.memories.take_right(who, facts) {
-            let rows = self.memories.with_candidate(alloc, who, facts)?;
-            change.leave(alloc, rows)
-        } else {
-            Ok(())
+        match self.memories.take_right(who, facts) {
+            Some(sight) => {
+                let rows = self.memories.with_candidate(alloc, &sight, who, facts)?;
+                change.leave(alloc, rows)
+            }
+            None => Ok(()),
         }
     }
 
@@ -237,11 +238,12 @@ impl BetaJoin {
         ensures { OnOk result (TurnedMemories self.old.memories self.new.memories (F.map facts.now)
             (has_left self.old.memories (F.map facts.now)) (λ c. has_right self.old.memories (F.map facts.now) c || eq_by_cmp name_cmp who c) change.old change.new) }
     {
-        let rows = self.memories.with_candidate(alloc, who, facts)?;
-        if self.memories.put_right(alloc, who, facts)? {
-            Ok(())
-        } else {
-            change.arrive(alloc, rows)
+        match self.memories.put_right(alloc, who, facts)? {
+            Some(sight) => {
+                let rows = self.memories.with_candidate(alloc, &sight, who, facts)?;
+                change.arrive(alloc, rows)
+            }
+            None => Ok(()),
         }
     }
 }

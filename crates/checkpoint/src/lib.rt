@@ -10,8 +10,10 @@ pub mod laws;
 mod lists;
 mod numbers;
 mod parts;
+mod pieces;
 mod spelled;
 
 pub use codec::{decode, encode};
 pub use fault::DecodeFault;
 pub use image::{FiredMatch, Image, RunPart};
+pub use pieces::{ImagePieces, LentImage};

@@ -1,5 +1,5 @@
 -- What a node that stands for a snapshot counts of forgotten facts.
-use Rattle.condition_node.proofs.Common.{◌≡◌, ◌∙◌, sym, ap, refl, subst, ⊎_elim, inl, inr, ◌⊎◌, ℕ, arith, map, length, List, [], ◌∷◌, Bool, true, false, cond}
+use Rattle.condition_node.proofs.Common.{◌≡◌, ◌∙◌, sym, ap, refl, subst, ⊎_elim, inl, inr, ℕ, arith, map, length, List, [], ◌∷◌, Bool, true, false, cond}
 use Rattle.condition_node.proofs.Common.{◌&&◌, ◌||◌, Option, Some, None, ℤ, pos, eq_by_cmp, is_eq, In, Fact, in_rising_order, Extra, Named, name_equiv, Row}
 use Rattle.condition_node.proofs.Common.{row_cmp, InOrder, Accumulate, Condition, Negated, Existing, Folded, Pattern, Program, HaveDistinctTags, Holds}
 use Rattle.condition_node.proofs.Common.{pattern_of, argument, Snapshot, name_of, one_fact, once_filter, once_map, Look, joins, Memories, has_name, cleaned}
@@ -8,7 +8,7 @@ use Rattle.condition_node.proofs.Common.{argument_of, gathers, extra_for, nothin
 use Rattle.condition_node.proofs.Common.{rows_of_extras, NotNode, HasAllOf, NameHeld, held, candidates_of, partners, held_all, values_gathered, lost_partners}
 use Rattle.condition_node.proofs.Common.{IsAside, IsLost, IsExtraBeside, AreExtrasBeside, FoldNode, Node, condition_of, CountsPartners, NodeStands}
 use Rattle.condition_node.proofs.Common.{AllByRecursion, lost_passing, others_law, length-rising, same_values, held_known, joining_alike, remembered_alike}
-use Rattle.condition_node.proofs.Common.{partner_in, partners_once}
+use Rattle.condition_node.proofs.Common.{partner_in, partners_once, blocker_tallies, tallied_pattern}
 use Rattle.rule_model.proofs.Named.{of_filter}
 use Rattle.std.specs.declared.cmp.Ordering.TheVariants.{Less}
 use Rattle.std.specs.List.Sorted.{IsStrictlySortedBy}
@@ -171,11 +171,11 @@ module _ (look : Look) (under : RuleId) (place : ℕ) (extras : List Extra) wher
 
   pub exists_beyond : (tally : TallyNode Witnesses) → AreExtrasOf counts_witnesses nothing_gathered tally.memories look under place extras → TellsBeyond look under place extras (node.Exists tally)
   exists_beyond tally are p s rows forgotten tags known named counts =
-      extras_beside p look s rows forgotten tags known named counts_witnesses nothing_gathered (Existing tally.memories.pattern) tally.memories refl tt (λ xs ys dx dy same. refl) (nothing_told s) counts under place extras are
+      extras_beside p look s rows forgotten tags known named counts_witnesses nothing_gathered (Existing (tallied_pattern tally)) tally.memories refl tt (λ xs ys dx dy same. refl) (nothing_told s) counts under place extras are
 
-  pub not_beyond : (waiting : NotNode) → AreExtrasOf counts_blockers nothing_gathered waiting.tally.memories look under place extras → TellsBeyond look under place extras (node.Not waiting)
+  pub not_beyond : (waiting : NotNode) → AreExtrasOf counts_blockers nothing_gathered (blocker_tallies waiting) look under place extras → TellsBeyond look under place extras (node.Not waiting)
   not_beyond waiting are p s rows forgotten tags known named waits =
-      let m = waiting.tally.memories in
+      let m = blocker_tallies waiting in
       extras_beside p look s rows forgotten tags known named counts_blockers nothing_gathered (Negated m.pattern) m refl tt (λ xs ys dx dy same. refl) (nothing_told s) waits.counts under place extras are
 
   pub fold_beyond : (fold : FoldNode) → AreExtrasOf (gathers fold.accumulate) (arguments_gathered fold.accumulate) fold.tally.memories look under place extras → TellsBeyond look under place extras (node.Fold fold)

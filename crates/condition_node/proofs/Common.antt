@@ -11,6 +11,7 @@ pub use Rattle.std.specs.List.{AllByRecursion, filter, list_any}
 pub use Rattle.std.specs.Option.{is_some, option_map}
 pub use Rattle.std.specs.Ordering.{eq_by_cmp, is_eq}
 pub use mathlib.Core.Path.{fun_ext}
+pub use Rattle.beta_join.specs.Doors.{joined_pattern}
 pub use Rattle.beta_join.specs.declared.join.BetaJoin.{BetaJoin}
 pub use Rattle.condition_node.specs.Loading.{AreExtrasBeside, CountsLaden, IsAside, IsExtraBeside, IsLoad, IsLost, IsResumed, Laden, ResumesLaw, WaitsLaden}
 pub use Rattle.condition_node.specs.Loading.{node_rows}
@@ -40,6 +41,7 @@ pub use Rattle.laden_rows.specs.Extras.{lost_partners, values_gathered}
 pub use Rattle.not_node.proofs.Lawful.{not_law}
 pub use Rattle.not_node.proofs.Maturing.{moment_alike, row_mature}
 pub use Rattle.not_node.proofs.Quiet.{dropped_none_due, none_due, quiet_law, waits_own}
+pub use Rattle.not_node.specs.Doors.{awaited_entry, blocker_tallies, blocking_pattern, reached_floor, waiting_rows}
 pub use Rattle.not_node.specs.Moments.{moment_at}
 pub use Rattle.not_node.specs.Rows.{IsInStep, not_rows, unblocked}
 pub use Rattle.not_node.specs.Waiting.{NoneDue, later, mature, waits}
@@ -79,6 +81,7 @@ pub use Rattle.tally_node.proofs.Gathering.{same_values}
 pub use Rattle.tally_node.proofs.Lawful.{drop_law, gathered_shown, itself_facts, start_law, tally_law, without_value_facts, witnesses_shown}
 pub use Rattle.tally_node.proofs.Resuming.{blockers_made_up, gathered_made_up, load_law, others_law, resume_law, witnesses_made_up}
 pub use Rattle.tally_node.specs.Counts.{AreDistinct, IsNumber, counts_blockers, counts_witnesses, where_unblocked, where_witnessed, zero_where}
+pub use Rattle.tally_node.specs.Doors.{tallied_pattern}
 pub use Rattle.tally_node.specs.Extras.{AllLaden, AreExtrasOf, CountsOthers, IsBeyond, IsExtraFor, IsTallyLaden, arguments_gathered, blockers_laden}
 pub use Rattle.tally_node.specs.Extras.{counts_more, extra_for, gathered_laden, nothing_gathered, rows_of_extras, witnesses_laden}
 pub use Rattle.tally_node.specs.Gathers.{argument_given, argument_of, gathers, is_result, result_for, tested}

@@ -6,6 +6,7 @@ use Rattle.condition_node.proofs.Common.{without_value, shows_value, BetaJoin, c
 use Rattle.condition_node.proofs.Common.{StandsCounted, itself, shows_any, shown, Witnesses, TallyNode, NotNode, IsInStep, not_rows, NoneDue, line, held}
 use Rattle.condition_node.proofs.Common.{candidates_of, FoldNode, Node, condition_of, CountsPartners, NodeStands, Decides-eqb, drop_law, itself_facts}
 use Rattle.condition_node.proofs.Common.{without_value_facts, dropped_none_due, and_parts, held_known, joining_alike}
+use Rattle.condition_node.proofs.Common.{awaited_entry, blocker_tallies, blocking_pattern, joined_pattern, reached_floor, tallied_pattern, waiting_rows}
 use Rattle.tally_node.proofs.Lawful.{forget_law as tally_forgets}
 use Rattle.std.specs.List.Sorted.{IsStrictlySortedBy}
 use Rattle.beta_join.proofs.Lawful.{forget_law as join_forgets}
@@ -40,10 +41,10 @@ module _ (p : Program) (look : Look) (old : Named → Bool) (dropped gone : List
   Went rows rows_now = (row : Row) → has gone row ≡ (rows row && not (rows_now row))
 
   module _ (m n : BetaJoin) (kept : Lessened m.memories n.memories) (told : Went (made m.memories look) (made n.memories look)) (ordered : InOrder gone) where
-    law : In (node.Join m) (λ s left forgotten. StandsFor n.memories look left (candidates_of p m.memories.pattern s) (either forgotten old)
+    law : In (node.Join m) (λ s left forgotten. StandsFor n.memories look left (candidates_of p (joined_pattern m) s) (either forgotten old)
         × ((row : Row) → cleaned (line p s (condition_of (node.Join m)) left) forgotten row ≡ true → has gone row ≡ not (clean old row)))
     law s left forgotten is =
-        let q = m.memories.pattern in
+        let q = joined_pattern m in
         join_forgets (Unit {0}) m.memories n.memories look (joins q (held s)) left (candidates_of p q s) forgotten old dropped gone is.stands
         (joining_alike look (held s) s forgotten is.at_hand (held_known s forgotten) p q left is.named) is.rows kept told
 
@@ -72,7 +73,7 @@ module _ (p : Program) (look : Look) (old : Named → Bool) (dropped gone : List
     exists_forgot before same = subst (λ (b : Node). Forgets b (node.Exists n)) (sym same) (record {
       stands = λ s left forgotten is. counts_on counts_witnesses m.memories n.memories kept alone s left forgotten is.rows is.stands;
       drops = λ s left forgotten is row e.
-          drop_law Witnesses itself shows_any where_witnessed itself_facts m.memories n.memories look left (candidates_of p m.memories.pattern s) forgotten old dropped gone is.stands.stands is.rows alone told row
+          drop_law Witnesses itself shows_any where_witnessed itself_facts m.memories n.memories look left (candidates_of p (tallied_pattern m) s) forgotten old dropped gone is.stands.stands is.rows alone told row
           (exists_shown p look s left forgotten is.at_hand is.named is.tags m.memories is.stands row ∙ e);
       alone = λ s left forgotten is row e.
           sym (exists_shown p look s left forgotten is.at_hand is.named is.tags m.memories is.stands row)
@@ -80,20 +81,20 @@ module _ (p : Program) (look : Look) (old : Named → Bool) (dropped gone : List
       ordered = λ s left forgotten is. ordered;
     })
 
-  module _ (m n : NotNode) (kept : Lessened m.tally.memories n.tally.memories) (alone : LeftAlone m.tally.memories n.tally.memories) (same_floor : n.ripening.floor ≡ m.ripening.floor)
+  module _ (m n : NotNode) (kept : Lessened (blocker_tallies m) (blocker_tallies n)) (alone : LeftAlone (blocker_tallies m) (blocker_tallies n)) (same_floor : reached_floor n ≡ reached_floor m)
       (in_step : IsInStep p look m → IsInStep p look n) (told : IsInStep p look m → Went (not_rows p look m) (not_rows p look n)) (ordered : IsInStep p look m → InOrder gone) where
     pub not_forgot : (before : Node) → before ≡ node.Not m → Forgets before (node.Not n)
     not_forgot before same = subst (λ (b : Node). Forgets b (node.Not n)) (sym same) (record {
       stands = λ s left forgotten is. record {
-        counts = counts_on counts_blockers m.tally.memories n.tally.memories kept alone s left forgotten is.rows is.stands.counts;
+        counts = counts_on counts_blockers (blocker_tallies m) (blocker_tallies n) kept alone s left forgotten is.rows is.stands.counts;
         in_step = in_step is.stands.in_step;
-        none_due = subst (λ (q : Pattern). NoneDue n.ripening.waiting.keys (floor p s q.entry.0)) (sym kept.pattern)
-            (dropped_none_due p m n look dropped (floor p s m.tally.memories.pattern.entry.0) is.stands.in_step (in_step is.stands.in_step) kept.pattern same_floor alone is.stands.none_due);
-        floor = subst (λ (q : Pattern). n.ripening.floor ≤ℤ floor p s q.entry.0) (sym kept.pattern)
-            (subst (λ (now : ℤ). now ≤ℤ floor p s m.tally.memories.pattern.entry.0) (sym same_floor) is.stands.floor);
+        none_due = subst (λ (q : Pattern). NoneDue (waiting_rows n) (floor p s q.entry.0)) (sym kept.pattern)
+            (dropped_none_due p m n look dropped (floor p s (awaited_entry m)) is.stands.in_step (in_step is.stands.in_step) kept.pattern same_floor alone is.stands.none_due);
+        floor = subst (λ (q : Pattern). reached_floor n ≤ℤ floor p s q.entry.0) (sym kept.pattern)
+            (subst (λ (now : ℤ). now ≤ℤ floor p s (awaited_entry m)) (sym same_floor) is.stands.floor);
       };
       drops = λ s left forgotten is row e.
-          not_drops p m n look left (candidates_of p m.tally.memories.pattern s) forgotten old dropped gone is.stands.counts.stands is.rows kept.pattern same_floor alone (told is.stands.in_step) row
+          not_drops p m n look left (candidates_of p (blocking_pattern m) s) forgotten old dropped gone is.stands.counts.stands is.rows kept.pattern same_floor alone (told is.stands.in_step) row
           (not_shown p look s left forgotten is.at_hand is.named is.tags m is.stands row ∙ e);
       alone = λ s left forgotten is row e.
           sym (not_shown p look s left forgotten is.at_hand is.named is.tags m is.stands row) ∙ went (not_rows p look m row) (not_rows p look n row) (has gone row) (told is.stands.in_step row) e;

@@ -10,7 +10,7 @@ use Rattle.condition_node.proofs.Common.{Blockers, Witnesses, IsNumber, zero_whe
 use Rattle.condition_node.proofs.Common.{IsTallyLaden, counts_more, blockers_laden, witnesses_laden, gathered_laden, argument_given, argument_of, gathers}
 use Rattle.condition_node.proofs.Common.{tested, result_for, is_result, all_passing, itself, shows_any, output_some, output_from, offers, shown, same_values}
 use Rattle.condition_node.proofs.Common.{NotNode, moment_at, not_rows, unblocked, mature, row_mature, moment_alike, quiet_law, in_name, name_in, Node}
-use Rattle.condition_node.proofs.Common.{condition_of, NodeStands}
+use Rattle.condition_node.proofs.Common.{condition_of, NodeStands, blocker_tallies, blocking_pattern, joined_pattern}
 use Rattle.condition_rows.specs.Lines.{is_ripe, is_result as is_given}
 use Rattle.condition_rows.specs.Sets.{has_partner}
 use Rattle.pair_memory.specs.Valued.{valued}
@@ -197,9 +197,9 @@ module _ (p : Program) (look : Look) (t : Snapshot) (rows : Row → Bool) (extra
   regroup false b c d h = refl
 
   not_laden : (waiting : NotNode) → WaitsLaden p waiting look (held t) t rows extra
-      → (row : Row) → not_rows p look waiting row ≡ (rows row && (not (has_partner p waiting.tally.memories.pattern t row || is_some (extra row)) && is_ripe p waiting.tally.memories.pattern t row))
+      → (row : Row) → not_rows p look waiting row ≡ (rows row && (not (has_partner p (blocking_pattern waiting) t row || is_some (extra row)) && is_ripe p (blocking_pattern waiting) t row))
   not_laden waiting waits row =
-      let m = waiting.tally.memories in
+      let m = blocker_tallies waiting in
       let now = floor p t m.pattern.entry.0 in
       sym ((quiet_law p waiting look now waits.in_step waits.floor waits.none_due).1 row)
       ∙ ap (λ b. b && mature now (moment_at p m.pattern look row)) (unblocked_laden m waits.counts row)
@@ -255,7 +255,7 @@ module _ (p : Program) (look : Look) (t : Snapshot) (rows : Row → Bool) (extra
             ∙ sym (ap (splits_value line_of) s)
 
   pub node_laden : (n : Node) → Laden p n look (held t) t rows extra → (row : Row) → node_rows p look n row ≡ laden_line p t extra (condition_of n) rows row
-  node_laden (node.Join join) stands row = join_shown p look t rows no_names known named join.memories stands row ∙ sym (all_clean (line p t (Plain join.memories.pattern) rows) row)
+  node_laden (node.Join join) stands row = join_shown p look t rows no_names known named join.memories stands row ∙ sym (all_clean (line p t (Plain (joined_pattern join)) rows) row)
   node_laden (node.Not waiting) waits row = not_laden waiting waits row
   node_laden (node.Exists tally) counts row = exists_laden tally.memories counts row
   node_laden (node.Fold fold) folds row = gathered_laden_rows fold.accumulate fold.tally.memories folds.pattern folds.counts row

@@ -7,6 +7,7 @@ use Rattle.condition_node.proofs.Common.{Witnesses, TallyNode, counts_blockers, 
 use Rattle.condition_node.proofs.Common.{AllLaden, gathers, NotNode, IsInStep, later, none_due, empty_snapshot, held, candidates_of, FoldNode, Node}
 use Rattle.condition_node.proofs.Common.{CountsLaden, IsLoad, Laden, condition_of, NodeStands, same_from_decides, StandsLaden, load_law, held_known}
 use Rattle.condition_node.proofs.Common.{joining_alike, candidate_alike, ≤ℤ_trans}
+use Rattle.condition_node.proofs.Common.{awaited_entry, blocker_tallies, joined_pattern, reached_floor, tallied_pattern, blocking_pattern}
 use Rattle.condition_node.proofs.Moved.{no_candidates}
 use Rattle.condition_node.proofs.Turning.{later_is}
 use Rattle.condition_node.specs.declared.node.Node.TheVariants as node
@@ -72,28 +73,28 @@ module _ (p : Program) (At : Snapshot → Type 0) (look : Look) (left : List Row
             stepped.rows row ∙ ap (λ b. (b && not (has rows_in.gone row)) || has rows_in.come row) (nothing.rows row) ∙ ap (λ (rs : List Row). has rs row) rows_are ∙ load.rows row ∙ all_clean rows row;
         names = λ who.
             stepped.names who ∙ ap (λ b. (b && not (has names_in.gone (row_naming who))) || has names_in.come (row_naming who)) (nothing.names who) ∙ ap (λ (rs : List Row). has rs (row_naming who)) names_are ∙ has_naming right who ∙ load.candidates who
-            ∙ all_remembered (candidates_of p m.memories.pattern s who);
+            ∙ all_remembered (candidates_of p (joined_pattern m) s who);
         agrees = stepped.agrees nothing.agrees;
       })
 
   pub exists_loads : (m n : TallyNode Witnesses) → KeepsMemories m.memories n.memories look (λ row. has_left m.memories look row || has left row) (λ who. has_right m.memories look who || has_name right who)
       → AllLaden counts_witnesses witnesses_laden look extras (has left) m.memories n.memories → LoadsTo p At look left right extras (node.Exists m) (node.Exists n)
   exists_loads m n keeps loaded world s rows counts at load =
-      counts_loaded counts_witnesses witnesses_laden m.memories n.memories (Existing m.memories.pattern) refl keeps loaded world s rows counts.stands load
+      counts_loaded counts_witnesses witnesses_laden m.memories n.memories (Existing (tallied_pattern m)) refl keeps loaded world s rows counts.stands load
 
-  pub not_loads : (m n : NotNode) → KeepsMemories m.tally.memories n.tally.memories look (λ row. has_left m.tally.memories look row || has left row) (λ who. has_right m.tally.memories look who || has_name right who)
-      → AllLaden counts_blockers blockers_laden look extras (has left) m.tally.memories n.tally.memories
-      → (told : ℤ) → ((s : Snapshot) → At s → told ≡ floor p s m.tally.memories.pattern.entry.0) → n.ripening.floor ≡ later m.ripening.floor told → (IsInStep p look m → IsInStep p look n)
+  pub not_loads : (m n : NotNode) → KeepsMemories (blocker_tallies m) (blocker_tallies n) look (λ row. has_left (blocker_tallies m) look row || has left row) (λ who. has_right (blocker_tallies m) look who || has_name right who)
+      → AllLaden counts_blockers blockers_laden look extras (has left) (blocker_tallies m) (blocker_tallies n)
+      → (told : ℤ) → ((s : Snapshot) → At s → told ≡ floor p s (awaited_entry m)) → reached_floor n ≡ later (reached_floor m) told → (IsInStep p look m → IsInStep p look n)
       → LoadsTo p At look left right extras (node.Not m) (node.Not n)
   not_loads m n keeps loaded told told_is risen in_step world s rows waits at load =
-      let entry = m.tally.memories.pattern.entry.0 in
-      let floor_is : n.ripening.floor ≡ floor p s n.tally.memories.pattern.entry.0 =
-      risen ∙ ap (later m.ripening.floor) (told_is s at)
-      ∙ later_is m.ripening.floor (floor p s entry) (≤ℤ_trans m.ripening.floor (floor p empty_snapshot entry) (floor p s entry) waits.floor (load.floors entry))
+      let entry = awaited_entry m in
+      let floor_is : reached_floor n ≡ floor p s (awaited_entry n) =
+      risen ∙ ap (later (reached_floor m)) (told_is s at)
+      ∙ later_is (reached_floor m) (floor p s entry) (≤ℤ_trans (reached_floor m) (floor p empty_snapshot entry) (floor p s entry) waits.floor (load.floors entry))
       ∙ ap (λ (q : Pattern). floor p s q.entry.0) (sym keeps.pattern) in
-      let now = floor p s n.tally.memories.pattern.entry.0 in
+      let now = floor p s (awaited_entry n) in
       record {
-        counts = counts_loaded counts_blockers blockers_laden m.tally.memories n.tally.memories (Negated m.tally.memories.pattern) refl keeps loaded world s rows waits.counts.stands load;
+        counts = counts_loaded counts_blockers blockers_laden (blocker_tallies m) (blocker_tallies n) (Negated (blocking_pattern m)) refl keeps loaded world s rows waits.counts.stands load;
         in_step = in_step waits.in_step;
         none_due = none_due p n look now (in_step waits.in_step) floor_is;
         floor = subst (λ (z : ℤ). z ≤ℤ now) (sym floor_is) (≤ℤ_refl now);

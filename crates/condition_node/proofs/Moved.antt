@@ -1,7 +1,7 @@
 -- What a new node stands for, and what a node stands for by another store.
 use Rattle.condition_node.proofs.Common.{◌≡◌, ◌∙◌, ap, refl, subst, Bool, fun_ext, is_some, Named, Row, Pattern, Program, Snapshot, Look, joins, Memories}
 use Rattle.condition_node.proofs.Common.{no_rows, no_names, StandsFor, LooksAlike, counts_blockers, counts_witnesses, gathers, StandsCounted, empty_snapshot}
-use Rattle.condition_node.proofs.Common.{HasAllOf, NameHeld, Node, CountsPartners, NodeStands, start_law, looks_alike}
+use Rattle.condition_node.proofs.Common.{HasAllOf, NameHeld, Node, CountsPartners, NodeStands, start_law, looks_alike, blocker_tallies, joined_pattern}
 use Rattle.tally_node.proofs.Lawful.{move_law as tallies_move}
 use Rattle.pair_memory.proofs.Moving.{move_law as memories_move}
 use Rattle.not_node.proofs.Lawful.{move_law as not_moves}
@@ -36,9 +36,9 @@ module _ (p : Program) (look other : Look) (s : Snapshot) (rows : Row → Bool) 
       tallies_move T holds m look other (held s) (joins m.pattern (held s)) rows (candidates_of p m.pattern s) forgotten counts (kept_alike m counts.stands)
 
   pub node_moves : (n : Node) → NodeStands p n look s rows forgotten → NodeStands p n other s rows forgotten
-  node_moves (node.Join join) stands = stands_move join.memories look other rows (candidates_of p join.memories.pattern s) forgotten stands (kept_alike join.memories stands)
+  node_moves (node.Join join) stands = stands_move join.memories look other rows (candidates_of p (joined_pattern join) s) forgotten stands (kept_alike join.memories stands)
   node_moves (node.Not waiting) waits =
-      let m = waiting.tally.memories in
+      let m = blocker_tallies waiting in
       record {
         counts = counts_move counts_blockers m waits.counts;
         in_step = (not_moves p waiting look other waits.counts.stands.agrees (kept_alike m waits.counts.stands)).1 waits.in_step;

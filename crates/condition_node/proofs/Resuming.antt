@@ -1,10 +1,10 @@
 -- A node that is loaded with what is kept stands for all of it.
 use Rattle.condition_node.proofs.Common.{◌≡◌, ◌∙◌, sym, refl, subst, ℤ, ◌≤ℤ◌, List, map, Bool, Option, Extra, Named, Row, Fact, Condition, Negated, Existing}
-use Rattle.condition_node.proofs.Common.{Folded, Pattern, Program, Holds, pattern_of, Snapshot, floor, name_of, Look, joins, Memories, remembered}
+use Rattle.condition_node.proofs.Common.{Folded, Pattern, Program, Holds, pattern_of, Snapshot, name_of, Look, joins, Memories, remembered}
 use Rattle.condition_node.proofs.Common.{counts_blockers, counts_witnesses, blockers_laden, witnesses_laden, gathered_laden, nothing_gathered}
 use Rattle.condition_node.proofs.Common.{arguments_gathered, gathers, NoneDue, held, candidates_of, CountsLaden, IsAside, IsResumed, ResumesLaw}
 use Rattle.condition_node.proofs.Common.{values_gathered, CountsPartners, LadenLaw, resume_law, blockers_made_up, witnesses_made_up, gathered_made_up}
-use Rattle.condition_node.proofs.Common.{held_known, joining_alike}
+use Rattle.condition_node.proofs.Common.{held_known, joining_alike, blocker_tallies, joined_pattern, reached_floor, waiting_rows, tallied_pattern}
 use Rattle.condition_node.proofs.Beyond.{tells_passing, nothing_told, arguments_told}
 use Rattle.condition_node.proofs.Loading.{all_clean, all_remembered}
 use Rattle.condition_node.specs.declared.node.Node.TheVariants as node
@@ -24,20 +24,20 @@ counts_resumed holds laden gathered made_up p c m look s t before kept forgotten
 pub resumes_law : ResumesLaw
 resumes_law p (node.Join join) look s t before kept forgotten extra is stands = record {
   rows = λ row. stands.rows row ∙ sym (all_clean kept row) ∙ is.rows row;
-  names = λ who. stands.names who ∙ sym (all_remembered (candidates_of p join.memories.pattern t who)) ∙ is.candidates who;
+  names = λ who. stands.names who ∙ sym (all_remembered (candidates_of p (joined_pattern join) t who)) ∙ is.candidates who;
   agrees = stands.agrees;
 }
 resumes_law p (node.Not waiting) look s t before kept forgotten extra is waits =
-    let m = waiting.tally.memories in
+    let m = blocker_tallies waiting in
     let same = is.floors m.pattern.entry.0 in
     record {
       counts = counts_resumed counts_blockers blockers_laden nothing_gathered blockers_made_up p (Negated m.pattern) m look s t before kept forgotten extra refl tt (nothing_told s) is waits.counts;
       in_step = waits.in_step;
-      none_due = subst (λ (z : ℤ). NoneDue waiting.ripening.waiting.keys z) same waits.none_due;
-      floor = subst (λ (z : ℤ). waiting.ripening.floor ≤ℤ z) same waits.floor;
+      none_due = subst (λ (z : ℤ). NoneDue (waiting_rows waiting) z) same waits.none_due;
+      floor = subst (λ (z : ℤ). reached_floor waiting ≤ℤ z) same waits.floor;
     }
 resumes_law p (node.Exists tally) look s t before kept forgotten extra is counts =
-    counts_resumed counts_witnesses witnesses_laden nothing_gathered witnesses_made_up p (Existing tally.memories.pattern) tally.memories look s t before kept forgotten extra refl tt (nothing_told s) is counts
+    counts_resumed counts_witnesses witnesses_laden nothing_gathered witnesses_made_up p (Existing (tallied_pattern tally)) tally.memories look s t before kept forgotten extra refl tt (nothing_told s) is counts
 resumes_law p (node.Fold fold) look s t before kept forgotten extra is folds =
     let a = fold.accumulate in
     record {

@@ -5,6 +5,7 @@ use Rattle.condition_node.proofs.Common.{cleaned, StandsFor, Witnesses, counts_b
 use Rattle.condition_node.proofs.Common.{shown, NotNode, IsInStep, not_rows, waits, mature, line, HasAllOf, NameHeld, held, candidates_of, candidate_names}
 use Rattle.condition_node.proofs.Common.{candidates_named, CountsPartners, WaitsFor, witnesses_shown, quiet_law, waits_own, moment_at, not_law, row_mature}
 use Rattle.condition_node.proofs.Common.{moment_alike, held_known, row_alike, joining_alike, asked_first}
+use Rattle.condition_node.proofs.Common.{awaited_entry, blocker_tallies, reached_floor, waiting_rows, blocking_pattern}
 use Rattle.condition_rows.specs.Lines.{is_ripe}
 use Rattle.condition_rows.specs.Sets.{has_partner}
 use Rattle.std.proofs.Math.Bool.{and_assoc}
@@ -43,13 +44,13 @@ module _ (p : Program) (look : Look) (s : Snapshot) (rows : Row → Bool) (forgo
         ∙ row_mature p q (held s) row now
         ∙ ap (is_mature p q (bound_in (held s) row)) is
 
-    pub not_shown_at : (waiting : NotNode) → CountsPartners counts_blockers p waiting.tally.memories look s rows forgotten → waiting.ripening.floor ≡ floor p s waiting.tally.memories.pattern.entry.0
-        → (row : Row) → not_rows p look waiting row ≡ cleaned (line p s (Negated waiting.tally.memories.pattern) rows) forgotten row
+    pub not_shown_at : (waiting : NotNode) → CountsPartners counts_blockers p (blocker_tallies waiting) look s rows forgotten → reached_floor waiting ≡ floor p s (awaited_entry waiting)
+        → (row : Row) → not_rows p look waiting row ≡ cleaned (line p s (Negated (blocking_pattern waiting)) rows) forgotten row
     unfolding has_partner
     not_shown_at waiting counts told row =
-        let m = waiting.tally.memories in
+        let m = blocker_tallies waiting in
         let q = m.pattern in
-        let now = waiting.ripening.floor in
+        let now = reached_floor waiting in
         let names = candidate_names p q s in
         let pass = joins q (held s) in
         not_law p waiting look (held s) pass rows names forgotten (listed counts_blockers m counts) row
@@ -57,22 +58,22 @@ module _ (p : Program) (look : Look) (s : Snapshot) (rows : Row → Bool) (forgo
         ∙ asked_first (rows row) (clean forgotten row) (not (list_any (pass row) names) && is_mature p q (bound_in look row) now) (not (list_any (pass row) names) && is_ripe p q s row)
         (λ e. ap (λ b. not (list_any (pass row) names) && b) (ripe_alike q now told row e))
 
-    pub not_shown : (waiting : NotNode) → WaitsFor p waiting look s rows forgotten → (row : Row) → not_rows p look waiting row ≡ cleaned (line p s (Negated waiting.tally.memories.pattern) rows) forgotten row
+    pub not_shown : (waiting : NotNode) → WaitsFor p waiting look s rows forgotten → (row : Row) → not_rows p look waiting row ≡ cleaned (line p s (Negated (blocking_pattern waiting)) rows) forgotten row
     not_shown waiting waits row =
-        let now = floor p s waiting.tally.memories.pattern.entry.0 in
+        let now = floor p s (awaited_entry waiting) in
         sym ((quiet_law p waiting look now waits.in_step waits.floor waits.none_due).1 row) ∙ not_shown_at (with_floor waiting now) waits.counts refl row
 
     -- a row that waits for a moment is not there
-    pub not_early : (waiting : NotNode) → WaitsFor p waiting look s rows forgotten → (at : ℤ) (row : Row) → waits waiting.ripening.waiting.keys at row ≡ true
-        → cleaned (line p s (Negated waiting.tally.memories.pattern) rows) forgotten row ≡ false
+    pub not_early : (waiting : NotNode) → WaitsFor p waiting look s rows forgotten → (at : ℤ) (row : Row) → waits (waiting_rows waiting) at row ≡ true
+        → cleaned (line p s (Negated (blocking_pattern waiting)) rows) forgotten row ≡ false
     not_early waiting stands at row there =
         let is = waits_own p waiting look stands.in_step at row there in
-        sym (not_shown waiting stands row) ∙ ap (λ b. b && mature waiting.ripening.floor (moment_at p waiting.tally.memories.pattern look row)) is.0 ∙ ap (mature waiting.ripening.floor) is.1 ∙ is.2
+        sym (not_shown waiting stands row) ∙ ap (λ b. b && mature (reached_floor waiting) (moment_at p (blocking_pattern waiting) look row)) is.0 ∙ ap (mature (reached_floor waiting)) is.1 ∙ is.2
 
     -- and is there once the floor is beyond it
-    pub not_ripe : (waiting : NotNode) → IsInStep p look waiting → CountsPartners counts_blockers p waiting.tally.memories look s rows forgotten → (at : ℤ) (row : Row) → waits waiting.ripening.waiting.keys at row ≡ true
-        → int_lt at (floor p s waiting.tally.memories.pattern.entry.0) ≡ true → cleaned (line p s (Negated waiting.tally.memories.pattern) rows) forgotten row ≡ true
+    pub not_ripe : (waiting : NotNode) → IsInStep p look waiting → CountsPartners counts_blockers p (blocker_tallies waiting) look s rows forgotten → (at : ℤ) (row : Row) → waits (waiting_rows waiting) at row ≡ true
+        → int_lt at (floor p s (awaited_entry waiting)) ≡ true → cleaned (line p s (Negated (blocking_pattern waiting)) rows) forgotten row ≡ true
     not_ripe waiting in_step counts at row there due =
-        let now = floor p s waiting.tally.memories.pattern.entry.0 in
+        let now = floor p s (awaited_entry waiting) in
         let is = waits_own p waiting look in_step at row there in
-        sym (not_shown_at (with_floor waiting now) counts refl row) ∙ ap (λ b. b && mature now (moment_at p waiting.tally.memories.pattern look row)) is.0 ∙ ap (mature now) is.1 ∙ due
+        sym (not_shown_at (with_floor waiting now) counts refl row) ∙ ap (λ b. b && mature now (moment_at p (blocking_pattern waiting) look row)) is.0 ∙ ap (mature now) is.1 ∙ due

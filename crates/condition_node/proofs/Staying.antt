@@ -4,6 +4,7 @@ use Rattle.condition_node.proofs.Common.{Program, HaveDistinctTags, Snapshot, fl
 use Rattle.condition_node.proofs.Common.{Witnesses, TallyNode, counts_blockers, counts_witnesses, gathers, StandsCounted, NotNode, NoneDue, waits, line}
 use Rattle.condition_node.proofs.Common.{HasAllOf, NameHeld, candidates_of, FoldNode, Node, condition_of, CountsPartners, WaitsFor, FoldsFor, NodeStands}
 use Rattle.condition_node.proofs.Common.{at_clock}
+use Rattle.condition_node.proofs.Common.{awaited_entry, blocker_tallies, blocking_pattern, joined_pattern, reached_floor, tallied_pattern, waiting_rows}
 use Rattle.condition_rows.specs.Sets.{held}
 use Rattle.condition_node.proofs.Folding.{fold_shown}
 use Rattle.condition_node.proofs.Shown.{join_shown, exists_shown, not_shown, not_early, not_ripe}
@@ -38,12 +39,12 @@ module _ (p : Program) (look : Look) (s : Snapshot) (rows : Row → Bool) (forgo
   abbrev LineStays : Node → Type 0
   LineStays n = (row : Row) → cleaned (line p next (condition_of n) rows) forgotten row ≡ cleaned (line p s (condition_of n) rows) forgotten row
 
-  pub join_stays : (join : BetaJoin) → SameCandidates join.memories.pattern → NodeStands p (node.Join join) look s rows forgotten → LineStays (node.Join join)
+  pub join_stays : (join : BetaJoin) → SameCandidates (joined_pattern join) → NodeStands p (node.Join join) look s rows forgotten → LineStays (node.Join join)
   join_stays join same stands row =
       let m = join.memories in
       sym (join_shown p look next rows forgotten known_next named_next m (stands_on m same stands) row) ∙ join_shown p look s rows forgotten known named m stands row
 
-  pub exists_stays : (tally : TallyNode Witnesses) → SameCandidates tally.memories.pattern → NodeStands p (node.Exists tally) look s rows forgotten → LineStays (node.Exists tally)
+  pub exists_stays : (tally : TallyNode Witnesses) → SameCandidates (tallied_pattern tally) → NodeStands p (node.Exists tally) look s rows forgotten → LineStays (node.Exists tally)
   exists_stays tally same counts row =
       let m = tally.memories in
       sym (exists_shown p look next rows forgotten known_next named_next tags m (counts_on counts_witnesses m same counts) row) ∙ exists_shown p look s rows forgotten known named tags m counts row
@@ -55,18 +56,18 @@ module _ (p : Program) (look : Look) (s : Snapshot) (rows : Row → Bool) (forgo
       let folds_next : FoldsFor p fold look next rows forgotten = record { counts = counts_on (gathers fold.accumulate) m here folds.counts; pattern = folds.pattern } in
       sym (fold_shown p look next rows forgotten known_next named_next tags fold folds_next row) ∙ fold_shown p look s rows forgotten known named tags fold folds row
 
-  pub not_stays : (waiting : NotNode) → SameCandidates waiting.tally.memories.pattern → NodeStands p (node.Not waiting) look s rows forgotten
-      → waiting.ripening.floor ≤ℤ floor p next waiting.tally.memories.pattern.entry.0 → NoneDue waiting.ripening.waiting.keys (floor p next waiting.tally.memories.pattern.entry.0) → LineStays (node.Not waiting)
+  pub not_stays : (waiting : NotNode) → SameCandidates (blocking_pattern waiting) → NodeStands p (node.Not waiting) look s rows forgotten
+      → reached_floor waiting ≤ℤ floor p next (awaited_entry waiting) → NoneDue (waiting_rows waiting) (floor p next (awaited_entry waiting)) → LineStays (node.Not waiting)
   not_stays waiting same stands later quiet row =
       let still : WaitsFor p waiting look next rows forgotten =
-      record { counts = counts_on counts_blockers waiting.tally.memories same stands.counts; in_step = stands.in_step; none_due = quiet; floor = later } in
+      record { counts = counts_on counts_blockers (blocker_tallies waiting) same stands.counts; in_step = stands.in_step; none_due = quiet; floor = later } in
       sym (not_shown p look next rows forgotten known_next named_next tags waiting still row) ∙ not_shown p look s rows forgotten known named tags waiting stands row
 
   -- a row that waits comes where its moment is past
-  pub not_ripens : (waiting : NotNode) → SameCandidates waiting.tally.memories.pattern → NodeStands p (node.Not waiting) look s rows forgotten
-      → (at : ℤ) (row : Row) → waits waiting.ripening.waiting.keys at row ≡ true → int_lt at (floor p next waiting.tally.memories.pattern.entry.0) ≡ true
-      → (cleaned (line p s (Negated waiting.tally.memories.pattern) rows) forgotten row ≡ false) × (cleaned (line p next (Negated waiting.tally.memories.pattern) rows) forgotten row ≡ true)
+  pub not_ripens : (waiting : NotNode) → SameCandidates (blocking_pattern waiting) → NodeStands p (node.Not waiting) look s rows forgotten
+      → (at : ℤ) (row : Row) → waits (waiting_rows waiting) at row ≡ true → int_lt at (floor p next (awaited_entry waiting)) ≡ true
+      → (cleaned (line p s (Negated (blocking_pattern waiting)) rows) forgotten row ≡ false) × (cleaned (line p next (Negated (blocking_pattern waiting)) rows) forgotten row ≡ true)
   not_ripens waiting same stands at row there past = (
     not_early p look s rows forgotten known named tags waiting stands at row there,
-    not_ripe p look next rows forgotten known_next named_next tags waiting stands.in_step (counts_on counts_blockers waiting.tally.memories same stands.counts) at row there past,
+    not_ripe p look next rows forgotten known_next named_next tags waiting stands.in_step (counts_on counts_blockers (blocker_tallies waiting) same stands.counts) at row there past,
   )

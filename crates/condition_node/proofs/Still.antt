@@ -4,6 +4,7 @@ use Rattle.condition_node.proofs.Common.{◌≡◌, ◌∙◌, sym, ap, refl, su
 use Rattle.condition_node.proofs.Common.{Program, Negated, Moment, IsAt, Snapshot, floor, Look, Memories, row_naming, IsStepped, has_left, has_right, cleaned}
 use Rattle.condition_node.proofs.Common.{BetaJoin, counts_blockers, counts_witnesses, gathers, Witnesses, TallyNode, NotNode, NoneDue, waits, line, FoldNode}
 use Rattle.condition_node.proofs.Common.{Node, condition_of, CountsPartners, NodeStands, IsConditionTurn, are_none, changes_nothing, ≤ℤ_trans}
+use Rattle.condition_node.proofs.Common.{awaited_entry, blocker_tallies, reached_floor, waiting_rows}
 use Rattle.tally_node.proofs.Stepping.{no_step}
 use Rattle.condition_node.proofs.Folding.{fold_shown}
 use Rattle.condition_node.proofs.Knowing.{blockers_ask}
@@ -76,30 +77,30 @@ module _ (p : Program) (moment : Moment) where
       ∙ fold_shown p look s rows forgotten turn.at_hand turn.named turn.tags m stands row
 
   -- a `not` by this floor, which is that of the moment
-  module _ (m : NotNode) (told : ℤ) (told_is : (next : Snapshot) → IsAt next moment → told ≡ floor p next m.tally.memories.pattern.entry.0) where
-    counts_still : WhereNothingChanges (node.Not m) (λ look s next rows rows_now forgotten. CountsPartners counts_blockers p m.tally.memories look next rows_now forgotten)
+  module _ (m : NotNode) (told : ℤ) (told_is : (next : Snapshot) → IsAt next moment → told ≡ floor p next (awaited_entry m)) where
+    counts_still : WhereNothingChanges (node.Not m) (λ look s next rows rows_now forgotten. CountsPartners counts_blockers p (blocker_tallies m) look next rows_now forgotten)
     counts_still look world s next rows rows_now forgotten left right none none_right stands at turn =
-        let t = m.tally.memories in
+        let t = blocker_tallies m in
         counts_next p t t look world s next rows rows_now forgotten left right (Negated t.pattern) turn (kept_still t look left right none none_right) refl counts_blockers blockers_ask turn.stay stands.counts
         (no_step counts_blockers look t left right none)
 
-    pub not_still : NoneDue m.ripening.waiting.keys told → Stays (node.Not m)
+    pub not_still : NoneDue (waiting_rows m) told → Stays (node.Not m)
     not_still quiet look world s next rows rows_now forgotten left right none none_right stands at turn =
-        let entry = m.tally.memories.pattern.entry.0 in
+        let entry = awaited_entry m in
         record {
           counts = counts_still look world s next rows rows_now forgotten left right none none_right stands at turn;
           in_step = stands.in_step;
-          none_due = subst (NoneDue m.ripening.waiting.keys) (told_is next at) quiet;
-          floor = ≤ℤ_trans m.ripening.floor (floor p s entry) (floor p next entry) stands.floor (turn.floors entry);
+          none_due = subst (NoneDue (waiting_rows m)) (told_is next at) quiet;
+          floor = ≤ℤ_trans (reached_floor m) (floor p s entry) (floor p next entry) stands.floor (turn.floors entry);
         }
 
-    pub not_tells_nothing : NoneDue m.ripening.waiting.keys told → TellsNothing (node.Not m)
+    pub not_tells_nothing : NoneDue (waiting_rows m) told → TellsNothing (node.Not m)
     not_tells_nothing quiet look world s next rows rows_now forgotten left right none none_right stands at turn row =
         sym (not_shown p look next rows_now forgotten turn.at_hand_now turn.named_now turn.tags_now m (not_still quiet look world s next rows rows_now forgotten left right none none_right stands at turn) row)
         ∙ not_shown p look s rows forgotten turn.at_hand turn.named turn.tags m stands row
 
     -- where a row is due it comes
-    pub not_tells_one : (at : ℤ) (row : Row) → waits m.ripening.waiting.keys at row ≡ true → int_lt at told ≡ true → TellsOne (node.Not m)
+    pub not_tells_one : (at : ℤ) (row : Row) → waits (waiting_rows m) at row ≡ true → int_lt at told ≡ true → TellsOne (node.Not m)
     not_tells_one moment row there due look world s next rows rows_now forgotten left right none none_right stands at turn = (
       row,
       not_early p look s rows forgotten turn.at_hand turn.named turn.tags m stands moment row there,

@@ -3,7 +3,8 @@ use Rattle.condition_node.proofs.Common.{◌≡◌, ◌∙◌, sym, ap, refl, su
 use Rattle.condition_node.proofs.Common.{Pattern, Program, Snapshot, floor, Look, IsStepped, made, cleaned, without_value, shows_value, BetaJoin}
 use Rattle.condition_node.proofs.Common.{counts_blockers, counts_witnesses, where_witnessed, gathers, result_for, itself, shows_any, TallyStep, shown}
 use Rattle.condition_node.proofs.Common.{Witnesses, TallyNode, NotNode, IsInStep, not_rows, later, line, FoldNode, Node, condition_of, CountsPartners}
-use Rattle.condition_node.proofs.Common.{NodeStands, IsConditionTurn, ≤ℤ_trans}
+use Rattle.condition_node.proofs.Common.{NodeStands, IsConditionTurn, ≤ℤ_trans, awaited_entry, blocker_tallies, reached_floor, tallied_pattern, joined_pattern}
+use Rattle.condition_node.proofs.Common.{blocking_pattern}
 use Rattle.row_change.proofs.Alike.{difference_alike}
 use Rattle.condition_node.proofs.Folding.{fold_shown}
 use Rattle.condition_node.proofs.Knowing.{blockers_ask, witnesses_ask, gathers_ask}
@@ -26,11 +27,11 @@ Tells p At look old left right delta = (world : Look) (s next : Snapshot) (rows 
 module _ (p : Program) (At : Snapshot → Type 0) (look : Look) (left right : Delta) where
   module _ (m n : BetaJoin) (stepped : IsStepped m.memories n.memories look left right) where
     pub join_turns : TurnsTo p At look (node.Join m) (node.Join n) left right
-    join_turns world s next rows rows_now forgotten stands at turn = stands_next p m.memories n.memories look world s next rows rows_now forgotten left right (Plain m.memories.pattern) turn stepped refl stands
+    join_turns world s next rows rows_now forgotten stands at turn = stands_next p m.memories n.memories look world s next rows rows_now forgotten left right (Plain (joined_pattern m)) turn stepped refl stands
 
     pub join_tells : (delta : Delta) → IsDifference (made m.memories look) (made n.memories look) delta → Tells p At look (node.Join m) left right delta
     join_tells delta is world s next rows rows_now forgotten stands at turn =
-        difference_alike (made m.memories look) (cleaned (line p s (Plain m.memories.pattern) rows) forgotten) (made n.memories look) (cleaned (line p next (Plain m.memories.pattern) rows_now) forgotten) delta
+        difference_alike (made m.memories look) (cleaned (line p s (Plain (joined_pattern m)) rows) forgotten) (made n.memories look) (cleaned (line p next (Plain (joined_pattern m)) rows_now) forgotten) delta
         (join_shown p look s rows forgotten turn.at_hand turn.named m.memories stands)
         (λ row. join_shown p look next rows_now forgotten turn.at_hand_now turn.named_now n.memories (join_turns world s next rows rows_now forgotten stands at turn) row
         ∙ ap (λ (q : Pattern). cleaned (line p next (Plain q) rows_now) forgotten row) stepped.pattern) is
@@ -38,32 +39,32 @@ module _ (p : Program) (At : Snapshot → Type 0) (look : Look) (left right : De
   module _ (m n : TallyNode Witnesses) (stepped : IsStepped m.memories n.memories look left right) (step : TallyStep counts_witnesses look m.memories n.memories left right) where
     pub exists_turns : TurnsTo p At look (node.Exists m) (node.Exists n) left right
     exists_turns world s next rows rows_now forgotten stands at turn =
-        counts_next p m.memories n.memories look world s next rows rows_now forgotten left right (Existing m.memories.pattern) turn stepped refl counts_witnesses witnesses_ask turn.stay stands step
+        counts_next p m.memories n.memories look world s next rows rows_now forgotten left right (Existing (tallied_pattern m)) turn stepped refl counts_witnesses witnesses_ask turn.stay stands step
 
     pub exists_tells : (delta : Delta) → IsDifference (shown itself shows_any where_witnessed m.memories look) (shown itself shows_any where_witnessed n.memories look) delta → Tells p At look (node.Exists m) left right delta
     exists_tells delta is world s next rows rows_now forgotten stands at turn =
-        difference_alike (shown itself shows_any where_witnessed m.memories look) (cleaned (line p s (Existing m.memories.pattern) rows) forgotten)
-        (shown itself shows_any where_witnessed n.memories look) (cleaned (line p next (Existing m.memories.pattern) rows_now) forgotten) delta
+        difference_alike (shown itself shows_any where_witnessed m.memories look) (cleaned (line p s (Existing (tallied_pattern m)) rows) forgotten)
+        (shown itself shows_any where_witnessed n.memories look) (cleaned (line p next (Existing (tallied_pattern m)) rows_now) forgotten) delta
         (exists_shown p look s rows forgotten turn.at_hand turn.named turn.tags m.memories stands)
         (λ row. exists_shown p look next rows_now forgotten turn.at_hand_now turn.named_now turn.tags_now n.memories (exists_turns world s next rows rows_now forgotten stands at turn) row
         ∙ ap (λ (q : Pattern). cleaned (line p next (Existing q) rows_now) forgotten row) stepped.pattern) is
 
-  module _ (m n : NotNode) (stepped : IsStepped m.tally.memories n.tally.memories look left right) (step : TallyStep counts_blockers look m.tally.memories n.tally.memories left right)
-      (told : ℤ) (told_is : (next : Snapshot) → At next → told ≡ floor p next m.tally.memories.pattern.entry.0) (risen : n.ripening.floor ≡ later m.ripening.floor told) (in_step : IsInStep p look m → IsInStep p look n) where
+  module _ (m n : NotNode) (stepped : IsStepped (blocker_tallies m) (blocker_tallies n) look left right) (step : TallyStep counts_blockers look (blocker_tallies m) (blocker_tallies n) left right)
+      (told : ℤ) (told_is : (next : Snapshot) → At next → told ≡ floor p next (awaited_entry m)) (risen : reached_floor n ≡ later (reached_floor m) told) (in_step : IsInStep p look m → IsInStep p look n) where
     pub not_turns : TurnsTo p At look (node.Not m) (node.Not n) left right
     not_turns world s next rows rows_now forgotten waits at turn =
-        let entry = m.tally.memories.pattern.entry.0 in
+        let entry = awaited_entry m in
         waits_on_time p n look next rows_now forgotten
-        (counts_next p m.tally.memories n.tally.memories look world s next rows rows_now forgotten left right (Negated m.tally.memories.pattern) turn stepped refl counts_blockers blockers_ask turn.stay waits.counts step)
+        (counts_next p (blocker_tallies m) (blocker_tallies n) look world s next rows rows_now forgotten left right (Negated (blocking_pattern m)) turn stepped refl counts_blockers blockers_ask turn.stay waits.counts step)
         (in_step waits.in_step)
-        (risen ∙ ap (later m.ripening.floor) (told_is next at)
-        ∙ later_is m.ripening.floor (floor p next entry) (≤ℤ_trans m.ripening.floor (floor p s entry) (floor p next entry) waits.floor (turn.floors entry))
+        (risen ∙ ap (later (reached_floor m)) (told_is next at)
+        ∙ later_is (reached_floor m) (floor p next entry) (≤ℤ_trans (reached_floor m) (floor p s entry) (floor p next entry) waits.floor (turn.floors entry))
         ∙ ap (λ (q : Pattern). floor p next q.entry.0) (sym stepped.pattern))
 
     pub not_tells : (delta : Delta) → (IsInStep p look m → IsDifference (not_rows p look m) (not_rows p look n) delta) → Tells p At look (node.Not m) left right delta
     not_tells delta is world s next rows rows_now forgotten waits at turn =
-        difference_alike (not_rows p look m) (cleaned (line p s (Negated m.tally.memories.pattern) rows) forgotten)
-        (not_rows p look n) (cleaned (line p next (Negated m.tally.memories.pattern) rows_now) forgotten) delta
+        difference_alike (not_rows p look m) (cleaned (line p s (Negated (blocking_pattern m)) rows) forgotten)
+        (not_rows p look n) (cleaned (line p next (Negated (blocking_pattern m)) rows_now) forgotten) delta
         (not_shown p look s rows forgotten turn.at_hand turn.named turn.tags m waits)
         (λ row. not_shown p look next rows_now forgotten turn.at_hand_now turn.named_now turn.tags_now n (not_turns world s next rows rows_now forgotten waits at turn) row
         ∙ ap (λ (q : Pattern). cleaned (line p next (Negated q) rows_now) forgotten row) stepped.pattern) (is waits.in_step)

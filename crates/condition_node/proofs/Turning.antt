@@ -3,7 +3,7 @@ use Rattle.condition_node.proofs.Common.{◌≡◌, ◌∙◌, sym, ap, subst, �
 use Rattle.condition_node.proofs.Common.{Program, Snapshot, floor, pattern_of, Look, joins, Memories, IsStepped, IsNameDifference, no_names, remembered}
 use Rattle.condition_node.proofs.Common.{StandsFor, counts_blockers, StandsCounted, ForgottenStay, TallyStep, NotNode, IsInStep, later, none_due, held}
 use Rattle.condition_node.proofs.Common.{candidates_of, CountsPartners, WaitsFor, IsConditionTurn, IsAt, snapshot_at, Moment, tally_law, same_floor, held_known}
-use Rattle.condition_node.proofs.Common.{known_too, joining_alike}
+use Rattle.condition_node.proofs.Common.{known_too, joining_alike, awaited_entry, blocker_tallies, reached_floor}
 use Rattle.condition_node.proofs.Knowing.{seen_alike, AsksOfSet, counted_alike}
 use Rattle.pair_memory.proofs.Steps.{steps_law}
 
@@ -46,10 +46,10 @@ pub later_is : (a b : ℤ) → a ≤ℤ b → later a b ≡ b
 later_is a b h = grind (arith, ints)
 
 -- a `not` whose floor is that of the snapshot
-pub waits_on_time : (p : Program) (waiting : NotNode) (look : Look) (s : Snapshot) (rows : Row → Bool) (forgotten : Named → Bool) → CountsPartners counts_blockers p waiting.tally.memories look s rows forgotten → IsInStep p look waiting
-    → waiting.ripening.floor ≡ floor p s waiting.tally.memories.pattern.entry.0 → WaitsFor p waiting look s rows forgotten
+pub waits_on_time : (p : Program) (waiting : NotNode) (look : Look) (s : Snapshot) (rows : Row → Bool) (forgotten : Named → Bool) → CountsPartners counts_blockers p (blocker_tallies waiting) look s rows forgotten → IsInStep p look waiting
+    → reached_floor waiting ≡ floor p s (awaited_entry waiting) → WaitsFor p waiting look s rows forgotten
 waits_on_time p waiting look s rows forgotten counts in_step is =
-    let now = floor p s waiting.tally.memories.pattern.entry.0 in
+    let now = floor p s (awaited_entry waiting) in
     record { counts = counts; in_step = in_step; none_due = none_due p waiting look now in_step is; floor = subst (λ (told : ℤ). told ≤ℤ now) (sym is) (≤ℤ_refl now) }
 
 -- the floor by a moment is that of each snapshot of the moment

@@ -1,3 +1,4 @@
+pub mod Doors
 pub mod Nodes
 pub mod Turns
 pub mod Quiet

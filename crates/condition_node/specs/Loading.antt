@@ -26,8 +26,10 @@ use Rattle.tally_node.specs.Laws.{StandsLaden}
 use Rattle.not_node.specs.declared.node.NotNode.{NotNode}
 use Rattle.tally_node.specs.Origins.{itself, shows_any}
 use Rattle.tally_node.specs.Tallies.{shown}
+use Rattle.tally_node.specs.Doors.{tallied_pattern}
 use Rattle.not_node.specs.Rows.{IsInStep, not_rows}
 use Rattle.not_node.specs.Waiting.{NoneDue}
+use Rattle.not_node.specs.Doors.{awaited_entry, blocker_tallies, reached_floor, waiting_rows}
 use Rattle.condition_rows.specs.Looks.{empty_snapshot, HasAllOf, NameHeld}
 use Rattle.condition_rows.specs.Sets.{held, candidates_of}
 use Rattle.condition_node.specs.declared.node.FoldNode.{FoldNode}
@@ -35,6 +37,7 @@ use Rattle.condition_node.specs.declared.node.Node.{Node}
 use Rattle.condition_node.specs.declared.node.Node.TheVariants as node
 use Rattle.condition_node.specs.Nodes.{condition_of, NodeStands}
 use Rattle.laden_rows.specs.Extras.{lost_partners, values_gathered}
+use Rattle.beta_join.specs.Doors.{joined_pattern}
 
 -- ---- a loaded node
 
@@ -45,19 +48,19 @@ CountsLaden holds laden p m look world s rows extra =
 
 -- the node of a `not` waits as one that stands for a snapshot does
 pub record WaitsLaden (p : Program) (waiting : NotNode) (look world : Look) (s : Snapshot) (rows : Row → Bool) (extra : Row → Option Extra) : Type 0 where
-  pub counts : CountsLaden counts_blockers blockers_laden p waiting.tally.memories look world s rows extra
+  pub counts : CountsLaden counts_blockers blockers_laden p (blocker_tallies waiting) look world s rows extra
   pub in_step : IsInStep p look waiting
-  pub none_due : NoneDue waiting.ripening.waiting.keys (floor p s waiting.tally.memories.pattern.entry.0)
-  pub floor : waiting.ripening.floor ≤ℤ floor p s waiting.tally.memories.pattern.entry.0
+  pub none_due : NoneDue (waiting_rows waiting) (floor p s (awaited_entry waiting))
+  pub floor : reached_floor waiting ≤ℤ floor p s (awaited_entry waiting)
 
 pub record FoldsLaden (p : Program) (fold : FoldNode) (look world : Look) (s : Snapshot) (rows : Row → Bool) (extra : Row → Option Extra) : Type 0 where
   pub counts : CountsLaden (gathers fold.accumulate) (gathered_laden fold.accumulate) p fold.tally.memories look world s rows extra
-  pub pattern : fold.tally.memories.pattern ≡ fold.accumulate.pattern
+  pub pattern : tallied_pattern fold.tally ≡ fold.accumulate.pattern
 
 -- The node keeps these rows and the candidates of the snapshot, nothing of which is forgotten; and what it counts or gathers beside each row
 -- is of the candidates, as a world knows them, and of the row's extra.
 abbrev pub Laden : Program → Node → Look → Look → Snapshot → (Row → Bool) → (Row → Option Extra) → Type 0
-Laden p (node.Join join) look world s rows extra = StandsFor join.memories look rows (candidates_of p join.memories.pattern s) no_names
+Laden p (node.Join join) look world s rows extra = StandsFor join.memories look rows (candidates_of p (joined_pattern join) s) no_names
 Laden p (node.Not waiting) look world s rows extra = WaitsLaden p waiting look world s rows extra
 Laden p (node.Exists tally) look world s rows extra = CountsLaden counts_witnesses witnesses_laden p tally.memories look world s rows extra
 Laden p (node.Fold fold) look world s rows extra = FoldsLaden p fold look world s rows extra

@@ -1,14 +1,13 @@
 -- Fronts of bytes in two pieces.
 use Rattle.std.proofs.Common.{◌≡◌, ◌+◌, ◌++◌, ℕ, List, [], length, take, Option, sym, ap, ◌∙◌, arith}
-use Rattle.std.proofs.lemmas.List.{length-append, take-append-le}
-use Rattle.std.proofs.Math.Seq.{take-append-add}
+use Rattle.std.proofs.lemmas.List.{length-append}
+use Rattle.std.proofs.Math.Seq.{take-append-add, take-length}
 use Rattle.fx_io.specs.Outside.{append, AppendsFront}
 use Rattle.fx_io.proofs.Told.{append-append}
 
--- a front of the first piece
-pub front_before : (before after : Option (List ℕ)) (text line : List ℕ) → AppendsFront before after text → AppendsFront before after (text ++ line)
-front_before before after text line h =
-    (h.0, omega (arith, h.1, length-append text line), h.2 ∙ ap (append before) (sym (take-append-le h.0 text line h.1)))
+-- all
+pub all_front : (before after : Option (List ℕ)) (text : List ℕ) → after ≡ append before text → AppendsFront before after text
+all_front before after text e = (length text, omega arith, e ∙ ap (append before) (sym (take-length text)))
 
 -- the first piece, and a front of the second
 pub front_behind : (before middle after : Option (List ℕ)) (text line : List ℕ) → middle ≡ append before text → AppendsFront middle after line → AppendsFront before after (text ++ line)

@@ -10,7 +10,6 @@ use Rattle.rule_model.specs.declared.life.LifeTable.{LifeTable}
 use Rattle.rule_model.specs.declared.program.Program.{Program}
 use Rattle.rule_world.specs.Worlds.{World}
 use Rattle.line_run.specs.declared.fault.ImageFault.{ImageFault}
-use Rattle.line_run.specs.declared.turn.Ended.{Ended}
 use Rattle.line_run.specs.declared.turn.Ended.TheVariants.{Script, Limit}
 use Rattle.line_run.specs.declared.turn.Progress.{Progress}
 use Rattle.line_run.specs.Parts.{run_part_at}
@@ -18,7 +17,7 @@ use Rattle.line_run.specs.Run.{Outcome, RunState, Steps}
 use Rattle.line_run.specs.Saves.{ArePut, Puts}
 use Rattle.line_run.specs.Turns.{ReachesWorld}
 use Rattle.line_run.specs.Unfinished.{KeptFront, RefusedAt, StoppedKept}
-use Rattle.line_run.proofs.Ahead.{append_nothing, run_ended, none_saved}
+use Rattle.line_run.proofs.Ahead.{append_nothing, none_saved}
 use Rattle.script_run.specs.Live.{live_step, most_firings}
 use Rattle.replay.specs.declared.refused_checkpoint.CheckpointCode.{CheckpointCode}
 use Rattle.replay.specs.declared.refused_checkpoint.CheckpointCode.TheVariants.{Unfit}
@@ -26,11 +25,11 @@ use Rattle.replay.specs.Beginnings.{BeginsIn, CanBegin, part_of}
 use Rattle.replay.specs.Checkpoints.{checkpoint_text}
 use Rattle.replay.specs.Report.{run_status}
 use Rattle.replay.specs.Wanted.{Files}
-use Rattle.desk.specs.Keeping.{IsPutFor, IsPutBehind, IsRefusedBehind, IsRefusedFor, refusal_code, status_of_part}
+use Rattle.desk.specs.Keeping.{IsPutFor, IsPutBehind, IsRefusedBehind, IsRefusedFor, IsUnputFor, refusal_code, status_of_part}
 use Rattle.desk.specs.Meanings.{Meanings}
-use Rattle.desk.specs.Report.{AreKept, IsCutShort, IsKept, IsRefusedIn, IsUnkept, LivesBy, first_of, lines_of_run, live_run, live_saves}
+use Rattle.desk.specs.Report.{AreKept, IsCutShort, IsEndedEarly, IsKept, IsRefusedIn, IsUnkept, LivesBy, first_of, lines_of_run, live_run, live_saves}
 use Rattle.desk.specs.Wanted.{Live}
-use Rattle.desk.proofs.Fronts.{front_before, front_behind, no_front}
+use Rattle.desk.proofs.Fronts.{all_front, front_behind, no_front}
 
 abbrev no_lines : List (List ℕ)
 no_lines = []
@@ -46,7 +45,6 @@ module _ (m : Meanings) (it : Live) (table : LifeTable) (before : Option (List �
     lines = [];
     rest = lines_of bytes;
     parts = refl;
-    code = Unfit;
     front = no_front before _ (sym (append_nothing before));
     put = inl (rw (none_saved (live_step (lines_of_run m it table)) (first_of it w)) refl);
   }
@@ -56,20 +54,22 @@ module _ (m : Meanings) (it : Live) (table : LifeTable) (before : Option (List �
   unstarted None = tt
   unstarted (Some bytes) = record {
     done = λ low. absurd (omega (arith, low));
-    cut_short = λ low high can w b. nothing_done w bytes;
+    cut_short = λ low high can w b. inl (nothing_done w bytes);
+    unfit = λ low high none. (no_front before (checkpoint_text Unfit) (sym (append_nothing before)), refl);
     refused = λ nine. absurd (omega (arith, nine));
     used_up = λ e. absurd (omega (arith, e));
   }
 
 module _ (m : Meanings) (it : Live) (table : LifeTable) (before after : Option (List ℕ)) (files files' : Option Files) where
   -- the image does not fit
-  pub unfit : (told : Option (List ℕ)) (status : ℕ) → (CanBegin it.program table it.beginning → ⊥) → (status ≡ 9 → after ≡ append before (checkpoint_text Unfit)) → files' ≡ files
-      → (status ≡ 9) ⊎ ((6 ≤ status) × (status ≤ 7)) → IfSome told (λ bytes. LivesBy m it table bytes before after files files' status)
-  unfit None status none said same answers = tt
-  unfit (Some bytes) status none said same answers = record {
+  pub unfit : (told : Option (List ℕ)) (status : ℕ) → (CanBegin it.program table it.beginning → ⊥) → (status ≡ 9 → after ≡ append before (checkpoint_text Unfit))
+      → (5 ≤ status → AppendsFront before after (checkpoint_text Unfit)) → files' ≡ files → (status ≡ 9) ⊎ ((6 ≤ status) × (status ≤ 7)) → IfSome told (λ bytes. LivesBy m it table bytes before after files files' status)
+  unfit None status none said front same answers = tt
+  unfit (Some bytes) status none said front same answers = record {
     done = λ low. absurd (grind (arith, low, answers));
     cut_short = λ low high can. absurd (none can);
-    refused = λ nine. (Unfit, inl (none, said nine, same));
+    unfit = λ low high _. (front low, same);
+    refused = λ nine. inl (none, said nine, same);
     used_up = λ e. absurd (grind (arith, e, answers));
   }
 
@@ -83,33 +83,34 @@ module _ (m : Meanings) (it : Live) (table : LifeTable) (before after : Option (
     lines = h.lines;
     rest = h.rest;
     parts = h.parts;
-    code = Unfit;
-    front = front_before before after _ (checkpoint_text Unfit) h.is_front;
+    front = h.is_front;
     put = inl h.are_put;
   }
 
   -- the run stopped
-  pub stopped : (told : Option (List ℕ)) (status : ℕ) → 5 ≤ status → status ≤ 8
+  pub stopped : (told : Option (List ℕ)) (status : ℕ) → 5 ≤ status → status ≤ 8 → CanBegin it.program table it.beginning
       → Each it table (λ w. IfSome told (λ bytes. KeptFront (IsKept it table) (live_run m it table w) (live_saves m it table w) bytes before after files files'))
       → IfSome told (λ bytes. LivesBy m it table bytes before after files files' status)
-  stopped None status low high kept = tt
-  stopped (Some bytes) status low high kept = record {
+  stopped None status low high can kept = tt
+  stopped (Some bytes) status low high can kept = record {
     done = λ le. absurd (omega (arith, le, low));
-    cut_short = λ _ _ can w b. cut w bytes (kept w b);
+    cut_short = λ _ _ _ w b. inl (cut w bytes (kept w b));
+    unfit = λ _ _ none. absurd (none can);
     refused = λ nine. absurd (omega (arith, nine, high));
     used_up = λ e. absurd (omega (arith, e, high));
   }
 
   -- all firings that it may make were made
-  pub used_up : (told : Option (List ℕ)) → Each it table (λ w. IfSome told (λ bytes. (after ≡ append before (live_run m it table w (lines_of bytes)).bytes)
+  pub used_up : (told : Option (List ℕ)) → CanBegin it.program table it.beginning → Each it table (λ w. IfSome told (λ bytes. (after ≡ append before (live_run m it table w (lines_of bytes)).bytes)
       × ((live_run m it table w (lines_of bytes)).ended ≡ Limit) × ArePut (IsKept it table) (live_saves m it table w (lines_of bytes)) files files'))
       → IfSome told (λ bytes. LivesBy m it table bytes before after files files' 11)
-  used_up None h = tt
-  used_up (Some bytes) h = record {
+  used_up None can h = tt
+  used_up (Some bytes) can h = record {
     done = λ low. absurd (omega (arith, low));
     cut_short = λ low high. absurd (omega (arith, high));
+    unfit = λ low high. absurd (omega (arith, high));
     refused = λ nine. absurd (omega (arith, nine));
-    used_up = λ _ w b. h w b;
+    used_up = λ _. (can, λ w b. h w b);
   }
 
 -- ---- an image is refused behind a line that saves
@@ -119,32 +120,37 @@ module _ (m : Meanings) (it : Live) (table : LifeTable) (before middle after : O
   RefusedBehind bytes w = RefusedAt (IsKept it table) (λ s code. IsUnkept it table s (refusal_code code)) why (live_step (lines_of_run m it table))
       (live_run m it table w) (live_saves m it table w) bytes before middle files files'
 
-  pub refused : (told : Option (List ℕ)) (status : ℕ) → Each it table (λ w. IfSome told (λ bytes. RefusedBehind bytes w))
+  -- the line that refuses it is written so
+  refused_in : (P : List ℕ → Type 0) (bytes : List ℕ) (w : World) (r : RefusedBehind bytes w)
+      → P ((live_run m it table w r.lines).bytes ++ checkpoint_text (refusal_code why))
+      → IsRefusedIn (lines_of_run m it table) it table (first_of it w) (refusal_code why) bytes P files files'
+  refused_in P bytes w r is = record {
+    lines = r.lines;
+    rest = r.line ∷ r.rest;
+    parts = r.parts;
+    state = r.state;
+    comes = r.comes;
+    is_written = is;
+    are_put = r.are_put;
+    is_refused = (r.done, r.saves_there, r.is_refused);
+  }
+
+  pub refused : (told : Option (List ℕ)) (status : ℕ) → CanBegin it.program table it.beginning → Each it table (λ w. IfSome told (λ bytes. RefusedBehind bytes w))
       → (status ≡ 9 → after ≡ append middle (checkpoint_text (refusal_code why))) → (5 ≤ status → AppendsFront middle after (checkpoint_text (refusal_code why)))
       → (status ≡ 9) ⊎ ((6 ≤ status) × (status ≤ 7)) → IfSome told (λ bytes. LivesBy m it table bytes before after files files' status)
-  refused None status h said front answers = tt
-  refused (Some bytes) status h said front answers = record {
+  refused None status can h said front answers = tt
+  refused (Some bytes) status can h said front answers = record {
     done = λ low. absurd (grind (arith, low, answers));
-    cut_short = λ low high can w b. let r = h w b in record {
-      lines = r.lines;
-      rest = r.line ∷ r.rest;
-      parts = r.parts;
-      code = refusal_code why;
-      front = front_behind before middle after _ (checkpoint_text (refusal_code why)) r.is_written (front low);
-      put = inl r.are_put;
-    };
-    refused = λ nine. (
+    cut_short = λ low high _ w b. inr (
       refusal_code why,
-      inr (λ w b. let r = h w b in record {
-        lines = r.lines;
-        rest = r.line ∷ r.rest;
-        parts = r.parts;
-        state = r.state;
-        comes = r.comes;
-        is_written = said nine ∙ ap (λ (z : Option (List ℕ)). append z (checkpoint_text (refusal_code why))) r.is_written ∙ append-append before _ (checkpoint_text (refusal_code why));
-        are_put = r.are_put;
-        is_refused = (r.done, r.saves_there, r.is_refused);
-      }),
+      refused_in (AppendsFront before after) bytes w (h w b) (front_behind before middle after _ (checkpoint_text (refusal_code why)) (h w b).is_written (front low)),
+    );
+    unfit = λ low high none. absurd (none can);
+    refused = λ nine. inr (
+      can,
+      refusal_code why,
+      λ w b. refused_in (λ text. after ≡ append before text) bytes w (h w b) (said nine ∙ ap (λ (z : Option (List ℕ)). append z (checkpoint_text (refusal_code why))) (h w b).is_written
+          ∙ append-append before _ (checkpoint_text (refusal_code why))),
     );
     used_up = λ e. absurd (grind (arith, e, answers));
   }
@@ -224,12 +230,11 @@ module _ (last : World → Type 0) (m : Meanings) (it : Live) (table : LifeTable
       → (status ≤ 1 → (status ≡ status_of_part run.faulty) × (after ≡ middle) × IsPutFor last it.program table run put files' it.image)
       → (status ≡ 9 → (code : CheckpointCode) × (after ≡ append middle (checkpoint_text code)) × IsRefusedFor last it.program table run code × (it.image ≢ None))
       → (status ≡ 9 → files' ≡ put)
-      → (5 ≤ status → status ≤ 8 → (code : CheckpointCode) × AppendsFront middle after (checkpoint_text code))
-      → (5 ≤ status → status ≤ 8 → (files' ≡ put) ⊎ IsPutFor last it.program table run put files' it.image)
+      → (5 ≤ status → status ≤ 8 → IsUnputFor last it.program table run middle after put files' it.image)
       → (status ≤ 1) ⊎ ((6 ≤ status) × (status ≤ 7)) ⊎ (status ≡ 9)
       → IfSome told (λ bytes. LivesBy m it table bytes before after files files' status)
-  ended None status can ran is_put refused stays front kept answers = tt
-  ended (Some bytes) status can ran is_put refused stays front kept answers = record {
+  ended None status can ran is_put refused stays failed answers = tt
+  ended (Some bytes) status can ran is_put refused stays failed answers = record {
     done = λ low. (
       can,
       λ w b.
@@ -241,34 +246,44 @@ module _ (last : World → Type 0) (m : Meanings) (it : Live) (table : LifeTable
             (put, o.1, kept_of last it table put files' run at run-is _ o.0.2 p.2),
           ),
     );
-    cut_short = λ low high can w b. let o = ran w b in let f = front low high in record {
-      lines = lines_of bytes;
-      rest = [];
-      parts = all_lines bytes;
-      code = f.0;
-      front = front_behind before middle after _ (checkpoint_text f.0) (middle-is ∙ ap (append before) o.0.0) f.1;
-      put = put_or_not bytes w o (kept low high);
-    };
-    refused = λ nine. let r = refused nine in (
+    cut_short = λ low high _ w b. early bytes w (ran w b) (failed low high);
+    unfit = λ low high none. absurd (none can);
+    refused = λ nine. let r = refused nine in inr (
+      can,
       r.0,
-      inr (λ w b.
-          let o = ran w b in
-          let there = unkept_of last it table run at run-is _ o.0.2 r.0 r.2 in
-          record {
-            lines = lines_of bytes;
-            rest = [];
-            parts = all_lines bytes;
-            state = there.0;
-            comes = there.1;
-            is_written = r.1 ∙ ap (λ (z : Option (List ℕ)). append z (checkpoint_text r.0)) (middle-is ∙ ap (append before) o.0.0) ∙ append-append before _ (checkpoint_text r.0);
-            are_put = rw (stays nine) o.1;
-            is_refused = (there.2, r.3);
-          }),
+      λ w b. refused_in (λ text. after ≡ append before text) bytes w (ran w b) r.0 r.2 r.3 (stays nine)
+          (r.1 ∙ ap (λ (z : Option (List ℕ)). append z (checkpoint_text r.0)) (middle-is ∙ ap (append before) (ran w b).0.0) ∙ append-append before _ (checkpoint_text r.0)),
     );
     used_up = λ e. absurd (grind (arith, e, answers));
   }
     where
+      refused_in : (P : List ℕ → Type 0) (bytes : List ℕ) (w : World) → Ran bytes w → (code : CheckpointCode) → IsRefusedFor last it.program table run code → it.image ≢ None → files' ≡ put
+          → P ((live_run m it table w (lines_of bytes)).bytes ++ checkpoint_text code) → IsRefusedIn (lines_of_run m it table) it table (first_of it w) code bytes P files files'
+      refused_in P bytes w o code is_refused named same is = let there = unkept_of last it table run at run-is _ o.0.2 code is_refused in record {
+        lines = lines_of bytes;
+        rest = [];
+        parts = all_lines bytes;
+        state = there.0;
+        comes = there.1;
+        is_written = is;
+        are_put = rw same o.1;
+        is_refused = (there.2, named);
+      }
+
       put_or_not : (bytes : List ℕ) (w : World) → Ran bytes w → (files' ≡ put) ⊎ IsPutFor last it.program table run put files' it.image
           → ArePut (IsKept it table) (live_saves m it table w (lines_of bytes)) files files' ⊎ ((no_lines ≡ []) × AreKept it table (live_saves m it table w (lines_of bytes)) (live_run m it table w (lines_of bytes)).comes_to files files')
       put_or_not bytes w o (inl same) = inl (rw same o.1)
       put_or_not bytes w o (inr h) = inr (refl, (put, o.1, kept_of last it table put files' run at run-is _ o.0.2 h))
+
+      early : (bytes : List ℕ) (w : World) → Ran bytes w → IsUnputFor last it.program table run middle after put files' it.image → IsEndedEarly m it table bytes before after files files' w
+      early bytes w o (inl h) = inl (record {
+        lines = lines_of bytes;
+        rest = [];
+        parts = all_lines bytes;
+        front = all_front before after _ (h.0 ∙ middle-is ∙ ap (append before) o.0.0);
+        put = put_or_not bytes w o h.1;
+      })
+      early bytes w o (inr h) = inr (
+        h.0,
+        refused_in (AppendsFront before after) bytes w o h.0 h.2 h.3 h.4 (front_behind before middle after _ (checkpoint_text h.0) (middle-is ∙ ap (append before) o.0.0) h.1),
+      )

@@ -1,6 +1,9 @@
 -- An image that is put to a file.
-use Rattle.std.specs.Prelude.{◌≡◌, ◌<◌, ◌≤◌, ℕ, Bool, true, false, List, length, Option, Some, None}
+use Rattle.std.specs.Prelude.{◌≡◌, ◌≢◌, ◌⊎◌, ◌<◌, ◌≤◌, ℕ, Bool, true, false, List, length, Option, Some, None}
+use Rattle.fx_io.specs.Outside.{AppendsFront}
 use Rattle.fx_store.specs.Puts.{IsPut}
+use Rattle.fx_store.specs.declared.store.StoreFault.{StoreFault}
+use Rattle.fx_store.specs.declared.store.StoreFault.TheVariants as store
 use Rattle.checkpoint.specs.declared.image.Image.{Image}
 use Rattle.checkpoint.specs.Bytes.{image_bytes, IsImage}
 use Rattle.checkpoint.specs.declared.image.RunPart.{RunPart}
@@ -9,6 +12,8 @@ use Rattle.rule_model.specs.declared.life.LifeTable.{LifeTable}
 use Rattle.rule_model.specs.declared.program.Program.{Program}
 use Rattle.rule_world.specs.Worlds.{World}
 use Rattle.line_run.specs.declared.fault.ImageFault.{ImageFault}
+use Rattle.line_run.specs.declared.fault.KeepFault.{KeepFault}
+use Rattle.line_run.specs.declared.fault.KeepFault.TheVariants as keep
 use Rattle.line_run.specs.declared.fault.ImageFault.TheVariants as fault
 use Rattle.line_run.specs.declared.turn.Ended.TheVariants.{Script}
 use Rattle.line_run.specs.Parts.{run_part_at}
@@ -17,7 +22,7 @@ use Rattle.script_run.specs.Live.{most_firings}
 use Rattle.replay.specs.declared.refused_checkpoint.CheckpointCode.{CheckpointCode}
 use Rattle.replay.specs.declared.refused_checkpoint.CheckpointCode.TheVariants.{Missing, TooLong, BadImage, OtherRules, Unfit}
 use Rattle.replay.specs.Report.{run_status}
-use Rattle.replay.specs.Checkpoints.{can_go_on, image_limit}
+use Rattle.replay.specs.Checkpoints.{can_go_on, checkpoint_text, image_limit}
 use Rattle.replay.specs.Wanted.{Files}
 
 -- the file of the name has the bytes of the image, which are read back as it; it is not too long, and a run can go on from its numbers
@@ -42,6 +47,11 @@ abbrev pub refusal_code : ImageFault → CheckpointCode
 refusal_code fault.TooLong = TooLong
 refusal_code fault.Unfit = Unfit
 
+-- the fault with which a file is not put
+abbrev pub kept_as : StoreFault → KeepFault
+kept_as store.Failed = keep.WriteFault
+kept_as store.NoMemory = keep.NoMemory
+
 -- ---- of an engine that stands for worlds
 
 -- what is put where the name of an image is given
@@ -54,6 +64,13 @@ IsPutFor stands p table run before after (Some name) =
 abbrev pub IsRefusedFor : (World → Type 0) → Program → LifeTable → RunPart → CheckpointCode → Type 0
 IsRefusedFor stands p table run code =
     (image : Image) × (image.run ≡ run) × ((w : World) → stands w → IsImageOf p table w image) × MayRefuse image code
+
+-- It is not put, for a fault: nothing is written, and the file of the image is the old one or the new one. Or it is refused, and a front of the line is
+-- written that says so.
+abbrev pub IsUnputFor : (World → Type 0) → Program → LifeTable → RunPart → Option (List ℕ) → Option (List ℕ) → Option Files → Option Files → Option (List ℕ) → Type 0
+IsUnputFor stands p table run before after files files' image =
+    ((after ≡ before) × ((files' ≡ files) ⊎ IsPutFor stands p table run files files' image))
+    ⊎ ((code : CheckpointCode) × AppendsFront before after (checkpoint_text code) × IsRefusedFor stands p table run code × (image ≢ None) × (files' ≡ files))
 
 -- ---- of a state to which a run came that began behind a part
 

@@ -13,6 +13,7 @@ use Rattle.line_run.specs.Saves.{ArePut}
 use Rattle.line_run.specs.Unfinished.{StoppedKept}
 use Rattle.script_run.specs.Live.{LiveSetting, live_by, live_step, most_firings, run_live, saved_live}
 use Rattle.replay.specs.declared.refused_checkpoint.CheckpointCode.{CheckpointCode}
+use Rattle.replay.specs.declared.refused_checkpoint.CheckpointCode.TheVariants.{Unfit}
 use Rattle.replay.specs.Beginnings.{BeginsIn, CanBegin, part_of}
 use Rattle.replay.specs.Checkpoints.{checkpoint_text}
 use Rattle.replay.specs.Refusals.{refusal_text}
@@ -64,14 +65,13 @@ abbrev pub IsDone : Live → LifeTable → Outcome → List RunState → Option 
 IsDone it table outcome saved before after files files' status =
     (after ≡ append before outcome.bytes) × (status ≡ run_status outcome.ended) × AreKept it table saved outcome.comes_to files files'
 
--- A run that ends with a fault: of some first lines of the script, whose images are put, a front is written of what they print and of the line by which
--- an image is refused. So what is told as saved was put. The image at the end is put only behind all lines.
+-- A run that ends with a fault: of some first lines of the script, whose images are put, a front is written of what they print. So what is told as
+-- saved was put. The image at the end is put only behind all lines.
 pub record IsCutShort (it : Live) (table : LifeTable) (outcome : List (List ℕ) → Outcome) (saved : List (List ℕ) → List RunState) (script : List ℕ) (before after : Option (List ℕ)) (files files' : Option Files) : Type 0 where
   pub lines : List (List ℕ)
   pub rest : List (List ℕ)
   pub parts : lines_of script ≡ lines ++ rest
-  pub code : CheckpointCode
-  pub front : AppendsFront before after ((outcome lines).bytes ++ checkpoint_text code)
+  pub front : AppendsFront before after (outcome lines).bytes
   pub put : ArePut (IsKept it table) (saved lines) files files' ⊎ ((rest ≡ []) × AreKept it table (saved lines) (outcome lines).comes_to files files')
 
 -- an image is refused with a code: behind all lines that of the state to which they came, or that of the state behind the next line, which saves
@@ -79,22 +79,30 @@ abbrev pub IsRefusedThere : LiveSetting → Live → LifeTable → RunState → 
 IsRefusedThere live it table s [] code = IsUnkept it table s code × (it.image ≢ None)
 IsRefusedThere live it table s (line ∷ more) code = (done : Done) × (live_step live s line ≡ saves done) × IsUnkept it table (state_after s done) code
 
--- An image is refused to which the run came: behind some first lines, all of which is written, and whose images are put.
-pub record IsRefusedIn (live : LiveSetting) (it : Live) (table : LifeTable) (first : RunState) (code : CheckpointCode) (script : List ℕ) (before after : Option (List ℕ)) (files files' : Option Files) : Type 0 where
+-- An image is refused to which the run came: behind some first lines, whose images are put. This is written of what they print, with the line that
+-- refuses it.
+pub record IsRefusedIn (live : LiveSetting) (it : Live) (table : LifeTable) (first : RunState) (code : CheckpointCode) (script : List ℕ) (Written : List ℕ → Type 0) (files files' : Option Files) : Type 0 where
   pub lines : List (List ℕ)
   pub rest : List (List ℕ)
   pub parts : lines_of script ≡ lines ++ rest
   pub state : RunState
   pub comes : (run_live live first lines).comes_to ≡ Some state
-  pub is_written : after ≡ append before ((run_live live first lines).bytes ++ checkpoint_text code)
+  pub is_written : Written ((run_live live first lines).bytes ++ checkpoint_text code)
   pub are_put : ArePut (IsKept it table) (saved_live live first lines) files files'
   pub is_refused : IsRefusedThere live it table state rest code
 
--- an image is refused: the one from which the run was to begin, before any line, or one to which it came
+-- an image is refused: the one from which the run was to begin, since it does not fit, before any line, or one to which it came
 abbrev pub IsRefused : Meanings → Live → LifeTable → List ℕ → Option (List ℕ) → Option (List ℕ) → Option Files → Option Files → Type 0
-IsRefused m it table script before after files files' = (code : CheckpointCode)
-    × (((CanBegin it.program table it.beginning → ⊥) × (after ≡ append before (checkpoint_text code)) × (files' ≡ files))
-    ⊎ ((w : World) → BeginsIn it.program table it.beginning w → IsRefusedIn (lines_of_run m it table) it table (first_of it w) code script before after files files'))
+IsRefused m it table script before after files files' =
+    ((CanBegin it.program table it.beginning → ⊥) × (after ≡ append before (checkpoint_text Unfit)) × (files' ≡ files))
+    ⊎ (CanBegin it.program table it.beginning × (code : CheckpointCode) × ((w : World) → BeginsIn it.program table it.beginning w
+    → IsRefusedIn (lines_of_run m it table) it table (first_of it w) code script (λ text. after ≡ append before text) files files'))
+
+-- a run that began ends with a fault, perhaps in the middle of the line that refuses an image to which it came
+abbrev pub IsEndedEarly : Meanings → Live → LifeTable → List ℕ → Option (List ℕ) → Option (List ℕ) → Option Files → Option Files → World → Type 0
+IsEndedEarly m it table script before after files files' w =
+    IsCutShort it table (live_run m it table w) (live_saves m it table w) script before after files files'
+    ⊎ ((code : CheckpointCode) × IsRefusedIn (lines_of_run m it table) it table (first_of it w) code script (AppendsFront before after) files files')
 
 -- what a desk does where a live run is wanted, by a table of lives of its program and by its status
 pub record LivesBy (m : Meanings) (it : Live) (table : LifeTable) (script : List ℕ) (before after : Option (List ℕ)) (files files' : Option Files) (status : ℕ) : Type 0 where
@@ -102,12 +110,14 @@ pub record LivesBy (m : Meanings) (it : Live) (table : LifeTable) (script : List
       × ((w : World) → BeginsIn it.program table it.beginning w
       → IsDone it table (live_run m it table w (lines_of script)) (live_saves m it table w (lines_of script)) before after files files' status)
   pub cut_short : 5 ≤ status → status ≤ 8 → CanBegin it.program table it.beginning → (w : World) → BeginsIn it.program table it.beginning w
-      → IsCutShort it table (live_run m it table w) (live_saves m it table w) script before after files files'
+      → IsEndedEarly m it table script before after files files' w
+  -- the image does not fit from which it was to begin: a front of the line that refuses it
+  pub unfit : 5 ≤ status → status ≤ 8 → (CanBegin it.program table it.beginning → ⊥) → AppendsFront before after (checkpoint_text Unfit) × (files' ≡ files)
   pub refused : status ≡ 9 → IsRefused m it table script before after files files'
   -- all firings that a live run may make were made
-  pub used_up : status ≡ 11 → (w : World) → BeginsIn it.program table it.beginning w
+  pub used_up : status ≡ 11 → CanBegin it.program table it.beginning × ((w : World) → BeginsIn it.program table it.beginning w
       → (after ≡ append before (live_run m it table w (lines_of script)).bytes) × ((live_run m it table w (lines_of script)).ended ≡ Limit)
-      × ArePut (IsKept it table) (live_saves m it table w (lines_of script)) files files'
+      × ArePut (IsKept it table) (live_saves m it table w (lines_of script)) files files')
 
 abbrev pub IsLive : Meanings → Live → List ℕ → Option (List ℕ) → Option (List ℕ) → Option Files → Option Files → ℕ → Type 0
 IsLive m it script before after files files' status =

@@ -1,17 +1,19 @@
 //! The images of a live run: of the state to which it came, and of those behind lines that save.
-ghost use Rattle.std.specs.Prelude.{◌≡◌, ◌≢◌, ◌⊎◌, ◌≤◌, true, Err, None, length, IfOk, OnOk, OnErr, IsErrOf};
+ghost use Rattle.std.specs.Prelude.{◌≡◌, ◌≢◌, ◌⊎◌, ◌≤◌, [], ℕ, List, true, Err, None, Some, length, IfOk, OnOk, OnErr, IsErrOf};
 ghost use Rattle.checkpoint.specs.Bytes.{image_bytes, IsImage};
+ghost use Rattle.checkpoint.specs.Pieces.{whole};
 ghost use Rattle.checkpoint.specs.declared.image.Image.{Image as ImageData};
-ghost use Rattle.fx_io.specs.Outside.{append, AppendsFront, Rose};
+ghost use Rattle.fx_io.specs.Outside.{append, Rose};
+ghost use Rattle.fx_store.specs.Puts.{IsDraft, IsOldOrNew, IsPut};
 ghost use Rattle.image_laws.specs.Images.{IsImageOf};
 ghost use Rattle.line_run.specs.declared.fault.ImageFault.{ImageFault as FaultData};
 ghost use Rattle.line_run.specs.declared.fault.KeepFault.TheVariants.{Refused as RefusedFor};
 ghost use Rattle.replay.specs.declared.refused_checkpoint.CheckpointCode.{CheckpointCode as CodeData};
-ghost use Rattle.replay.specs.Checkpoints.{can_go_on as may_go_on, checkpoint_text, image_limit};
+ghost use Rattle.replay.specs.Checkpoints.{checkpoint_text, image_limit};
 ghost use Rattle.rule_world.specs.Worlds.{World};
-ghost use Rattle.desk.specs.Keeping.{IsPutFor, IsRefusedFor, Keeps, MayRefuse, refusal_code as code_of, status_of_part};
+ghost use Rattle.desk.specs.Keeping.{IsPutFor, IsRefusedFor, IsUnputFor, Keeps, MayRefuse, kept_as, refusal_code as code_of, status_of_part};
 
-use checkpoint::{Image, RunPart, encode};
+use checkpoint::{ImagePieces, LentImage, RunPart};
 use engine::Engine;
 use fx_base::Text;
 use fx_io::Sink;
@@ -30,50 +32,137 @@ pub(crate) fn refusal_code(fault: ImageFault) -> CheckpointCode
     }
 }
 
-// The bytes of an image that is not too long, and from which a run can go on.
-#[tactic(auto, unfolding(replay::specs::Checkpoints::image_limit))]
-fn bytes_to_put(alloc: Global, image: &Image) -> Result<Vec<u8>, KeepFault>
-    ensures bytes { IfOk result (λ bytes. bytes.items ≡ image_bytes image.now) }
-    ensures is_image { OnOk result (IsImage image.now) }
-    ensures goes_on { OnOk result (may_go_on image.now ≡ true) }
-    ensures short { IfOk result (λ bytes. length (image_bytes image.now) ≤ image_limit) }
-    ensures refused { (why : FaultData) → result ≡ Err (RefusedFor why) → MayRefuse image.now (code_of why) }
-    ensures no_write { IsErrOf result KeepFault.WriteFault → ⊥ }
+fn keep_fault(fault: StoreFault) -> KeepFault
+    ensures { result ≡ kept_as fault }
 {
-    let bytes = encode(alloc, image)?;
-    if bytes.len() > IMAGE_MAX {
-        return Err(KeepFault::Refused(ImageFault::TooLong));
+    match fault {
+        StoreFault::Failed => KeepFault::WriteFault,
+        StoreFault::NoMemory => KeepFault::NoMemory,
     }
-    if !can_go_on(image) {
-        return Err(KeepFault::Refused(ImageFault::Unfit));
-    }
-    Ok(bytes)
 }
 
-// Puts an image to the file of this name.
-fn put_image<K: FileSink>(
-    alloc: Global,
-    image: &Image,
-    name: &str,
-    out: &mut K,
-) -> Result<(), KeepFault>
-    ensures put { OnOk result (Keeps image.now (K.files out.old) (K.files out.new) name.now) }
-    ensures refused { (why : FaultData) → result ≡ Err (RefusedFor why) → MayRefuse image.now (code_of why) }
-    ensures refused_files { (why : FaultData) → result ≡ Err (RefusedFor why) → K.files out.new ≡ K.files out.old }
-    ensures failed { OnErr result ((K.files out.new ≡ K.files out.old) ⊎ Keeps image.now (K.files out.old) (K.files out.new) name.now) }
+// Begins the file of this name.
+fn begin<K: FileSink>(name: &str, out: &mut K) -> Result<(), KeepFault>
+    ensures begun { OnOk result (IsDraft (K.files out.new) (K.draft out.new) []) }
+    ensures unrefused { (why : FaultData) → result ≡ Err (RefusedFor why) → ⊥ }
+    ensures files { K.files out.new ≡ K.files out.old }
     ensures written { K.written out.new ≡ K.written out.old }
     ensures counts { K.faults out.old ≤ K.faults out.new }
     ensures cause { IsErrOf result KeepFault.WriteFault → Rose (K.faults out.old) (K.faults out.new) }
 {
-    let bytes = bytes_to_put(alloc, image)?;
-    match out.put_file(name, &bytes) {
+    match out.begin_file(name) {
         Ok(()) => Ok(()),
-        Err(StoreFault::Failed) => Err(KeepFault::WriteFault),
-        Err(StoreFault::NoMemory) => Err(KeepFault::NoMemory),
+        Err(fault) => Err(keep_fault(fault)),
     }
 }
 
-/// Puts the image of an engine, with this part of the run, to the file of this name. The engine stays as it is.
+// Adds a piece to the file that was begun.
+fn add<K: FileSink>(piece: &[u8], out: &mut K) -> Result<(), KeepFault>
+    ensures added { OnOk result (K.draft out.new ≡ append (K.draft out.old) piece.now) }
+    ensures unrefused { (why : FaultData) → result ≡ Err (RefusedFor why) → ⊥ }
+    ensures files { K.files out.new ≡ K.files out.old }
+    ensures written { K.written out.new ≡ K.written out.old }
+    ensures counts { K.faults out.old ≤ K.faults out.new }
+    ensures cause { IsErrOf result KeepFault.WriteFault → Rose (K.faults out.old) (K.faults out.new) }
+{
+    match out.add_to_file(piece) {
+        Ok(()) => Ok(()),
+        Err(fault) => Err(keep_fault(fault)),
+    }
+}
+
+// Puts the file that was begun with this name.
+fn put<K: FileSink>(name: &str, out: &mut K) -> Result<(), KeepFault>
+    ensures put { OnOk result ((bytes : List ℕ) → IsDraft (K.files out.old) (K.draft out.old) bytes → IsPut (K.files out.old) (K.files out.new) name.now bytes) }
+    ensures kept { OnErr result ((bytes : List ℕ) → IsDraft (K.files out.old) (K.draft out.old) bytes → IsOldOrNew (K.files out.old) (K.files out.new) name.now bytes) }
+    ensures unrefused { (why : FaultData) → result ≡ Err (RefusedFor why) → ⊥ }
+    ensures written { K.written out.new ≡ K.written out.old }
+    ensures counts { K.faults out.old ≤ K.faults out.new }
+    ensures cause { IsErrOf result KeepFault.WriteFault → Rose (K.faults out.old) (K.faults out.new) }
+{
+    match out.put_file(name) {
+        Ok(()) => Ok(()),
+        Err(fault) => Err(keep_fault(fault)),
+    }
+}
+
+// Adds the bytes of an image to the file that was begun, piece by piece. It stops where they are too long.
+#[tactic(auto, unfolding(replay::specs::Checkpoints::image_limit))]
+fn add_image<K: FileSink>(alloc: Global, image: LentImage<'_>, out: &mut K) -> Result<(), KeepFault>
+    requires { IsDraft (K.files out.old) (K.draft out.old) [] }
+    ensures made { OnOk result (IsDraft (K.files out.new) (K.draft out.new) (image_bytes (whole image.entry))) }
+    ensures is_image { OnOk result (IsImage (whole image.entry)) }
+    ensures short { OnOk result (length (image_bytes (whole image.entry)) ≤ image_limit) }
+    ensures refused { (why : FaultData) → result ≡ Err (RefusedFor why) → MayRefuse (whole image.entry) (code_of why) }
+    ensures files { K.files out.new ≡ K.files out.old }
+    ensures written { K.written out.new ≡ K.written out.old }
+    ensures counts { K.faults out.old ≤ K.faults out.new }
+    ensures cause { IsErrOf result KeepFault.WriteFault → Rose (K.faults out.old) (K.faults out.new) }
+{
+    let mut pieces = ImagePieces::new(image);
+    let mut piece = Vec::new(alloc);
+    let mut room = IMAGE_MAX;
+    'next: while pieces.put_next(&mut piece)? {
+        let bytes = piece.as_slice();
+        if bytes.len() > room {
+            return Err(KeepFault::Refused(ImageFault::TooLong));
+        }
+        room -= bytes.len();
+        add(bytes, out)?;
+        piece.clear();
+    }
+    Ok(())
+}
+
+// Puts an image to the file of this name, as the one that was begun with it.
+fn make_file<K: FileSink>(
+    alloc: Global,
+    image: LentImage<'_>,
+    name: &str,
+    out: &mut K,
+) -> Result<(), KeepFault>
+    ensures put { OnOk result (Keeps (whole image.entry) (K.files out.old) (K.files out.new) name.now) }
+    ensures refused { (why : FaultData) → result ≡ Err (RefusedFor why) → MayRefuse (whole image.entry) (code_of why) }
+    ensures refused_files { (why : FaultData) → result ≡ Err (RefusedFor why) → K.files out.new ≡ K.files out.old }
+    ensures failed { OnErr result ((K.files out.new ≡ K.files out.old) ⊎ Keeps (whole image.entry) (K.files out.old) (K.files out.new) name.now) }
+    ensures written { K.written out.new ≡ K.written out.old }
+    ensures counts { K.faults out.old ≤ K.faults out.new }
+    ensures cause { IsErrOf result KeepFault.WriteFault → Rose (K.faults out.old) (K.faults out.new) }
+{
+    let goes_on = can_go_on(&image.apart);
+    begin(name, out)?;
+    add_image(alloc, image, out)?;
+    if !goes_on {
+        return Err(KeepFault::Refused(ImageFault::Unfit));
+    }
+    put(name, out)
+}
+
+// Puts an image to the file of this name. Where that fails, what was begun is given up.
+fn put_image<K: FileSink>(
+    alloc: Global,
+    image: LentImage<'_>,
+    name: &str,
+    out: &mut K,
+) -> Result<(), KeepFault>
+    ensures put { OnOk result (Keeps (whole image.entry) (K.files out.old) (K.files out.new) name.now) }
+    ensures refused { (why : FaultData) → result ≡ Err (RefusedFor why) → MayRefuse (whole image.entry) (code_of why) }
+    ensures refused_files { (why : FaultData) → result ≡ Err (RefusedFor why) → K.files out.new ≡ K.files out.old }
+    ensures failed { OnErr result ((K.files out.new ≡ K.files out.old) ⊎ Keeps (whole image.entry) (K.files out.old) (K.files out.new) name.now) }
+    ensures written { K.written out.new ≡ K.written out.old }
+    ensures counts { K.faults out.old ≤ K.faults out.new }
+    ensures cause { IsErrOf result KeepFault.WriteFault → Rose (K.faults out.old) (K.faults out.new) }
+{
+    match make_file(alloc, image, name, out) {
+        Ok(()) => Ok(()),
+        Err(fault) => {
+            out.give_up_file(name);
+            Err(fault)
+        }
+    }
+}
+
+/// Puts the image of an engine, with this part of the run, to the file of this name. The engine stays as it is, and its facts are not copied.
 pub(crate) fn keep<E: Engine, K: FileSink>(
     alloc: Global,
     engine: &E,
@@ -92,34 +181,28 @@ pub(crate) fn keep<E: Engine, K: FileSink>(
     ensures cause { IsErrOf result KeepFault.WriteFault → Rose (K.faults out.old) (K.faults out.new) }
 {
     let image = engine.image(alloc, run)?;
-    put_image(alloc, &image, name, out)
+    put_image(alloc, image, name, out)
 }
 
-// Puts the image of an engine, with this part of the run, to the file of this name, or writes why it is refused. The engine is given up before the
-// bytes are made.
+// Puts the image of an engine, with this part of the run, to the file of this name, or writes why it is refused.
 fn keep_last<E: Engine, K: FileSink>(
     alloc: Global,
-    engine: E,
+    engine: &E,
     run: RunPart,
     name: &str,
     out: &mut K,
 ) -> u8
-    ensures put { result ≡ 0 → (image : ImageData) × (image.run ≡ run) × ((w : World) → E.stands engine w → IsImageOf (E.made_with engine) (E.table engine) w image)
-        × Keeps image (K.files out.old) (K.files out.new) name.now × (K.written out.new ≡ K.written out.old) }
+    ensures put { result ≡ 0 → (image : ImageData) × (image.run ≡ run) × ((w : World) → E.stands engine.now w → IsImageOf (E.made_with engine.now) (E.table engine.now) w image)
+        × Keeps image (K.files out.old) (K.files out.new) name.now }
+    ensures quiet { result ≡ 0 → K.written out.new ≡ K.written out.old }
     ensures refused { result ≡ 9 → (code : CodeData) × (K.written out.new ≡ append (K.written out.old) (checkpoint_text code))
-        × IsRefusedFor (E.stands engine) (E.made_with engine) (E.table engine) run code }
+        × IsRefusedFor (E.stands engine.now) (E.made_with engine.now) (E.table engine.now) run code }
     ensures stays { result ≡ 9 → K.files out.new ≡ K.files out.old }
-    ensures failed { 6 ≤ result → result ≤ 7 → (code : CodeData) × AppendsFront (K.written out.old) (K.written out.new) (checkpoint_text code) }
-    ensures kept { 6 ≤ result → result ≤ 7 → (K.files out.new ≡ K.files out.old) ⊎ ((image : ImageData) × (image.run ≡ run)
-        × ((w : World) → E.stands engine w → IsImageOf (E.made_with engine) (E.table engine) w image) × Keeps image (K.files out.old) (K.files out.new) name.now) }
+    ensures failed { 6 ≤ result → result ≤ 7 → IsUnputFor (E.stands engine.now) (E.made_with engine.now) (E.table engine.now) run (K.written out.old) (K.written out.new) (K.files out.old) (K.files out.new) (Some name.now) }
     ensures answers { (result ≡ 0) ⊎ ((6 ≤ result) × (result ≤ 7)) ⊎ (result ≡ 9) }
     ensures cause { result ≡ 6 → Rose (K.faults out.old) (K.faults out.new) }
 {
-    let image = match engine.save(alloc, run) {
-        Ok(image) => image,
-        Err(_) => return 7,
-    };
-    match put_image(alloc, &image, name, out) {
+    match keep(alloc, engine, run, name, out) {
         Ok(()) => 0,
         Err(KeepFault::WriteFault) => 6,
         Err(KeepFault::NoMemory) => 7,
@@ -140,16 +223,14 @@ pub(crate) fn end<E: Engine, K: FileSink>(
     ensures refused { result ≡ 9 → (code : CodeData) × (K.written out.new ≡ append (K.written out.old) (checkpoint_text code))
         × IsRefusedFor (E.stands engine) (E.made_with engine) (E.table engine) run code × (image.now ≢ None) }
     ensures stays { result ≡ 9 → K.files out.new ≡ K.files out.old }
-    ensures front { 5 ≤ result → result ≤ 8 → (code : CodeData) × AppendsFront (K.written out.old) (K.written out.new) (checkpoint_text code) }
-    ensures kept { 5 ≤ result → result ≤ 8 → (K.files out.new ≡ K.files out.old)
-        ⊎ IsPutFor (E.stands engine) (E.made_with engine) (E.table engine) run (K.files out.old) (K.files out.new) image.now }
+    ensures failed { 5 ≤ result → result ≤ 8 → IsUnputFor (E.stands engine) (E.made_with engine) (E.table engine) run (K.written out.old) (K.written out.new) (K.files out.old) (K.files out.new) image.now }
     ensures answers { (result ≤ 1) ⊎ ((6 ≤ result) × (result ≤ 7)) ⊎ (result ≡ 9) }
     ensures cause { result ≡ 6 → Rose (K.faults out.old) (K.faults out.new) }
 {
     let faulty = run.faulty;
     match image {
         Some(name) => {
-            let status = keep_last::<E, K>(alloc, engine, run, name.as_str(), out);
+            let status = keep_last(alloc, &engine, run, name.as_str(), out);
             if status == 0 {
                 u8::from(faulty)
             } else {

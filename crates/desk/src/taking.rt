@@ -1,6 +1,7 @@
 //! What takes the lines of a live run, and puts the images of the states behind those that save.
 ghost use Rattle.std.specs.Prelude.{◌≡◌, ◌+◌, ◌*◌, ◌<◌, ◌^◌, Some, IfOk, is_some};
 ghost use Rattle.line_run.specs.Parts.{run_part_at};
+ghost use Rattle.script_run.specs.Doors.{answer_form, engine_of, fire_limit, run_limit};
 ghost use Rattle.script_run.specs.Live.{live_by, live_step, most_firings};
 ghost use Rattle.desk.specs.Keeping.{IsPutBehind, IsRefusedBehind, refusal_code};
 
@@ -53,10 +54,10 @@ impl<E: Inspect> Keeping<E> {
         first: &RunPart,
         image: &Option<Text>,
     ) -> Result<Keeping<E>, NoMemory>
-        ensures engine { IfOk result (λ it. it.lines.obeying.engine ≡ engine) }
-        ensures limit { IfOk result (λ it. it.lines.obeying.limit ≡ most_firings) }
-        ensures live { IfOk result (λ it. it.lines.obeying.live ≡ Some each) }
-        ensures form { IfOk result (λ it. it.lines.obeying.form ≡ form) }
+        ensures engine { IfOk result (λ it. engine_of it.lines ≡ engine) }
+        ensures limit { IfOk result (λ it. run_limit it.lines ≡ most_firings) }
+        ensures live { IfOk result (λ it. fire_limit it.lines ≡ Some each) }
+        ensures form { IfOk result (λ it. answer_form it.lines ≡ form) }
         ensures has { IfOk result (λ it. it.lines.has_image ≡ is_some image.now) }
         ensures first { IfOk result (λ it. it.first ≡ first.now) }
         ensures image { IfOk result (λ it. it.image ≡ image.now) }
@@ -73,21 +74,21 @@ impl<E: Inspect> Keeping<E> {
 }
 
 impl<E: Inspect, K: FileSink> LineTaker<K> for Keeping<E> {
-    ghost stands = { λ it. E.stands it.lines.obeying.engine };
+    ghost stands = { λ it. E.stands (engine_of it.lines) };
 
-    ghost steps = { λ it. live_step (live_by it.lines.obeying.live it.lines.obeying.form E.gives E.fires E.counts it.lines.obeying.limit
-        (E.made_with it.lines.obeying.engine) (E.table it.lines.obeying.engine) it.lines.has_image) };
+    ghost steps = { λ it. live_step (live_by (fire_limit it.lines) (answer_form it.lines) E.gives E.fires E.counts (run_limit it.lines)
+        (E.made_with (engine_of it.lines)) (E.table (engine_of it.lines)) it.lines.has_image) };
 
-    ghost program = { λ it. E.made_with it.lines.obeying.engine };
+    ghost program = { λ it. E.made_with (engine_of it.lines) };
 
-    ghost table = { λ it. E.table it.lines.obeying.engine };
+    ghost table = { λ it. E.table (engine_of it.lines) };
 
     // the tags given, and those that the firings that are left and these lines may give
-    ghost ready = { λ it at n. E.tags it.lines.obeying.engine + 16 * at.left + 16 * n < 2 ^ 62 };
+    ghost ready = { λ it at n. E.tags (engine_of it.lines) + 16 * at.left + 16 * n < 2 ^ 62 };
 
-    ghost puts = { λ it s before after. IsPutBehind (E.made_with it.lines.obeying.engine) (E.table it.lines.obeying.engine) it.first s before after it.image };
+    ghost puts = { λ it s before after. IsPutBehind (E.made_with (engine_of it.lines)) (E.table (engine_of it.lines)) it.first s before after it.image };
 
-    ghost refuses = { λ it s why. IsRefusedBehind (E.made_with it.lines.obeying.engine) (E.table it.lines.obeying.engine) it.first s (refusal_code why) };
+    ghost refuses = { λ it s why. IsRefusedBehind (E.made_with (engine_of it.lines)) (E.table (engine_of it.lines)) it.first s (refusal_code why) };
 
     fn take(
         self,

@@ -1,8 +1,10 @@
 -- The pairs that are due stand in front of the pairs in order.
 use Rattle.due_queue.proofs.Common.{◌≡◌, ◌∙◌, sym, ap, refl, List, [], ◌∷◌, filter, Bool, true, false, cond, not, ◌&&◌, Ordering, Less, is_eq, is_gt, eq_by_cmp}
-use Rattle.due_queue.proofs.Common.{eq_by_cmp_equiv, IsTotalOrder, AllByRecursion, Bound, is_past_end, pair_cmp, AreDue, Agree, and_parts, take_while}
+use Rattle.due_queue.proofs.Common.{subst, found, has_pair, is_moment, eq_by_cmp_equiv, IsTotalOrder, AllByRecursion, Bound, is_past_end, pair_cmp, AreDue}
+use Rattle.due_queue.proofs.Common.{Agree, and_parts, take_while}
 use Rattle.due_queue.proofs.Common.{is_eq-then, is_eq-true}
 use Rattle.std.proofs.Common.{map as list_map}
+use Rattle.due_queue.specs.Moments.{AreDuePairs}
 use Rattle.std.specs.List.Sorted.{IsStrictlySortedBy}
 use Rattle.std.proofs.lemmas.List.Kept.{IsStrictlySortedBy-filter}
 use Rattle.std.proofs.lemmas.List.Sums.{take_while-cons}
@@ -38,14 +40,18 @@ module _ {M K : Type 0} (moments : M → M → Ordering) (keys : K → K → Ord
         | false ↦ λ e. sym (none_behind x xs e sorted.0)
       ] refl
 
-  pub AreDue-front : {V : Type 0} → IsTotalOrder keys → (pairs : List (M × K)) (inside waiting : List (K × (M × V))) → Agree moments keys pairs inside → inside ≡ waiting → IsStrictlySortedBy (pair_cmp moments keys) pairs
-      → (those : List K) → those ≡ list_map (λ t. t.1) (take_while due_at pairs) → AreDue moments keys bound waiting those
-  AreDue-front kt pairs inside waiting agree view sorted those is = record {
-    pairs = filter due_at pairs;
-    are = is ∙ ap (list_map (λ (t : M × K). t.1)) (front pairs sorted);
-    due = λ t. is_member-filter (eq_by_cmp_equiv (pair_total mt kt)) due_at t (same_due t) pairs ∙ ap (λ b. b && due_at t) (paired moments keys pairs inside waiting agree view t);
+  pub AreDuePairs-front : {V : Type 0} → IsTotalOrder keys → (pairs : List (M × K)) (waiting : List (K × (M × V))) → ((t : M × K) → has_pair moments keys pairs t ≡ is_moment moments t.0 (found keys waiting t.1))
+      → IsStrictlySortedBy (pair_cmp moments keys) pairs → (those : List (M × K)) → those ≡ take_while due_at pairs → AreDuePairs moments keys bound waiting those
+  AreDuePairs-front kt pairs waiting pair sorted those is = subst (AreDuePairs moments keys bound waiting) (sym (is ∙ front pairs sorted)) (record {
+    due = λ t. is_member-filter (eq_by_cmp_equiv (pair_total mt kt)) due_at t (same_due t) pairs ∙ ap (λ b. b && due_at t) (pair t);
     in_order = IsStrictlySortedBy-filter (pair_cmp moments keys) due_at pairs sorted;
-  }
+  })
     where
       same_due : (t x : M × K) → eq_by_cmp (pair_cmp moments keys) t x ≡ true → due_at t ≡ due_at x
       same_due t x e = ap not (past_same mt bound t.0 x.0 (is_eq-true (moments t.0 x.0) (and_parts (is_eq (moments t.0 x.0)) (is_eq (keys t.1 x.1)) (sym (is_eq-then (moments t.0 x.0) (keys t.1 x.1)) ∙ e)).0))
+
+  pub AreDue-front : {V : Type 0} → IsTotalOrder keys → (pairs : List (M × K)) (inside waiting : List (K × (M × V))) → Agree moments keys pairs inside → inside ≡ waiting → IsStrictlySortedBy (pair_cmp moments keys) pairs
+      → (those : List K) → those ≡ list_map (λ t. t.1) (take_while due_at pairs) → AreDue moments keys bound waiting those
+  AreDue-front kt pairs inside waiting agree view sorted those is =
+      let due = AreDuePairs-front kt pairs waiting (paired moments keys pairs inside waiting agree view) sorted (take_while due_at pairs) refl in
+      record { pairs = take_while due_at pairs; are = is; due = due.due; in_order = due.in_order }

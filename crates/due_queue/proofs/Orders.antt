@@ -9,6 +9,23 @@ gt_first Less p e = refl
 gt_first Equal p e = refl
 gt_first Greater p e = e
 
+-- what is less in the second and not greater in the first is less
+pub less_then : (o : Ordering) → is_gt o ≡ false → ordering_then o Less ≡ Less
+less_then Less e = refl
+less_then Equal e = refl
+less_then Greater e = let f : true ≡ false = e in cc
+
+-- answers by their tests
+pub is_less : (o : Ordering) → is_lt o ≡ true → o ≡ Less
+is_less Less e = refl
+is_less Equal e = let f : false ≡ true = e in cc
+is_less Greater e = let f : false ≡ true = e in cc
+
+pub not_greater : (o : Ordering) → is_le o ≡ true → is_gt o ≡ false
+not_greater Less e = refl
+not_greater Equal e = refl
+not_greater Greater e = let f : false ≡ true = e in cc
+
 pub pair_total : {M K : Type 0} {moments : M → M → Ordering} {keys : K → K → Ordering} → IsTotalOrder moments → IsTotalOrder keys → IsTotalOrder (pair_cmp moments keys)
 pair_total m k = then_total (on_total (λ t. t.0) m) (on_total (λ t. t.1) k)
 

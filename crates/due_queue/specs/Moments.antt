@@ -31,6 +31,11 @@ abbrev pub is_due : {M V : Type 0} → (M → M → Ordering) → Bound M → Op
 is_due order bound None = false
 is_due order bound (Some one) = not (is_past_end order bound one.0)
 
+-- these are the keys that are due with their moments, in the order of both
+pub record AreDuePairs {M K V : Type 0} (moments : M → M → Ordering) (keys : K → K → Ordering) (bound : Bound M) (waiting : List (K × (M × V))) (pairs : List (M × K)) : Type 0 where
+  pub due : (pair : M × K) → has_pair moments keys pairs pair ≡ (is_moment moments pair.0 (found keys waiting pair.1) && not (is_past_end moments bound pair.0))
+  pub in_order : IsStrictlySortedBy (pair_cmp moments keys) pairs
+
 -- these are the keys that are due, in the order of their moments, then of the keys: those of the pairs of a key that waits with its moment that is due
 pub record AreDue {M K V : Type 0} (moments : M → M → Ordering) (keys : K → K → Ordering) (bound : Bound M) (waiting : List (K × (M × V))) (those : List K) : Type 0 where
   pub pairs : List (M × K)

@@ -1,9 +1,10 @@
-ghost use Rattle.std.specs.Prelude.{◌≡◌, ◌+◌, [], None, Some, true, false, cond, not, ◌&&◌, length, option_map, map as list_map, take_while, OnOk, OnErr, IfOk, IfSome, IfNone, IsSomeAnd};
+ghost use Rattle.std.specs.Prelude.{◌≡◌, ◌+◌, [], None, Some, true, false, cond, not, ◌&&◌, length, option_map, map as list_map, take_while, OnOk, OnErr};
+ghost use Rattle.std.specs.Prelude.{IfOk, IfSome, IfNone, IsSomeAnd};
 ghost use Rattle.std.specs.List.Sorted.{IsStrictlySortedBy};
 ghost use Rattle.std.specs.Ordering.{eq_by_cmp, is_gt};
 ghost use Rattle.std.specs.BTreeMap.{is_at};
 ghost use Rattle.std.specs.BTreeMap.Range.{is_past_end};
-ghost use Rattle.due_queue.specs.Moments.{found, pair_cmp, has_pair, is_moment, is_due, AreDue};
+ghost use Rattle.due_queue.specs.Moments.{found, pair_cmp, has_pair, is_moment, is_due, AreDue, AreDuePairs};
 
 use crate::pairs::{is_past, take_first_due};
 use fx_base::NoMemory;
@@ -118,6 +119,14 @@ impl<M: Ord + Copy + Drop, K: Ord + Copy + Drop, V: Drop> DueMap<M, K, V> {
         let keys = due_keys(alloc, &self.by_moment, &bound)?;
         Ok(keys)
     }
+
+    /// The same keys with their moments.
+    pub(crate) fn due_pairs(&self, alloc: Global, bound: &Bound<M>) -> Result<Vec<(M, K)>, NoMemory>
+        ensures { IfOk result (λ pairs. AreDuePairs M.cmp K.cmp bound.now self.now pairs.items) }
+    {
+        let pairs = first_pairs(alloc, &self.by_moment, bound)?;
+        Ok(pairs)
+    }
 }
 
 /// Takes out the pair of the moment for which a key waited, if that is another than this one.
@@ -144,6 +153,24 @@ fn due_keys<M: Ord + Copy + Drop, K: Ord + Copy + Drop>(
             .iter()
             .take_while(|pair| !is_past(bound, &pair.0))
             .map(|pair| pair.1)
+            .collect(alloc)?,
+    )
+}
+
+/// The pairs in front that are due.
+fn first_pairs<M: Ord + Copy + Drop, K: Ord + Copy + Drop>(
+    alloc: Global,
+    pairs: &BTreeSet<(M, K), Global>,
+    bound: &Bound<M>,
+) -> Result<Vec<(M, K)>, NoMemory>
+    ensures sorted { IsStrictlySortedBy (pair_cmp M.cmp K.cmp) pairs.now.keys }
+    ensures front { IfOk result (λ front. front.items ≡ take_while (λ pair. not (is_past_end M.cmp bound.now pair.0)) pairs.now.keys) }
+{
+    Ok(
+        pairs
+            .iter()
+            .take_while(|first| !is_past(bound, &first.0))
+            .map(|pair| *pair)
             .collect(alloc)?,
     )
 }

@@ -6,6 +6,7 @@ ghost use Rattle.rule_world.specs.Lawful.{IsLawful};
 ghost use Rattle.rule_world.specs.Programs.{IsRunnable};
 ghost use Rattle.rule_world.specs.Worlds.{World, empty_world};
 ghost use Rattle.script_read.specs.declared.asked.Change.{Change as ChangeData};
+ghost use Rattle.checkpoint.specs.Pieces.{whole};
 ghost use Rattle.image_laws.specs.Fitting.{Fits};
 ghost use Rattle.image_laws.specs.Images.{IsImageOf};
 ghost use Rattle.answer_lines.specs.declared.lines.OutLine.{OutLine as OutLineData};
@@ -15,7 +16,7 @@ ghost use Rattle.engine.specs.Counts.{HasEach};
 
 use crate::resuming::ResumeFault;
 use answer_lines::{Fired, Lines};
-use checkpoint::{Image, RunPart};
+use checkpoint::{Image, LentImage, RunPart};
 use fx_base::NoMemory;
 use rule_model::{LifeTable, Program};
 use script_read::Change;
@@ -99,11 +100,12 @@ pub trait Engine: Sized + Drop {
         ensures lawful { (w : World) → stands self w → IsLawful (made_with self) w }
         ensures image { IfOk result (λ image. (w : World) → stands self w → IsImageOf (made_with self) (table self) w image) };
 
-    /// The same image of the engine, which stays as it is: it copies what the engine keeps. Time and memory grow with that.
-    fn image(&self, alloc: Global, run: RunPart) -> Result<Image, NoMemory>
-        ensures run { IfOk result (λ image. image.run ≡ run) }
+    /// The same image, of the engine as it stays: it lends the kept facts. Time grows with what the engine keeps, and so does memory, but for
+    /// the facts, of which it takes a reference each.
+    fn image(&self, alloc: Global, run: RunPart) -> Result<LentImage<'_>, NoMemory>
+        ensures run { IfOk result (λ image. image.apart.run ≡ run) }
         ensures lawful { (w : World) → stands self.now w → IsLawful (made_with self.now) w }
-        ensures image { IfOk result (λ image. (w : World) → stands self.now w → IsImageOf (made_with self.now) (table self.now) w image) };
+        ensures image { IfOk result (λ image. (w : World) → stands self.now w → IsImageOf (made_with self.now) (table self.now) w (whole image)) };
 
     /// An engine of a program, with a safe table of lives, in each lawful world of which the image is that; it has given the tags below the
     /// image's next one. `Unfit`: exactly where the image does not fit. Program, table and image are given up then.

@@ -60,21 +60,21 @@ module _ (before between after : LeftRows) (look : Look) (gone come : List Row) 
       (rows_more (joins c.pattern look) (has_left (beside between c) look) (has come) (has turn.came.items) (has_candidate c look) came)
       (rows_outside (joins c.pattern look) (has_left (beside between c) look) (has come) (has turn.came.items) (has_candidate c look) came) arrive
 
-module _ (left : LeftRows) (look : Look) (c n : Candidates) (names found : List Named) (change changed : Change) (rows : List Row)
-    (are : (r : Row) → has rows r ≡ joined (joins c.pattern look) (has_left (beside left c) look) (has_name found) r) where
-  names_went : NamesLeave c n look names → ((who : Named) → has_name found who ≡ (has_name names who && has_candidate c look who)) → Leaves rows change changed
+module _ (left : LeftRows) (look : Look) (c n : Candidates) (names : List Named) (found : Named → Bool) (change changed : Change) (rows : List Row)
+    (are : (r : Row) → has rows r ≡ joined (joins c.pattern look) (has_left (beside left c) look) found r) where
+  names_went : NamesLeave c n look names → ((who : Named) → found who ≡ (has_name names who && has_candidate c look who)) → Leaves rows change changed
       → LeadsOn (beside left c) (beside left n) look change changed
   names_went keeps went leave =
-      rows_go (beside left c) (beside left n) look _ _ (keeps left) change changed rows (joined (joins c.pattern look) (has_left (beside left c) look) (has_name found)) are
-      (names_less (joins c.pattern look) (has_left (beside left c) look) (has_candidate c look) (has_name names) (has_name found) went)
-      (names_inside (joins c.pattern look) (has_left (beside left c) look) (has_candidate c look) (has_name names) (has_name found) went) leave
+      rows_go (beside left c) (beside left n) look _ _ (keeps left) change changed rows (joined (joins c.pattern look) (has_left (beside left c) look) found) are
+      (names_less (joins c.pattern look) (has_left (beside left c) look) (has_candidate c look) (has_name names) found went)
+      (names_inside (joins c.pattern look) (has_left (beside left c) look) (has_candidate c look) (has_name names) found went) leave
 
-  names_came : NamesCome c n look names → ((who : Named) → has_name found who ≡ (has_name names who && not (has_candidate c look who))) → Arrives rows change changed
+  names_came : NamesCome c n look names → ((who : Named) → found who ≡ (has_name names who && not (has_candidate c look who))) → Arrives rows change changed
       → LeadsOn (beside left c) (beside left n) look change changed
   names_came keeps came arrive =
-      rows_arrive (beside left c) (beside left n) look _ _ (keeps left) change changed rows (joined (joins c.pattern look) (has_left (beside left c) look) (has_name found)) are
-      (names_more (joins c.pattern look) (has_left (beside left c) look) (has_candidate c look) (has_name names) (has_name found) came)
-      (names_outside (joins c.pattern look) (has_left (beside left c) look) (has_candidate c look) (has_name names) (has_name found) came) arrive
+      rows_arrive (beside left c) (beside left n) look _ _ (keeps left) change changed rows (joined (joins c.pattern look) (has_left (beside left c) look) found) are
+      (names_more (joins c.pattern look) (has_left (beside left c) look) (has_candidate c look) (has_name names) found came)
+      (names_outside (joins c.pattern look) (has_left (beside left c) look) (has_candidate c look) (has_name names) found came) arrive
 
 -- ---- the rows of a member
 
@@ -92,24 +92,22 @@ rows_turned turn look c gone_rows come_rows ch0 ch1 ch2 delta went came none lea
     ((rows_went before between after look gone come turn is c ch0 ch1 gone_rows b went leave) old (none old)))
 
 -- the rows go and come with candidates
-pub names_turn : (left : LeftRows) (look : Look) (c0 c1 c2 : Candidates) (gone come went came : List Named) (gone_rows come_rows : List Row) (ch0 ch1 ch2 : Change) (so_far delta : Delta)
+pub names_turn : (left : LeftRows) (look : Look) (c0 c1 c2 : Candidates) (gone come : List Named) (gone_rows come_rows : List Row) (ch0 ch1 ch2 : Change) (so_far delta : Delta)
     → c1.pattern ≡ c0.pattern → c2.pattern ≡ c1.pattern → NamesLeave c0 c1 look gone → NamesCome c1 c2 look come
-    → ((who : Named) → has_name went who ≡ (has_name gone who && has_candidate c0 look who))
-    → ((who : Named) → has_name came who ≡ (has_name come who && not (has_candidate c1 look who)))
-    → ((r : Row) → has gone_rows r ≡ joined (joins c0.pattern look) (has_left (beside left c0) look) (has_name went) r)
-    → ((r : Row) → has come_rows r ≡ joined (joins c1.pattern look) (has_left (beside left c1) look) (has_name came) r)
+    → ((r : Row) → has gone_rows r ≡ joined (joins c0.pattern look) (has_left (beside left c0) look) (λ who. has_name gone who && has_candidate c0 look who) r)
+    → ((r : Row) → has come_rows r ≡ joined (joins c1.pattern look) (has_left (beside left c1) look) (λ who. has_name come who && not (has_candidate c1 look who)) r)
     → ((old now : Row → Bool) → IsDifference old now so_far → LeadsRows old now ch0.gone.keys ch0.come.keys) → Leaves gone_rows ch0 ch1 → Arrives come_rows ch1 ch2
     → ((old now : Row → Bool) → LeadsRows old now ch2.gone.keys ch2.come.keys → IsDifference old now delta)
     → AreNamesTurned left look gone come so_far c0 c2 delta
-names_turn left look c0 c1 c2 gone come went came gone_rows come_rows ch0 ch1 ch2 so_far delta p1 p2 leave arrive went_are came_are gone_are come_are begun t1 t2 difference = record {
+names_turn left look c0 c1 c2 gone come gone_rows come_rows ch0 ch1 ch2 so_far delta p1 p2 leave arrive gone_are come_are begun t1 t2 difference = record {
   pattern = p2 ∙ p1;
   kept =
       keeps_then (beside left c0) (beside left c1) (beside left c2) look _ _ _ _ _ _ (leave left) (arrive left) (leave left).rows
       (λ who. ap (λ b. b || has_name come who) ((leave left).names who));
   difference = λ first so.
       difference first (made (beside left c2) look)
-      ((names_came left look c1 c2 come came ch1 ch2 come_rows come_are arrive came_are t2) first
-      ((names_went left look c0 c1 gone went ch0 ch1 gone_rows gone_are leave went_are t1) first (begun first (made (beside left c0) look) so)));
+      ((names_came left look c1 c2 come _ ch1 ch2 come_rows come_are arrive (λ who. refl) t2) first
+      ((names_went left look c0 c1 gone _ ch0 ch1 gone_rows gone_are leave (λ who. refl) t1) first (begun first (made (beside left c0) look) so)));
 }
 
 -- ---- what the candidates of a member are kept under

@@ -7,6 +7,7 @@ use Rattle.std.proofs.lemmas.List.Folds.{list_any_more}
 use Rattle.std.proofs.lemmas.Bool.{and_parts, and_from}
 use Rattle.fx_base.specs.SameValues.{equal_values, same_itself}
 use Rattle.fan_join.proofs.Whole.{member_turned}
+use Rattle.pair_memory.specs.Doors.{keeps_time}
 use Rattle.fx_base.proofs.Orders.{eq_by_nat_cmp-self, eq_by_nat_cmp-true}
 use Rattle.fx_base.proofs.Sequences.{get-set_other, get-set_same, is_some-cond, one_value}
 
@@ -50,30 +51,40 @@ module _ (old new : FanJoin) (mid : JoinIndex Value ℕ (Unit {0})) (look : Look
     (left : (value : Value) (k : ℕ) → (k ≡ place → (who : Named) × (is_some (at same_value name_cmp d.names value who) ≡ true)) → is_member_under old.reached value k ≡ true → is_member_under mid value k ≡ true)
     (stays : (value : Value) (k : ℕ) → is_member_under mid value k ≡ true → is_member_under new.reached value k ≡ true)
     (put : (who : Named) → has_name come who ≡ true → is_member_under new.reached (candidate_value d.pattern look who) place ≡ true) where
-  reached_here : IsReached old → (value : Value) (who : Named) → is_some (at same_value name_cmp d.names value who) ≡ true → is_member_under new.reached value place ≡ true
-  reached_here reached value who kept = by (is_some (at same_value name_cmp c.names value who)) refl
+  reached_here : IsReached old → keeps_time old.left ≡ false → (value : Value) (who : Named) → is_some (at same_value name_cmp d.names value who) ≡ true → is_member_under new.reached value place ≡ true
+  reached_here reached untimed value who kept = by (is_some (at same_value name_cmp c.names value who)) refl
     where
       by : (b : Bool) → is_some (at same_value name_cmp c.names value who) ≡ b → is_member_under new.reached value place ≡ true
-      by true e = stays value place (left value place (λ same. (who, kept)) (reached place c value who was e))
+      by true e = stays value place (left value place (λ same. (who, kept)) (reached untimed place c value who was e))
       by false e =
           let both =
           and_parts (has_name come who) (same_value (candidate_value d.pattern look who) value)
           (ap (λ b. b || (has_name come who && same_value (candidate_value d.pattern look who) value)) (sym e) ∙ under value who kept) in
           ap (λ v. is_member_under new.reached v place) (sym (equal_values (candidate_value d.pattern look who) value both.1)) ∙ put who both.0
 
-  reached_turned : IsReached old → IsReached new
-  reached_turned reached k a value who member kept = by (eq_by_cmp nat_cmp k place) refl
+  reached_turned : new.left ≡ old.left → IsReached old → IsReached new
+  reached_turned left_is reached untimed_now k a value who member kept = by (eq_by_cmp nat_cmp k place) refl
     where
+      untimed : keeps_time old.left ≡ false
+      untimed = ap keeps_time (sym left_is) ∙ untimed_now
+
       by : (b : Bool) → eq_by_cmp nat_cmp k place ≡ b → is_member_under new.reached value k ≡ true
       by true e =
           let same = eq_by_nat_cmp-true k place e in
           let there : slice_get (set old.members.items place d) place ≡ Some a = ap (λ (members : List Candidates). slice_get members place) (sym is) ∙ ap (slice_get new.members.items) (sym same) ∙ member in
           let a_is = one_value (slice_get (set old.members.items place d) place) a d there (get-set_same old.members.items place d c was) in
-          ap (is_member_under new.reached value) same ∙ reached_here reached value who (ap (λ (m : Candidates). is_some (at same_value name_cmp m.names value who)) (sym a_is) ∙ kept)
+          ap (is_member_under new.reached value) same ∙ reached_here reached untimed value who (ap (λ (m : Candidates). is_some (at same_value name_cmp m.names value who)) (sym a_is) ∙ kept)
       by false e =
           let other : k ≡ place → ⊥ = λ same. false≢true (sym e ∙ ap (λ n. eq_by_cmp nat_cmp n place) same ∙ eq_by_nat_cmp-self place) in
           let there : slice_get old.members.items k ≡ Some a = sym (get-set_other old.members.items place k d other) ∙ ap (λ (members : List Candidates). slice_get members k) (sym is) ∙ member in
-          stays value k (left value k (λ same. absurd (other same)) (reached k a value who there kept))
+          stays value k (left value k (λ same. absurd (other same)) (reached untimed k a value who there kept))
 
   pub names_reached : (gone : List Named) (so_far delta : Delta) → AreNamesTurned old.left look gone come so_far c d delta → new.left ≡ old.left → IsMemberTurned old new look place gone come so_far delta
-  names_reached gone so_far delta turned left_is = member_turned old look place gone come so_far delta c d was turned new left_is is reached_turned
+  names_reached gone so_far delta turned left_is = member_turned old look place gone come so_far delta c d was turned new left_is is (reached_turned left_is)
+
+-- where the key has a range of time, nothing is said of the values
+pub names_timed : (old new : FanJoin) (look : Look) (place : ℕ) (gone come : List Named) (so_far delta : Delta) (c d : Candidates) → slice_get old.members.items place ≡ Some c → new.members.items ≡ set old.members.items place d
+    → keeps_time old.left ≡ true → AreNamesTurned old.left look gone come so_far c d delta → new.left ≡ old.left → IsMemberTurned old new look place gone come so_far delta
+names_timed old new look place gone come so_far delta c d was is timed turned left_is =
+    member_turned old look place gone come so_far delta c d was turned new left_is is
+    (λ reached untimed. absurd (false≢true (sym untimed ∙ ap keeps_time left_is ∙ timed)))

@@ -19,8 +19,10 @@ use Rattle.join_tests.specs.RowKeys.{row_time}
 use Rattle.join_tests.specs.TimeKeys.{time_key}
 use Rattle.join_tests.proofs.Meeting.{values_meet}
 use Rattle.fan_join.proofs.Halves.{still}
+use Rattle.pair_memory.specs.Doors.{keeps_time}
 use Rattle.fan_join.specs.Laws.{EmptyLaw, MemberStepLaw, MemberForgetLaw}
 use Rattle.fan_join.proofs.Places.{last_or_before}
+use Rattle.fan_join.specs.Doors.{shared_key}
 use Rattle.fx_base.proofs.Orders.{eq_by_nat_cmp-true}
 use Rattle.fx_base.proofs.Sequences.{get-set_other, get-set_same, one_value}
 
@@ -32,10 +34,10 @@ timeless f (Some a) e = absurd (let no : true ≡ false = e in cc)
 
 module _ (fan : FanJoin) (look : Look) (turn : RowTurn) (places : List ℕ) (asked : AreAsked fan look turn places) (reached : IsReached fan) (k : ℕ) (c : Candidates) (member : IsMemberAt fan k c) (b : LooksWhereKept fan.left c)
     (out : has_place places k ≡ false) where
-  untimed : is_some fan.left.key.time ≡ false
-  untimed = by (is_some fan.left.key.time) refl
+  untimed : is_some (shared_key fan).time ≡ false
+  untimed = by (is_some (shared_key fan).time) refl
     where
-      by : (t : Bool) → is_some fan.left.key.time ≡ t → t ≡ false
+      by : (t : Bool) → is_some (shared_key fan).time ≡ t → t ≡ false
       by true e = absurd (false≢true (sym out ∙ asked.all e k (slice_get_within fan.members.items k c member)))
       by false e = refl
 
@@ -48,17 +50,20 @@ module _ (fan : FanJoin) (look : Look) (turn : RowTurn) (places : List ℕ) (ask
       by true e =
           let same : value_by fan.left.key look l ≡ candidate_value c.pattern look who =
           value_beside fan.left c look l b ∙ values_meet c.pattern look l who e (timeless row_time (time_key c.pattern) (ap (λ (key : RowKey). is_some key.time) b ∙ untimed)) in
-          absurd (false≢true (sym out ∙ among l k there (ap (λ v. is_member_under fan.reached v k) same ∙ reached k c (candidate_value c.pattern look who) who member kept)))
+          absurd (false≢true (sym out ∙ among l k there (ap (λ v. is_member_under fan.reached v k) same ∙ reached untimed k c (candidate_value c.pattern look who) who member kept)))
 
 -- ---- rows of all members
 
 module _ (old : FanJoin) (between after : LeftRows) (look : Look) (gone come : List Row) (turn : RowTurn) (places : List ℕ) (deltas : BTreeMap ℕ Delta) (is : AreRowsInTurn old.left between after look gone come turn)
     (asked : AreAsked (record old { left = after }) look turn places) (are : AreDifferences turn look old.members.items places deltas) (all : AreBeside old) (reached : IsReached old) where
+  reached_after : IsReached (record old { left = after })
+  reached_after untimed_now = reached (ap (λ (key : RowKey). is_some key.time) (sym is.key_now) ∙ untimed_now)
+
   unasked : (k : ℕ) (c : Candidates) → IsMemberAt old k c → get nat_cmp deltas k ≡ None → (b : Bool) → has_place places k ≡ b → IsDifference (made (beside old.left c) look) (made (beside after c) look) nothing
   unasked k c e none true here = are.unkept k c e here none old.left between after gone come is (all k c e)
   unasked k c e none false out =
-      let then = apart (record old { left = after }) look turn places asked reached k c e (all k c e ∙ sym is.key_now) out in
-      let untimed_now = untimed (record old { left = after }) look turn places asked reached k c e (all k c e ∙ sym is.key_now) out in
+      let then = apart (record old { left = after }) look turn places asked reached_after k c e (all k c e ∙ sym is.key_now) out in
+      let untimed_now = untimed (record old { left = after }) look turn places asked reached_after k c e (all k c e ∙ sym is.key_now) out in
       still old.left between after look gone come turn is c (all k c e) (then turn.went.items (asked.went untimed_now)) (then turn.came.items (asked.came untimed_now))
 
   differs : (k : ℕ) (c : Candidates) → IsMemberAt old k c → (o : Option Delta) → get nat_cmp deltas k ≡ o → IsDifference (made (beside old.left c) look) (made (beside after c) look) (given_delta o)
@@ -74,7 +79,7 @@ module _ (old : FanJoin) (between after : LeftRows) (look : Look) (gone come : L
         keeps_then (beside old.left c) (beside between c) (beside after c) look _ _ _ _ _ _ first (is.comes c (b ∙ sym is.key))
         (λ r. ap (λ h. h || has come r) (first.rows r)) (λ who. refl);
     difference = λ k c e. differs k c e (get nat_cmp deltas k) refl;
-    reached = λ was. was;
+    reached = λ was untimed_now. was (ap (λ (key : RowKey). is_some key.time) (sym is.key_now) ∙ untimed_now);
   }
 
 -- ---- members that are asked
@@ -183,8 +188,8 @@ module _ (old new : FanJoin) (c : Candidates) (more : new.members.items ≡ old.
   }
 
   pub put_reached : new.reached ≡ old.reached → IsReached old → IsReached new
-  put_reached same reached k d value who e kept = elim (put_at k d e) [
-    | inl there ↦ ap (λ (r : JoinIndex Value ℕ (Unit {0})). is_member_under r value k) same ∙ reached k d value who there kept
+  put_reached same reached untimed_now k d value who e kept = elim (put_at k d e) [
+    | inl there ↦ ap (λ (r : JoinIndex Value ℕ (Unit {0})). is_member_under r value k) same ∙ reached (ap keeps_time (sym left) ∙ untimed_now) k d value who there kept
     | inr is ↦ absurd (false≢true (sym (ap (λ (member : Candidates). is_some (at same_value name_cmp member.names value who)) is ∙ ap is_some (nothing_kept value who)) ∙ kept))
   ]
 

@@ -1,5 +1,5 @@
 -- What the members of a fan are, and what a change of their rows and one of their candidates are for each of them.
-use Rattle.std.specs.Prelude.{◌≡◌, ◌<◌, ◌&&◌, ◌||◌, not, true, ℕ, List, [], length, Option, Some, None, slice_get}
+use Rattle.std.specs.Prelude.{◌≡◌, ◌<◌, ◌&&◌, ◌||◌, not, true, false, ℕ, List, [], length, Option, Some, None, slice_get}
 use Rattle.std.specs.BTreeMap.{BTreeMap, get}
 use Rattle.std.specs.Option.{is_some}
 use Rattle.std.specs.Ordering.{nat_cmp}
@@ -16,6 +16,7 @@ use Rattle.join_tests.specs.Joins.{Look}
 use Rattle.pair_memory.specs.declared.candidates.Candidates.{Candidates}
 use Rattle.pair_memory.specs.Memories.{has_left, has_right, made, KeepsMemories}
 use Rattle.pair_memory.specs.Apart.{beside, LooksWhereKept}
+use Rattle.pair_memory.specs.Doors.{keeps_time}
 use Rattle.fan_join.specs.declared.fan.FanJoin.{FanJoin}
 use Rattle.fan_join.specs.Turns.{AreNamesTurned}
 
@@ -27,9 +28,9 @@ IsMemberAt fan k c = slice_get fan.members.items k ≡ Some c
 abbrev pub AreBeside : FanJoin → Type 0
 AreBeside fan = (k : ℕ) (c : Candidates) → IsMemberAt fan k c → LooksWhereKept fan.left c
 
--- members are found under the values under which they keep candidates
+-- where the key has no range of time, members are found under the values under which they keep candidates
 abbrev pub IsReached : FanJoin → Type 0
-IsReached fan = (k : ℕ) (c : Candidates) (value : Value) (who : Named) → IsMemberAt fan k c
+IsReached fan = keeps_time fan.left ≡ false → (k : ℕ) (c : Candidates) (value : Value) (who : Named) → IsMemberAt fan k c
     → is_some (at same_value name_cmp c.names value who) ≡ true → is_some (at same_value nat_cmp fan.reached value k) ≡ true
 
 -- nothing goes and nothing comes

@@ -1,3 +1,4 @@
+pub mod Doors
 pub mod Turns
 pub mod Fans
 pub mod Reaching

@@ -19,6 +19,7 @@ use Rattle.fan_join.specs.declared.fan.FanJoin.{FanJoin}
 use Rattle.fan_join.specs.declared.row_turn.RowTurn.{RowTurn}
 use Rattle.fan_join.specs.Fans.{nothing}
 use Rattle.fan_join.specs.Turns.{IsRowsDifference}
+use Rattle.fan_join.specs.Doors.{shared_key}
 
 -- whether a place is in a set
 abbrev pub has_place : List ℕ → ℕ → Bool
@@ -34,9 +35,9 @@ AreAmong key reached look rows places = (row : Row) (k : ℕ) → has rows row �
 
 -- The members to ask of a turn are in these places: all of them, where there is a range of time, and else those that its rows reach.
 pub record AreAsked (fan : FanJoin) (look : Look) (turn : RowTurn) (places : List ℕ) : Type 0 where
-  pub all : is_some fan.left.key.time ≡ true → (k : ℕ) → k < length fan.members.items → has_place places k ≡ true
-  pub went : is_some fan.left.key.time ≡ false → AreAmong fan.left.key fan.reached look turn.went.items places
-  pub came : is_some fan.left.key.time ≡ false → AreAmong fan.left.key fan.reached look turn.came.items places
+  pub all : is_some (shared_key fan).time ≡ true → (k : ℕ) → k < length fan.members.items → has_place places k ≡ true
+  pub went : is_some (shared_key fan).time ≡ false → AreAmong (shared_key fan) fan.reached look turn.went.items places
+  pub came : is_some (shared_key fan).time ≡ false → AreAmong (shared_key fan) fan.reached look turn.came.items places
 
 -- what is kept of members are the differences of their rows
 pub record AreKept (turn : RowTurn) (look : Look) (members : List Candidates) (deltas : BTreeMap ℕ Delta) : Type 0 where

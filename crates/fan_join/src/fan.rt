@@ -18,8 +18,8 @@ use std::alloc::Global;
 use std::collections::{BTreeMap, BTreeSet};
 
 /// Nodes of patterns that bind a fact, which stand behind one node and keep its rows by the same key: the rows are kept once, the
-/// candidates by each member, and under each join value the places of the members that keep a candidate under it, so that a row asks
-/// these alone. After a call that was refused memory it is to be given up.
+/// candidates by each member, and where the key has no range of time, under each join value the places of the members that keep a candidate
+/// under it, so that a row asks these alone. After a call that was refused memory it is to be given up.
 #[derive(Drop)]
 pub struct FanJoin {
     left: LeftRows,
@@ -95,10 +95,8 @@ impl FanJoin {
         ensures reached { OnOk result (self.new.reached ≡ self.old.reached) }
         ensures turned { IfOk result (λ deltas. AreBeside self.old → IsReached self.old → AreRowsTurned self.old self.new (F.map facts.now) gone.now come.now deltas) }
     {
-        let went = self.left.those(alloc, gone, true, facts)?;
-        self.left.leave(gone, facts);
-        let came = self.left.those(alloc, come, false, facts)?;
-        self.left.come(alloc, come, facts)?;
+        let went = self.left.leave(alloc, gone, facts)?;
+        let came = self.left.come(alloc, come, facts)?;
         let turn = RowTurn { went, came };
         let places = self.asked(alloc, &turn, facts)?;
         let deltas = differences(alloc, &self.members, &places, &turn, facts)?;
@@ -141,6 +139,9 @@ impl FanJoin {
     {
         let member = &mut self.members[place];
         let delta = names_turned(member, alloc, &self.left, so_far, gone, come, facts)?;
+        if self.left.key().is_timed() {
+            return Ok(delta);
+        }
         take_values(&mut self.reached, member, place, gone, facts);
         put_values(&mut self.reached, alloc, member, place, come, facts)?;
         Ok(delta)

@@ -54,13 +54,9 @@ pub(crate) fn names_turned<F: Facts>(
         → (is_some (at same_value name_cmp member.old.names value who) || (has_name come.now who && same_value (candidate_value member.new.pattern (F.map facts.now) who) value)) ≡ true) }
 {
     let mut change = begun(alloc, so_far)?;
-    let went = member.those(alloc, gone, true, facts)?;
-    let rows_gone = member.with_names(alloc, left, went.as_slice(), facts)?;
-    member.leave(gone, facts);
+    let rows_gone = member.leave(alloc, left, gone, facts)?;
     change.leave(alloc, rows_gone)?;
-    let came = member.those(alloc, come, false, facts)?;
-    let rows_come = member.with_names(alloc, left, came.as_slice(), facts)?;
-    member.come(alloc, come, facts)?;
+    let rows_come = member.come(alloc, left, come, facts)?;
     change.arrive(alloc, rows_come)?;
     let delta = change.delta(alloc)?;
     Ok(delta)

@@ -1,4 +1,5 @@
-//! Files that are put whole in the place of others, as a live run puts its image: in a store, or beside an output. Calls that allocate answer `NoMemory` where memory is refused.
+//! Files that are put whole in the place of others, as a live run puts its image: in a store, or beside an output. The bytes of a file come in pieces.
+//! Calls that allocate answer `NoMemory` where memory is refused.
 #![tactic(auto)]
 
 mod file_sink;

@@ -1,5 +1,5 @@
 -- The value under which a row or a candidate is kept, and the values under which the other side is sought.
-use Rattle.std.specs.Prelude.{ℤ, Bool, cond, List, [], ◌∷◌, ◌++◌, map, Option, Some, None}
+use Rattle.std.specs.Prelude.{◌≡◌, ℤ, Bool, cond, List, [], ◌∷◌, ◌++◌, map, Option, Some, None}
 use Rattle.std.specs.List.{list_any}
 use Rattle.fx_base.specs.declared.value.Value.{Value}
 use Rattle.fx_base.specs.Values.{same_value}
@@ -9,6 +9,8 @@ use Rattle.rule_model.specs.declared.condition.Pattern.{Pattern}
 use Rattle.join_tests.specs.declared.time_key.TimeKey.{TimeKey}
 use Rattle.join_tests.specs.declared.sought.Sought.{Sought}
 use Rattle.join_tests.specs.declared.sought.Sought.TheVariants.{One, Two}
+use Rattle.join_tests.specs.declared.sought.Sight.{Sight}
+use Rattle.join_tests.specs.declared.sought.Sight.TheVariants.{Alike, Apart}
 use Rattle.join_tests.specs.Joins.{Look}
 use Rattle.join_tests.specs.JoinValues.{shown}
 use Rattle.join_tests.specs.Keys.{join_keys, row_part, candidate_part, as_one}
@@ -61,3 +63,22 @@ is_value_among values v = list_any (same_value v) values
 abbrev pub all_sought : Sought → List Value
 all_sought (One v) = shown v ∷ []
 all_sought (Two a b) = a ∷ b ∷ []
+
+-- the value under which a candidate is kept that has this sight
+abbrev pub own_value : Sight → Value
+own_value (Alike v) = shown v
+own_value (Apart v sought) = v
+
+-- the values under which rows are sought for it
+abbrev pub values_seen : Sight → List Value
+values_seen (Alike v) = shown v ∷ []
+values_seen (Apart v sought) = all_sought sought
+
+-- they are those of the rows that a candidate may join
+abbrev pub SeesRows : Pattern → Look → Named → Sight → Type 0
+SeesRows p look who sight = values_seen sight ≡ rows_sought p look who
+
+-- a value, if there is one
+abbrev pub one_or_none : Option Value → List Value
+one_or_none None = []
+one_or_none (Some v) = v ∷ []

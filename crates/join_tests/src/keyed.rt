@@ -3,7 +3,7 @@ ghost use Rattle.join_tests.specs.Joins.{joins};
 ghost use Rattle.join_tests.specs.Keys.{join_keys, candidate_part, as_one};
 ghost use Rattle.join_tests.specs.Keying.{keying_of, part};
 ghost use Rattle.join_tests.specs.JoinValues.{shown};
-ghost use Rattle.join_tests.specs.Kept.{with_slot, once, row_value, candidate_value, rows_sought, candidates_sought, all_sought};
+ghost use Rattle.join_tests.specs.Kept.{with_slot, once, row_value, candidate_value, rows_sought, candidates_sought, all_sought, own_value, values_seen};
 
 use crate::join_value::JoinValue;
 use crate::joins::does_join;
@@ -12,7 +12,7 @@ use crate::number::{number_of, number_with, parts_fed};
 use crate::part::{Partner, part_of};
 use crate::row_facts::named_fact;
 use crate::slot::moment_at;
-use crate::sought::{Sought, once};
+use crate::sought::{Sight, Sought, once};
 use crate::time_key::{TimeKey, key_of_times};
 use fx_base::{Facts, Value};
 use row_delta::{Named, Row};
@@ -101,18 +101,21 @@ impl KeyedPattern {
         }
     }
 
-    /// The values of the rows that a candidate may join: one, or two where there is a range of time. It costs what the candidate's
-    /// own value does.
-    pub fn rows_sought<'a, F: Facts>(&self, who: Named, facts: &'a F) -> Sought<'a>
-        ensures { all_sought result ≡ rows_sought self.now (F.map facts.now) who }
+    /// The value under which a candidate is kept, and those of the rows that it may join: one, or two where there is a range of time. It
+    /// costs what the candidate's own value does, and where there is a range of time, a hash for each slot.
+    pub fn sight<'a, F: Facts>(&self, who: Named, facts: &'a F) -> Sight<'a>
+        ensures own { own_value result ≡ candidate_value self.now (F.map facts.now) who }
+        ensures sought { values_seen result ≡ rows_sought self.now (F.map facts.now) who }
     {
         match self.time {
-            None => Sought::One(self.equal_to_candidate(who, facts)),
+            None => Sight::Alike(self.equal_to_candidate(who, facts)),
             Some(key) => {
                 let fact = facts.fact(who.tag);
-                let (first, last) = key.event_slots(moment_at(key.own, fact));
+                let moment = moment_at(key.own, fact);
+                let own = key.slot(moment);
+                let (first, last) = key.event_slots(moment);
                 let partner = Partner::OfCandidate(fact);
-                both_slotted(self.keying, &self.pattern, partner, facts, first, last)
+                sight_slotted(self.keying, &self.pattern, partner, facts, own, first, last)
             }
         }
     }
@@ -207,6 +210,34 @@ fn both_slotted<'a, F: Facts>(
         Keying::One(_) | Keying::Several => {
             let fed = parts_fed(pattern, partner, facts);
             once(number_with(fed, &first), number_with(fed, &last))
+        }
+    }
+}
+
+/// The same with three slots, each in turn: one to be kept under, and two to be sought under.
+fn sight_slotted<'a, F: Facts>(
+    keying: Keying,
+    pattern: &Pattern,
+    partner: Partner<'_, '_>,
+    facts: &F,
+    own: Value,
+    first: Value,
+    last: Value,
+) -> Sight<'a>
+    requires { keying ≡ keying_of (join_keys pattern.now) }
+    ensures own { own_value result ≡ with_slot (map (part (F.map facts.now) partner.entry) (join_keys pattern.now)) own }
+    ensures sought { values_seen result ≡ once (with_slot (map (part (F.map facts.now) partner.entry) (join_keys pattern.now)) first)
+        (with_slot (map (part (F.map facts.now) partner.entry) (join_keys pattern.now)) last) }
+{
+    match keying {
+        Keying::Nothing => Sight::Apart(own, once(first, last)),
+        Keying::One(_) | Keying::Several => {
+            let fed = parts_fed(pattern, partner, facts);
+            let kept = number_with(fed, &own);
+            Sight::Apart(
+                kept,
+                once(number_with(fed, &first), number_with(fed, &last)),
+            )
         }
     }
 }

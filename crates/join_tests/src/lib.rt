@@ -22,5 +22,5 @@ pub use key::{JoinKey, JoinSide};
 pub use keyed::KeyedPattern;
 pub use row_facts::{field_value, named_fact};
 pub use row_key::{RowKey, RowTime};
-pub use sought::Sought;
+pub use sought::{Sight, Sought};
 pub use time_key::{Point, TimeKey};

@@ -14,16 +14,17 @@ use Rattle.tally_node.specs.Origins.{shows_any}
 use Rattle.tally_node.specs.Tallies.{offers, output_some}
 use Rattle.tally_node.proofs.Lawful.{blockers_shown, tally_law}
 use Rattle.not_node.proofs.Maturing.{row_mature, moment_alike}
+use Rattle.not_node.specs.Doors.{blocking_pattern}
 
 pub not_law : NotLaw
 not_law p node look world pass rows names forgotten was row =
-    ap (λ b. b && mature node.ripening.floor (moment_at p node.tally.memories.pattern look row)) (blockers_shown node.tally.memories look world pass rows names forgotten was row)
-    ∙ ap (λ b. (cleaned rows forgotten row && not (list_any (pass row) names)) && b) (row_mature p node.tally.memories.pattern look row node.ripening.floor)
+    ap (λ b. b && mature node.ripening.floor (moment_at p (blocking_pattern node) look row)) (blockers_shown node.tally.memories look world pass rows names forgotten was row)
+    ∙ ap (λ b. (cleaned rows forgotten row && not (list_any (pass row) names)) && b) (row_mature p (blocking_pattern node) look row node.ripening.floor)
 
 pub step_law : NotStepLaw
 step_law p m n look world pass rows rows_now names names_now forgotten left right delta was alike alike_now rows_lead names_lead seen fixed stepped step difference =
     let now = tally_law Blockers counts_blockers m.tally.memories n.tally.memories look world pass rows rows_now (has_name names) (has_name names_now) forgotten left right was alike alike_now rows_lead names_lead seen fixed stepped step in
-    let line_now : Row → Bool = not_line p m.tally.memories.pattern look n.ripening.floor pass (cleaned rows_now forgotten) names_now in (
+    let line_now : Row → Bool = not_line p (blocking_pattern m) look n.ripening.floor pass (cleaned rows_now forgotten) names_now in (
       now,
       subst (λ (old : Row → Bool). IsDifference old line_now delta) (fun_ext (not_law p m look world pass rows names forgotten was))
           (subst (λ (new : Row → Bool). IsDifference (not_rows p look m) new delta)

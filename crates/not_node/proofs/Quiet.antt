@@ -5,6 +5,7 @@ use Rattle.not_node.proofs.Common.{NoneDue, QuietLaw, and_parts, not-true}
 use Rattle.not_node.specs.declared.node.NotNode.{NotNode}
 use Rattle.not_node.proofs.Lawful.{none_comes}
 use Rattle.not_node.proofs.Pairs.{int_itself, int_same}
+use Rattle.not_node.specs.Doors.{blocking_pattern}
 
 below_too : (at old floor : ℤ) → old ≤ℤ floor → int_lt at old ≡ true → int_lt at floor ≡ true
 below_too at old floor h e = grind (arith, ints)
@@ -36,7 +37,7 @@ module _ (moment : Row → Option ℤ) (old floor : ℤ) (rows : Row → Bool) (
 
 pub quiet_law : QuietLaw
 quiet_law p node look floor awaits later quiet =
-    let moment = moment_at p node.tally.memories.pattern look in
+    let moment = moment_at p (blocking_pattern node) look in
     let rows = unblocked node.tally.memories look in
     let old = node.ripening.floor in
     let pairs = node.ripening.waiting.keys in
@@ -50,10 +51,10 @@ own_moment at (Some x) e = ap Some (int_same x at e)
 
 -- for a row that waits no candidate passes, the moment is its own, and not below the floor
 pub waits_own : (p : Program) (node : NotNode) (look : Look) → IsInStep p look node → (at : ℤ) (row : Row) → waits node.ripening.waiting.keys at row ≡ true
-    → (unblocked node.tally.memories look row ≡ true) × (moment_at p node.tally.memories.pattern look row ≡ Some at) × (int_lt at node.ripening.floor ≡ false)
+    → (unblocked node.tally.memories look row ≡ true) × (moment_at p (blocking_pattern node) look row ≡ Some at) × (int_lt at node.ripening.floor ≡ false)
 waits_own p node look awaits at row there =
     let free = unblocked node.tally.memories look row in
-    let moment = moment_at p node.tally.memories.pattern look row in
+    let moment = moment_at p (blocking_pattern node) look row in
     let is = and_parts (free && is_that_moment moment at) (not (int_lt at node.ripening.floor)) (sym (awaits at row) ∙ there) in
     let own = and_parts free (is_that_moment moment at) is.0 in
     (own.0, own_moment at moment own.1, not-true (int_lt at node.ripening.floor) is.1)
@@ -69,12 +70,12 @@ waits_before false true i b h e = absurd (let n : false ≡ true = h in cc)
 waits_before u false i b h e = absurd (let n : false ≡ true = e in cc)
 
 -- where left rows are dropped, no other row waits than before
-pub dropped_none_due : (p : Program) (m n : NotNode) (look : Look) (dropped : List Row) (floor : ℤ) → IsInStep p look m → IsInStep p look n → n.tally.memories.pattern ≡ m.tally.memories.pattern → n.ripening.floor ≡ m.ripening.floor
+pub dropped_none_due : (p : Program) (m n : NotNode) (look : Look) (dropped : List Row) (floor : ℤ) → IsInStep p look m → IsInStep p look n → blocking_pattern n ≡ blocking_pattern m → n.ripening.floor ≡ m.ripening.floor
     → ((row : Row) → left_at n.tally.memories look row ≡ cond (has dropped row) None (left_at m.tally.memories look row)) → NoneDue m.ripening.waiting.keys floor → NoneDue n.ripening.waiting.keys floor
 dropped_none_due p m n look dropped floor awaits awaits_now same_pattern same_floor left quiet at row e =
     let there = unblocked m.tally.memories look row in
     let there_now = unblocked n.tally.memories look row in
-    let own = is_that_moment (moment_at p m.tally.memories.pattern look row) at in
+    let own = is_that_moment (moment_at p (blocking_pattern m) look row) at in
     let was : waits n.ripening.waiting.keys at row ≡ ((there_now && own) && not (int_lt at m.ripening.floor)) =
     awaits_now at row ∙ ap (λ (q : Pattern). (there_now && is_that_moment (moment_at p q look row) at) && not (int_lt at n.ripening.floor)) same_pattern
     ∙ ap (λ now. (there_now && own) && not (int_lt at now)) same_floor in

@@ -23,6 +23,7 @@ use Rattle.not_node.specs.declared.node.NotNode.{NotNode}
 use Rattle.not_node.specs.Moments.{moment_at}
 use Rattle.not_node.specs.Rows.{IsInStep, not_rows}
 use Rattle.not_node.specs.Waiting.{waits, mature}
+use Rattle.not_node.specs.Doors.{blocking_pattern}
 
 -- A row that waits for its moment is mature where its tuple is.
 abbrev pub MaturityLaw : Type 0
@@ -38,27 +39,27 @@ not_line p pattern look floor pass rows names row = (rows row && not (list_any (
 abbrev pub NotLaw : Type 0
 NotLaw = (p : Program) (node : NotNode) (look world : Look) (pass : Row → Named → Bool) (rows : Row → Bool) (names : List Named) (forgotten : Named → Bool)
     → StandsCounted counts_blockers node.tally.memories look world pass rows (has_name names) forgotten
-    → (row : Row) → not_rows p look node row ≡ not_line p node.tally.memories.pattern look node.ripening.floor pass (cleaned rows forgotten) names row
+    → (row : Row) → not_rows p look node row ≡ not_line p (blocking_pattern node) look node.ripening.floor pass (cleaned rows forgotten) names row
 
 -- For the true differences of its two inputs a node that stands for left rows and candidates answers the true difference of its line,
 -- and stands for the new ones.
 abbrev pub NotStepLaw : Type 0
 NotStepLaw = (p : Program) (m n : NotNode) (look world : Look) (pass : Row → Named → Bool) (rows rows_now : Row → Bool) (names names_now : List Named) (forgotten : Named → Bool) (left right delta : Delta)
     → StandsCounted counts_blockers m.tally.memories look world pass rows (has_name names) forgotten
-    → PassesAlike m.tally.memories.pattern look pass rows (has_name names) forgotten → PassesAlike m.tally.memories.pattern look pass rows_now (has_name names_now) forgotten
+    → PassesAlike (blocking_pattern m) look pass rows (has_name names) forgotten → PassesAlike (blocking_pattern m) look pass rows_now (has_name names_now) forgotten
     → LeadsRows (cleaned rows forgotten) (cleaned rows_now forgotten) left.gone left.come → IsNameDifference (remembered (has_name names) forgotten) (remembered (has_name names_now) forgotten) right
     → SeeAlike (either (remembered (has_name names) forgotten) (remembered (has_name names_now) forgotten)) look world → ForgottenStay pass rows rows_now (has_name names) (has_name names_now) forgotten left
     → IsStepped m.tally.memories n.tally.memories look left right → TallyStep counts_blockers look m.tally.memories n.tally.memories left right
     → IsDifference (not_rows p look m) (not_rows p look n) delta
     → StandsCounted counts_blockers n.tally.memories look world pass rows_now (has_name names_now) forgotten
-    × IsDifference (not_line p m.tally.memories.pattern look m.ripening.floor pass (cleaned rows forgotten) names) (not_line p m.tally.memories.pattern look n.ripening.floor pass (cleaned rows_now forgotten) names_now) delta
+    × IsDifference (not_line p (blocking_pattern m) look m.ripening.floor pass (cleaned rows forgotten) names) (not_line p (blocking_pattern m) look n.ripening.floor pass (cleaned rows_now forgotten) names_now) delta
 
 -- Of the rows that a node has, those go with the left rows that are dropped that name an old fact.
 abbrev pub NotDropLaw : Type 0
 NotDropLaw = (p : Program) (m n : NotNode) (look : Look) (rows : Row → Bool) (names forgotten old : Named → Bool) (dropped gone : List Row)
     → StandsFor m.tally.memories look rows names forgotten
     → ((row : Row) → cleaned rows forgotten row ≡ true → has dropped row ≡ not (clean old row))
-    → n.tally.memories.pattern ≡ m.tally.memories.pattern → n.ripening.floor ≡ m.ripening.floor
+    → blocking_pattern n ≡ blocking_pattern m → n.ripening.floor ≡ m.ripening.floor
     → ((row : Row) → left_at n.tally.memories look row ≡ cond (has dropped row) None (left_at m.tally.memories look row))
     → ((row : Row) → has gone row ≡ (not_rows p look m row && not (not_rows p look n row)))
     → (row : Row) → not_rows p look m row ≡ true → has gone row ≡ not (clean old row)

@@ -1,3 +1,4 @@
+pub mod Doors
 pub mod Moments
 pub mod Waiting
 pub mod Rows

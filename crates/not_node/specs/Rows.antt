@@ -11,6 +11,7 @@ use Rattle.tally_node.specs.Tallies.{shown}
 use Rattle.not_node.specs.declared.node.NotNode.{NotNode}
 use Rattle.not_node.specs.Moments.{moment_at}
 use Rattle.not_node.specs.Waiting.{AwaitsMoments, ripe}
+use Rattle.not_node.specs.Doors.{blocking_pattern}
 
 -- the left rows for which no candidate is counted
 abbrev pub unblocked : Memories Blockers → Look → Row → Bool
@@ -18,8 +19,8 @@ unblocked m look = shown itself shows_any where_unblocked m look
 
 -- the rows that wait are those for which no candidate is counted and that are not mature, each for its moment by this store
 abbrev pub IsInStep : Program → Look → NotNode → Type 0
-IsInStep p look node = AwaitsMoments (moment_at p node.tally.memories.pattern look) node.ripening.floor (unblocked node.tally.memories look) node.ripening.waiting.keys
+IsInStep p look node = AwaitsMoments (moment_at p (blocking_pattern node) look) node.ripening.floor (unblocked node.tally.memories look) node.ripening.waiting.keys
 
 -- the rows of the node: those for which no candidate is counted and that are mature
 abbrev pub not_rows : Program → Look → NotNode → Row → Bool
-not_rows p look node = ripe (moment_at p node.tally.memories.pattern look) node.ripening.floor (unblocked node.tally.memories look)
+not_rows p look node = ripe (moment_at p (blocking_pattern node) look) node.ripening.floor (unblocked node.tally.memories look)

@@ -14,6 +14,7 @@ ghost use Rattle.tally_node.specs.Extras.{AllLaden, AreExtrasOf, blockers_laden,
 ghost use Rattle.tally_node.specs.Tallies.{TallyStep};
 ghost use Rattle.not_node.specs.Rows.{IsInStep, not_rows};
 ghost use Rattle.not_node.specs.Waiting.{waits, IsMomentFrom, NoneDue, later};
+ghost use Rattle.not_node.specs.Doors.{blocking_pattern};
 
 use crate::ripening::Ripening;
 use fx_base::{Facts, NoMemory, RuleId, Seq};
@@ -34,7 +35,7 @@ impl NotNode {
     /// A node that keeps nothing, and so has no rows. Before the floor, a moment in milliseconds, no event of the pattern can
     /// start any more. Takes no memory.
     pub fn new(alloc: Global, pattern: Pattern, floor: i128) -> NotNode
-        ensures pattern { result.tally.memories.pattern ≡ pattern }
+        ensures pattern { blocking_pattern result ≡ pattern }
         ensures floor { result.ripening.floor ≡ floor }
         ensures nothing { (look : Look) (forgotten : Named → Bool) → StandsFor result.tally.memories look no_rows no_names forgotten }
         ensures in_step { (program : Program) (look : Look) → IsInStep program look result }
@@ -47,7 +48,7 @@ impl NotNode {
 
     /// The pattern of the candidates. Takes no memory.
     pub fn pattern(&self) -> &Pattern
-        ensures { result.now ≡ self.now.tally.memories.pattern }
+        ensures { result.now ≡ blocking_pattern self.now }
     {
         self.tally.pattern()
     }

@@ -10,7 +10,9 @@ pub use Rattle.std.proofs.lemmas.Result.{IfOk-weaker}
 pub use Rattle.std.specs.BTreeMap.{is_at}
 pub use Rattle.std.specs.List.{list_any, filter}
 pub use Rattle.std.specs.Map.{keys_of}
+pub use Rattle.std.specs.Bool.{then_some}
 pub use Rattle.std.specs.Option.{option_map, is_some, option_and_then}
+pub use Rattle.std.specs.Prelude.{IfSome}
 pub use Rattle.std.specs.Ordering.{eq_by_cmp}
 pub use Rattle.std.specs.declared.cmp.Ordering.{Ordering}
 pub use Rattle.alpha_memory.specs.Bucket.{found, entries}
@@ -21,8 +23,8 @@ pub use Rattle.fx_base.specs.SameValues.{equal_values, same_itself}
 pub use Rattle.fx_base.specs.Values.{same_value}
 pub use Rattle.fx_base.specs.declared.value.Value.{Value}
 pub use Rattle.join_tests.specs.Joins.{Look, joins, is_named_version, passes_given, tuple_at, version_at, versions_at}
-pub use Rattle.join_tests.specs.Kept.{all_sought, row_value, candidate_value, candidates_sought, is_value_among, kept_under, rows_sought}
-pub use Rattle.pair_memory.specs.Apart.{beside, has_candidate, is_so, NamesCome, NamesLeave, RowsCome, RowsLeave, has_row, LooksWhereKept}
+pub use Rattle.join_tests.specs.Kept.{SeesRows, all_sought, row_value, candidate_value, candidates_sought, is_value_among, kept_under, rows_sought}
+pub use Rattle.pair_memory.specs.Apart.{beside, has_candidate, NamesCome, NamesLeave, RowsCome, RowsLeave, has_row, LooksWhereKept}
 pub use Rattle.pair_memory.specs.Inputs.{row_naming}
 pub use Rattle.pair_memory.specs.Joined.{has_name, joined, unjoined, with_name, split_last, splits, behind_first, front_of}
 pub use Rattle.pair_memory.specs.Memories.{has_left, has_right, KeepsMemories, made, row_kept, Agrees, left_at, name_kept}

@@ -1,8 +1,10 @@
 -- What is kept after a change at one row, or at one candidate.
-use Rattle.pair_memory.proofs.Common.{◌≡◌, ◌∙◌, sym, ap, refl, subst, Bool, true, false, cond, not, ◌&&◌, ◌||◌, Option, Some, None, is_some, eq_by_cmp, Value}
+use Rattle.pair_memory.proofs.Common.{◌≡◌, ◌∙◌, sym, ap, refl, subst, Bool, true, false, cond, not, ◌&&◌, ◌||◌, Option, Some, None, is_some, then_some}
+use Rattle.pair_memory.proofs.Common.{IfSome, SeesRows, eq_by_cmp, Value}
 use Rattle.pair_memory.proofs.Common.{same_value, Named, Row, row_cmp, name_cmp, Pattern, JoinIndex, at, Look, joins, row_value, candidate_value, Memories}
 use Rattle.pair_memory.proofs.Common.{joined, has_left, has_right, made, KeepsMemories, same_itself, left_at}
 use Rattle.std.proofs.lemmas.Bool.{and_parts}
+use Rattle.join_tests.specs.declared.sought.Sight.{Sight}
 use Rattle.pair_memory.proofs.Joining.{row_decides, name_decides, joined_alike}
 
 absorbed : (a b : Bool) → (b ≡ true → a ≡ true) → (a && b) ≡ b
@@ -48,6 +50,27 @@ some_put false w (Some s) = refl
 pub some_exchanged : {S : Type 0} (b : Bool) (w : S) (old : Option S) → (b ≡ true → is_some old ≡ true) → is_some (cond b (Some w) old) ≡ is_some old
 some_exchanged true w old h = sym (h refl)
 some_exchanged false w old h = refl
+
+-- something, if a test holds
+pub some_if : {A : Type 0} (b : Bool) (a : A) (o : Option A) → o ≡ then_some b a → is_some o ≡ b
+some_if true a o e = ap is_some e
+some_if false a o e = ap is_some e
+
+pub if_some : {A : Type 0} (P : A → Type 0) (b : Bool) (a : A) (o : Option A) → o ≡ then_some b a → P a → IfSome o P
+if_some P true a o e h = subst (λ o. IfSome o P) (sym e) h
+if_some P false a o e h = subst (λ o. IfSome o P) (sym e) tt
+
+pub none_if : (none some : Bool) → some ≡ not none → none ≡ not some
+none_if true some e = sym (ap not e)
+none_if false some e = sym (ap not e)
+
+pub if_not : (a b : Bool) → not a ≡ b → a ≡ not b
+if_not true b e = ap not e
+if_not false b e = ap not e
+
+-- what a sight that is answered sees, by an equal pattern
+pub seen_after : (p q : Pattern) (look : Look) (who : Named) (o : Option Sight) (sight : Sight) → IfSome o (SeesRows p look who) → o ≡ Some sight → q ≡ p → SeesRows q look who sight
+seen_after p q look who o sight sees is same = subst (λ p. SeesRows p look who sight) (sym same) (subst (λ o. IfSome o (SeesRows p look who)) is sees)
 
 -- what is kept after it is taken was kept before
 pub before_taken : {S : Type 0} (b : Bool) (old : Option S) → is_some (cond b None old) ≡ true → is_some old ≡ true

@@ -9,9 +9,10 @@ use Rattle.join_tests.proofs.Siding.{kept_by}
 use Rattle.pair_memory.specs.declared.candidates.Candidates.{Candidates}
 use Rattle.pair_memory.specs.declared.left_rows.LeftRows.{LeftRows}
 use Rattle.pair_memory.specs.Joined.{joined}
-use Rattle.pair_memory.proofs.Joining.{name_decides, splits_alike, splits_or}
+use Rattle.pair_memory.proofs.Joining.{name_decides, splits_alike, splits_or, joined_alike, none_right}
 use Rattle.pair_memory.proofs.Turning.{keeps_then, less_more, more_more, any_name}
 use Rattle.fx_base.proofs.Tests.{and_or_and}
+use Rattle.std.proofs.Math.Bool.{and-false, and-true}
 
 -- ---- where a row is kept
 
@@ -20,7 +21,7 @@ value_beside left c look row is = ap (λ (key : RowKey). value_by key look row) 
 
 -- ---- nothing goes and nothing comes
 
-less_none : (a : Bool) → a ≡ (a && true)
+pub less_none : (a : Bool) → a ≡ (a && true)
 less_none true = refl
 less_none false = refl
 
@@ -104,15 +105,19 @@ under_more look p q same names i below who is value n first next last so_far tur
     ∙ ap (λ b. first || ((has_name (take i names) n || b) && s)) (name_equiv.symm who n ∙ ap (eq_by_cmp name_cmp n) is)
     ∙ ap (λ b. first || (b && s)) (sym (list_any_more (eq_by_cmp name_cmp n) names i any_name below))
 
--- ---- those of a list that are kept, or are not
+-- ---- those of a list that were kept, or were not, where one after another of them goes, or comes
 
-taken_on : (t s e b : Bool) → (e ≡ true → s ≡ b) → ((t && s) || (e && b)) ≡ ((t || e) && s)
-taken_on true true true b h = refl
-taken_on true true false b h = refl
-taken_on true false true b h = sym (h refl)
-taken_on true false false b h = refl
-taken_on false s true b h = sym (h refl)
-taken_on false s false b h = refl
+went_on : (t o e w : Bool) → (e ≡ true → w ≡ (o && not t)) → ((t && o) || (e && w)) ≡ ((t || e) && o)
+went_on true true e w h = refl
+went_on true false true w h = h refl
+went_on true false false w h = refl
+went_on false true true w h = h refl
+went_on false false true w h = h refl
+went_on false o false w h = refl
+
+not_or : (o t : Bool) → not (o || t) ≡ (not o && not t)
+not_or true t = refl
+not_or false t = refl
 
 or_false : (a : Bool) → (a || false) ≡ (a && true)
 or_false true = refl
@@ -127,14 +132,19 @@ module _ {K : Type 0} (eq : K → K → Bool) (symm : (a b : K) → eq a b ≡ e
   one_taken x k true = or_false (eq k x)
   one_taken x k false = and_false (eq k x)
 
-  pub those_more : (found now xs : List K) (i : ℕ) → i < length xs → (any x : K) → x ≡ get_or xs i any → (b : Bool) → b ≡ test x → now ≡ found ++ cond b (x ∷ []) []
+  pub went_more : (next : K → Bool) (found now xs : List K) (i : ℕ) → i < length xs → (any x : K) → x ≡ get_or xs i any → (b : Bool) → b ≡ next x → now ≡ found ++ cond b (x ∷ []) []
+      → ((k : K) → next k ≡ (test k && not (list_any (eq k) (take i xs))))
       → ((k : K) → list_any (eq k) found ≡ (list_any (eq k) (take i xs) && test k)) → (k : K) → list_any (eq k) now ≡ (list_any (eq k) (take (i + 1) xs) && test k)
-  those_more found now xs i below any x is b passes added so_far k =
+  went_more next found now xs i below any x is b passes added turned so_far k =
       ap (list_any (eq k)) added ∙ list_any-append (eq k) found (cond b (x ∷ []) [])
       ∙ ap (λ a. a || list_any (eq k) (cond b (x ∷ []) [])) (so_far k) ∙ ap (λ a. (list_any (eq k) (take i xs) && test k) || a) (one_taken x k b)
-      ∙ taken_on (list_any (eq k) (take i xs)) (test k) (eq k x) b (λ e. ap test (exact k x e) ∙ sym passes)
+      ∙ went_on (list_any (eq k) (take i xs)) (test k) (eq k x) b (λ e. passes ∙ ap next (sym (exact k x e)) ∙ turned k)
       ∙ ap (λ a. (list_any (eq k) (take i xs) || a) && test k) (ap (eq k) is)
       ∙ ap (λ a. a && test k) (sym (list_any_more (eq k) xs i any below))
+
+-- what is not there after these came was not there before, and is none of them
+pub none_came : {K : Type 0} (eq : K → K → Bool) (first next : K → Bool) (xs : List K) → ((k : K) → next k ≡ (first k || list_any (eq k) xs)) → (k : K) → not (next k) ≡ (not (first k) && not (list_any (eq k) xs))
+none_came eq first next xs turned k = ap not (turned k) ∙ not_or (first k) (list_any (eq k) xs)
 
 -- ---- what several rows, or several candidates, make
 
@@ -155,12 +165,29 @@ module _ (pass : Row → Named → Bool) (found more now : List Row) (added : no
       ∙ splits_alike _ _ (λ l c. sym (or_and (has (take i rows) l) (eq_by_cmp row_cmp row l) (right c && pass l c))
       ∙ ap (λ b. b && (right c && pass l c)) (ap (λ b. has (take i rows) l || b) (same_equiv.symm row l ∙ ap (eq_by_cmp row_cmp l) is) ∙ sym (list_any_more (eq_by_cmp row_cmp l) rows i any below))) (unjoined r)
 
-  pub names_made_too : (names : List Named) (i : ℕ) → i < length names → (who : Named) → who ≡ get_or names i any_name → (left : Row → Bool)
-      → has found r ≡ joined pass left (has_name (take i names)) r → has more r ≡ joined pass left (eq_by_cmp name_cmp who) r → has now r ≡ joined pass left (has_name (take (i + 1) names)) r
+  names_made_also : (left : Row → Bool) (some others all : Named → Bool) → ((c : Named) → (some c || others c) ≡ all c)
+      → has found r ≡ joined pass left some r → has more r ≡ joined pass left others r → has now r ≡ joined pass left all r
   unfolding joined
-  names_made_too names i below who is left so_far turn =
+  names_made_also left some others all are so_far turn =
       ap (λ (all : List Row). has all r) added ∙ list_any-append (eq_by_cmp row_cmp r) found more
-      ∙ ap (λ b. b || has more r) so_far ∙ ap (λ b. joined pass left (has_name (take i names)) r || b) turn
-      ∙ sym (splits_or (λ l c. left l && (has_name (take i names) c && pass l c)) (λ l c. left l && (eq_by_cmp name_cmp who c && pass l c)) (unjoined r))
-      ∙ splits_alike _ _ (λ l c. sym (and_or_and (left l) (has_name (take i names) c) (eq_by_cmp name_cmp who c) (pass l c))
-      ∙ ap (λ b. left l && (b && pass l c)) (ap (λ b. has_name (take i names) c || b) (name_equiv.symm who c ∙ ap (eq_by_cmp name_cmp c) is) ∙ sym (list_any_more (eq_by_cmp name_cmp c) names i any_name below))) (unjoined r)
+      ∙ ap (λ b. b || has more r) so_far ∙ ap (λ b. joined pass left some r || b) turn
+      ∙ sym (splits_or (λ l c. left l && (some c && pass l c)) (λ l c. left l && (others c && pass l c)) (unjoined r))
+      ∙ splits_alike _ _ (λ l c. sym (and_or_and (left l) (some c) (others c) (pass l c)) ∙ ap (λ b. left l && (b && pass l c)) (are c)) (unjoined r)
+
+  -- those of the candidates so far that passed a test, and the next one, if it passes it and is none of them
+  pub names_made_too : (left : Row → Bool) (names : List Named) (i : ℕ) → i < length names → (who : Named) → who ≡ get_or names i any_name → (test next : Named → Bool)
+      → ((c : Named) → next c ≡ (test c && not (has_name (take i names) c))) → (passes : Bool) → passes ≡ next who
+      → has found r ≡ joined pass left (λ c. has_name (take i names) c && test c) r → has more r ≡ joined pass left (λ c. eq_by_cmp name_cmp who c && passes) r
+      → has now r ≡ joined pass left (λ c. has_name (take (i + 1) names) c && test c) r
+  names_made_too left names i below who is test next turned passes are =
+      names_made_also left (λ c. has_name (take i names) c && test c) (λ c. eq_by_cmp name_cmp who c && passes) (λ c. has_name (take (i + 1) names) c && test c)
+      (λ c. went_on (has_name (take i names) c) (test c) (eq_by_cmp name_cmp who c) passes (λ e. are ∙ ap next ((name_decides who c).0 e) ∙ turned c)
+      ∙ ap (λ b. (has_name (take i names) c || b) && test c) (name_equiv.symm who c ∙ ap (eq_by_cmp name_cmp c) is)
+      ∙ ap (λ b. b && test c) (sym (list_any_more (eq_by_cmp name_cmp c) names i any_name below)))
+
+-- one candidate, or none
+pub one_made : (pass : Row → Named → Bool) (left : Row → Bool) (who : Named) (r : Row) → joined pass left (eq_by_cmp name_cmp who) r ≡ joined pass left (λ c. eq_by_cmp name_cmp who c && true) r
+one_made pass left who r = joined_alike pass left left (eq_by_cmp name_cmp who) (λ c. eq_by_cmp name_cmp who c && true) (λ l. refl) (λ c. sym (and-true (eq_by_cmp name_cmp who c))) r
+
+pub none_made : (pass : Row → Named → Bool) (left : Row → Bool) (who : Named) (r : Row) → false ≡ joined pass left (λ c. eq_by_cmp name_cmp who c && false) r
+none_made pass left who r = sym (none_right pass left (λ c. eq_by_cmp name_cmp who c && false) (λ c. and-false (eq_by_cmp name_cmp who c)) r)

@@ -1,5 +1,5 @@
 -- The left rows of several nodes, kept once, and the candidates of one of them.
-use Rattle.std.specs.Prelude.{◌≡◌, ◌&&◌, ◌||◌, not, Bool, true, false, List}
+use Rattle.std.specs.Prelude.{◌≡◌, ◌&&◌, ◌||◌, not, Bool, List}
 use Rattle.std.specs.Option.{is_some}
 use Rattle.fx_base.specs.Values.{same_value}
 use Rattle.row_delta.specs.declared.row.Named.{Named}
@@ -29,11 +29,6 @@ beside left c = record { pattern = c.pattern; left = left.rows; right = c.names 
 -- the pattern of the candidates looks for rows where they are kept
 abbrev pub LooksWhereKept : LeftRows → Candidates → Type 0
 LooksWhereKept left c = row_key c.pattern ≡ left.key
-
--- whether something is there, or whether it is not
-abbrev pub is_so : Bool → Bool → Bool
-is_so true b = b
-is_so false b = not b
 
 -- the left rows after these went: to each node that has them
 abbrev pub RowsLeave : LeftRows → LeftRows → Look → List Row → Type 0

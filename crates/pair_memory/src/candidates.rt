@@ -1,4 +1,4 @@
-ghost use Rattle.std.specs.Prelude.{◌≡◌, ◌&&◌, ◌||◌, not, None, true, false, is_some, IfOk, OnOk};
+ghost use Rattle.std.specs.Prelude.{◌≡◌, ◌&&◌, ◌||◌, not, None, true, false, is_some, IfOk, IfSome, OnOk};
 ghost use Rattle.std.specs.Ordering.{eq_by_cmp};
 ghost use Rattle.fx_base.specs.declared.value.Value.{Value};
 ghost use Rattle.fx_base.specs.Values.{same_value};
@@ -9,18 +9,17 @@ ghost use Rattle.row_delta.specs.Rows.{has};
 ghost use Rattle.alpha_memory.specs.JoinIndex.{at};
 ghost use Rattle.join_tests.specs.JoinValues.{shown};
 ghost use Rattle.join_tests.specs.Joins.{joins};
-ghost use Rattle.join_tests.specs.Kept.{candidate_value};
+ghost use Rattle.join_tests.specs.Kept.{candidate_value, SeesRows};
 ghost use Rattle.pair_memory.specs.declared.left_rows.LeftRows.{LeftRows};
 ghost use Rattle.pair_memory.specs.Joined.{joined, has_name};
 ghost use Rattle.pair_memory.specs.Memories.{has_left, has_right, KeepsMemories};
-ghost use Rattle.pair_memory.specs.Apart.{has_candidate, beside, is_so, NamesLeave, NamesCome};
+ghost use Rattle.pair_memory.specs.Apart.{has_candidate, beside, NamesLeave, NamesCome};
 
-use crate::left_rows::{LeftRows, is_so};
+use crate::left_rows::LeftRows;
 use crate::making::{made_with_name, made_with_row};
-use crate::partners::add_passing;
 use alpha_memory::JoinIndex;
-use fx_base::{Facts, NoMemory, Value};
-use join_tests::{JoinValue, KeyedPattern};
+use fx_base::{Copies, Facts, NoMemory, Value};
+use join_tests::{JoinValue, KeyedPattern, Sight};
 use row_delta::{Named, Row};
 use rule_model::Pattern;
 use std::alloc::Global;
@@ -67,49 +66,51 @@ impl Candidates {
         self.names.bucket(value).is_some()
     }
 
-    /// Takes candidates out; those that are not there are left out. Takes no memory.
-    pub fn leave<F: Facts>(&mut self, names: &[Named], facts: &F)
-        ensures pattern { self.new.pattern ≡ self.old.pattern }
-        ensures keeps { NamesLeave self.old self.new (F.map facts.now) names.now }
-        ensures under { (value : Value) (who : Named) → is_some (at same_value name_cmp self.new.names value who) ≡ true → is_some (at same_value name_cmp self.old.names value who) ≡ true }
+    /// Takes candidates out, and answers the rows that those which were there make with left rows. It costs for each of these a test of
+    /// each left row with a join value that is sought for it.
+    pub fn leave<F: Facts>(
+        &mut self,
+        alloc: Global,
+        left: &LeftRows,
+        names: &[Named],
+        facts: &F,
+    ) -> Result<Vec<Row>, NoMemory>
+        ensures pattern { OnOk result (self.new.pattern ≡ self.old.pattern) }
+        ensures keeps { OnOk result (NamesLeave self.old self.new (F.map facts.now) names.now) }
+        ensures under { OnOk result ((value : Value) (who : Named) → is_some (at same_value name_cmp self.new.names value who) ≡ true → is_some (at same_value name_cmp self.old.names value who) ≡ true) }
+        ensures rows { IfOk result (λ found. (r : Row) → has found.items r
+            ≡ joined (joins self.old.pattern (F.map facts.now)) (has_left (beside left.now self.old) (F.map facts.now)) (λ c. has_name names.now c && has_candidate self.old (F.map facts.now) c) r) }
     {
+        let mut found = Vec::new(alloc);
         for who in names {
-            self.take(*who, facts);
+            let sight = self.take(*who, facts);
+            let mut more = self.with_sight(alloc, left, sight, *who, facts)?;
+            found.append(&mut more)?;
         }
+        Ok(found)
     }
 
-    /// Puts candidates in; those that are there stay.
+    /// Puts candidates in, and answers the rows that those which were not there make with left rows. It costs for each of these a test of
+    /// each left row with a join value that is sought for it.
     pub fn come<F: Facts>(
         &mut self,
         alloc: Global,
+        left: &LeftRows,
         names: &[Named],
         facts: &F,
-    ) -> Result<(), NoMemory>
+    ) -> Result<Vec<Row>, NoMemory>
         ensures pattern { OnOk result (self.new.pattern ≡ self.old.pattern) }
         ensures keeps { OnOk result (NamesCome self.old self.new (F.map facts.now) names.now) }
         ensures under { OnOk result ((value : Value) (who : Named) → is_some (at same_value name_cmp self.new.names value who)
             ≡ (is_some (at same_value name_cmp self.old.names value who) || (has_name names.now who && same_value (candidate_value self.old.pattern (F.map facts.now) who) value))) }
-    {
-        for who in names {
-            self.put(alloc, *who, facts)?;
-        }
-        Ok(())
-    }
-
-    /// Those of the candidates that are kept, or those that are not.
-    pub fn those<F: Facts>(
-        &self,
-        alloc: Global,
-        names: &[Named],
-        there: bool,
-        facts: &F,
-    ) -> Result<Vec<Named>, NoMemory>
-        ensures { IfOk result (λ found. (who : Named) → has_name found.items who ≡ (has_name names.now who && is_so there (has_candidate self.now (F.map facts.now) who))) }
+        ensures rows { IfOk result (λ found. (r : Row) → has found.items r
+            ≡ joined (joins self.old.pattern (F.map facts.now)) (has_left (beside left.now self.old) (F.map facts.now)) (λ c. has_name names.now c && not (has_candidate self.old (F.map facts.now) c)) r) }
     {
         let mut found = Vec::new(alloc);
         for who in names {
-            let is = is_so(there, self.has(*who, facts));
-            add_passing(&mut found, *who, is)?;
+            let sight = self.put(alloc, *who, facts)?;
+            let mut more = self.with_sight(alloc, left, sight, *who, facts)?;
+            found.append(&mut more)?;
         }
         Ok(found)
     }
@@ -133,52 +134,56 @@ impl Candidates {
         Ok(found)
     }
 
-    /// The rows that candidates of the pattern make with left rows. It costs for each candidate a test of each left row with a join
-    /// value that is sought for it.
-    pub fn with_names<F: Facts>(
-        &self,
-        alloc: Global,
-        left: &LeftRows,
-        names: &[Named],
-        facts: &F,
-    ) -> Result<Vec<Row>, NoMemory>
-        ensures { IfOk result (λ found. (r : Row) → has found.items r
-            ≡ joined (joins self.now.pattern (F.map facts.now)) (has_left (beside left.now self.now) (F.map facts.now)) (has_name names.now) r) }
-    {
-        let mut found = Vec::new(alloc);
-        for who in names {
-            let mut more = made_with_name(alloc, &self.pattern, left.rows(), *who, facts)?;
-            found.append(&mut more)?;
-        }
-        Ok(found)
-    }
-
-    fn has<F: Facts>(&self, who: Named, facts: &F) -> bool
-        ensures { result ≡ has_candidate self.now (F.map facts.now) who }
-    {
-        let value = self.pattern.candidate_value(who, facts);
-        self.names.get(value.value(), &who).is_some()
-    }
-
-    fn take<F: Facts>(&mut self, who: Named, facts: &F)
+    // Takes a candidate out, and answers its sight if it was there. Takes no memory.
+    fn take<'a, F: Facts>(&mut self, who: Named, facts: &'a F) -> Option<Sight<'a>>
         ensures pattern { self.new.pattern ≡ self.old.pattern }
         ensures keeps { (left : LeftRows) → KeepsMemories (beside left self.old) (beside left self.new) (F.map facts.now)
             (has_left (beside left self.old) (F.map facts.now)) (λ c. has_right (beside left self.old) (F.map facts.now) c && not (eq_by_cmp name_cmp who c)) }
         ensures under { (value : Value) (c : Named) → is_some (at same_value name_cmp self.new.names value c) ≡ true → is_some (at same_value name_cmp self.old.names value c) ≡ true }
+        ensures taken { is_some result ≡ has_candidate self.old (F.map facts.now) who }
+        ensures sight { IfSome result (SeesRows self.old.pattern (F.map facts.now) who) }
     {
-        let value = self.pattern.candidate_value(who, facts);
-        self.names.take(value.value(), &who);
+        let sight = self.pattern.sight(who, facts);
+        let was = self.names.take(sight.own(), &who).is_some();
+        was.then_some(sight)
     }
 
-    fn put<F: Facts>(&mut self, alloc: Global, who: Named, facts: &F) -> Result<(), NoMemory>
+    // Puts a candidate in, and answers its sight unless it was there.
+    fn put<'a, F: Facts>(
+        &mut self,
+        alloc: Global,
+        who: Named,
+        facts: &'a F,
+    ) -> Result<Option<Sight<'a>>, NoMemory>
         ensures pattern { OnOk result (self.new.pattern ≡ self.old.pattern) }
         ensures keeps { OnOk result ((left : LeftRows) → KeepsMemories (beside left self.old) (beside left self.new) (F.map facts.now)
             (has_left (beside left self.old) (F.map facts.now)) (λ c. has_right (beside left self.old) (F.map facts.now) c || eq_by_cmp name_cmp who c)) }
         ensures under { OnOk result ((value : Value) (c : Named) → is_some (at same_value name_cmp self.new.names value c)
             ≡ (is_some (at same_value name_cmp self.old.names value c) || (same_value (candidate_value self.old.pattern (F.map facts.now) who) value && eq_by_cmp name_cmp who c))) }
+        ensures came { IfOk result (λ sight. is_some sight ≡ not (has_candidate self.old (F.map facts.now) who)) }
+        ensures sight { IfOk result (λ sight. IfSome sight (SeesRows self.old.pattern (F.map facts.now) who)) }
     {
-        let value = self.pattern.candidate_value(who, facts).into_value(alloc)?;
-        self.names.put(value, who, ())?;
-        Ok(())
+        let sight = self.pattern.sight(who, facts);
+        let value = sight.own().copy(alloc)?;
+        let came = self.names.put(value, who, ())?.is_none();
+        Ok(came.then_some(sight))
+    }
+
+    // The rows that a candidate makes with left rows, if there is a sight, which is its own.
+    fn with_sight<F: Facts>(
+        &self,
+        alloc: Global,
+        left: &LeftRows,
+        sight: Option<Sight<'_>>,
+        who: Named,
+        facts: &F,
+    ) -> Result<Vec<Row>, NoMemory>
+        ensures { IfSome sight.entry (SeesRows self.now.pattern (F.map facts.now) who) → IfOk result (λ found. (r : Row) → has found.items r
+            ≡ joined (joins self.now.pattern (F.map facts.now)) (has_left (beside left.now self.now) (F.map facts.now)) (λ c. eq_by_cmp name_cmp who c && is_some sight.entry) r) }
+    {
+        match sight {
+            Some(sight) => { made_with_name(alloc, &self.pattern, left.rows(), &sight, who, facts) }
+            None => Ok(Vec::new(alloc)),
+        }
     }
 }

@@ -1,4 +1,4 @@
-ghost use Rattle.std.specs.Prelude.{◌≡◌, ◌&&◌, ◌||◌, not, None, false, is_some, IfOk, OnOk};
+ghost use Rattle.std.specs.Prelude.{◌≡◌, ◌&&◌, ◌||◌, not, None, IfOk, OnOk};
 ghost use Rattle.std.specs.Ordering.{eq_by_cmp};
 ghost use Rattle.fx_base.specs.declared.value.Value.{Value};
 ghost use Rattle.fx_base.specs.Values.{same_value};
@@ -8,7 +8,7 @@ ghost use Rattle.alpha_memory.specs.JoinIndex.{at};
 ghost use Rattle.join_tests.specs.Joins.{Look};
 ghost use Rattle.pair_memory.specs.declared.candidates.Candidates.{Candidates};
 ghost use Rattle.pair_memory.specs.Memories.{has_left, has_right, KeepsMemories};
-ghost use Rattle.pair_memory.specs.Apart.{has_row, beside, is_so, LooksWhereKept, RowsLeave, RowsCome};
+ghost use Rattle.pair_memory.specs.Apart.{has_row, beside, LooksWhereKept, RowsLeave, RowsCome};
 
 use crate::partners::add_passed;
 use alpha_memory::JoinIndex;
@@ -16,13 +16,6 @@ use fx_base::{Copies, Facts, NoMemory, Value};
 use join_tests::RowKey;
 use row_delta::Row;
 use std::alloc::Global;
-
-/// Whether something is there, or whether it is not.
-pub(crate) fn is_so(there: bool, has: bool) -> bool
-    ensures { result ≡ is_so there has }
-{
-    if there { has } else { !has }
-}
 
 /// The left rows of nodes that look for them under the same values, kept once for all of them. A row is looked up under the join value
 /// that it has by the facts of the call. A call costs for each row a hash and the logarithm of what has the same join value. After a
@@ -59,69 +52,67 @@ impl LeftRows {
         &self.rows
     }
 
-    /// Takes rows out; those that are not there are left out. Takes no memory.
-    pub fn leave<F: Facts>(&mut self, rows: &[Row], facts: &F)
-        ensures key { self.new.key ≡ self.old.key }
-        ensures keeps { RowsLeave self.old self.new (F.map facts.now) rows.now }
-    {
-        for row in rows {
-            self.take(row, facts);
-        }
-    }
-
-    /// Puts copies of rows in; those that are there stay.
-    pub fn come<F: Facts>(&mut self, alloc: Global, rows: &[Row], facts: &F) -> Result<(), NoMemory>
-        ensures key { OnOk result (self.new.key ≡ self.old.key) }
-        ensures keeps { OnOk result (RowsCome self.old self.new (F.map facts.now) rows.now) }
-    {
-        for row in rows {
-            self.put(alloc, row, facts)?;
-        }
-        Ok(())
-    }
-
-    /// Copies of those of the rows that are kept, or of those that are not.
-    pub fn those<F: Facts>(
-        &self,
+    /// Takes rows out, and answers copies of those that were there.
+    pub fn leave<F: Facts>(
+        &mut self,
         alloc: Global,
         rows: &[Row],
-        there: bool,
         facts: &F,
     ) -> Result<Vec<Row>, NoMemory>
-        ensures { IfOk result (λ found. (row : Row) → has found.items row ≡ (has rows.now row && is_so there (has_row self.now (F.map facts.now) row))) }
+        ensures key { OnOk result (self.new.key ≡ self.old.key) }
+        ensures keeps { OnOk result (RowsLeave self.old self.new (F.map facts.now) rows.now) }
+        ensures went { IfOk result (λ went. (row : Row) → has went.items row ≡ (has rows.now row && has_row self.old (F.map facts.now) row)) }
     {
-        let mut found = Vec::new(alloc);
+        let mut went = Vec::new(alloc);
         for row in rows {
-            let is = is_so(there, self.has(row, facts));
-            add_passed(&mut found, alloc, row, is)?;
+            let was = self.take(row, facts);
+            add_passed(&mut went, alloc, row, was)?;
         }
-        Ok(found)
+        Ok(went)
     }
 
-    fn has<F: Facts>(&self, row: &Row, facts: &F) -> bool
-        ensures { result ≡ has_row self.now (F.map facts.now) row.now }
+    /// Puts copies of rows in, and answers copies of those that were not there.
+    pub fn come<F: Facts>(
+        &mut self,
+        alloc: Global,
+        rows: &[Row],
+        facts: &F,
+    ) -> Result<Vec<Row>, NoMemory>
+        ensures key { OnOk result (self.new.key ≡ self.old.key) }
+        ensures keeps { OnOk result (RowsCome self.old self.new (F.map facts.now) rows.now) }
+        ensures came { IfOk result (λ came. (row : Row) → has came.items row ≡ (has rows.now row && not (has_row self.old (F.map facts.now) row))) }
     {
-        let value = self.key.row_value(row, facts);
-        self.rows.get(value.value(), row).is_some()
+        let mut came = Vec::new(alloc);
+        for row in rows {
+            let is_new = self.put(alloc, row, facts)?;
+            add_passed(&mut came, alloc, row, is_new)?;
+        }
+        Ok(came)
     }
 
-    fn take<F: Facts>(&mut self, row: &Row, facts: &F)
+    // Takes a row out, and answers whether it was there. Takes no memory.
+    fn take<F: Facts>(&mut self, row: &Row, facts: &F) -> bool
         ensures key { self.new.key ≡ self.old.key }
         ensures keeps { (c : Candidates) → LooksWhereKept self.old c → KeepsMemories (beside self.old c) (beside self.new c) (F.map facts.now)
             (λ r. has_left (beside self.old c) (F.map facts.now) r && not (eq_by_cmp row_cmp row.now r)) (has_right (beside self.old c) (F.map facts.now)) }
+        ensures was { result ≡ has_row self.old (F.map facts.now) row.now }
+        ensures rows { (r : Row) → has_row self.new (F.map facts.now) r ≡ (has_row self.old (F.map facts.now) r && not (eq_by_cmp row_cmp row.now r)) }
     {
         let value = self.key.row_value(row, facts);
-        self.rows.take(value.value(), row);
+        self.rows.take(value.value(), row).is_some()
     }
 
-    fn put<F: Facts>(&mut self, alloc: Global, row: &Row, facts: &F) -> Result<(), NoMemory>
+    // Puts a copy of a row in, and answers whether it was not there.
+    fn put<F: Facts>(&mut self, alloc: Global, row: &Row, facts: &F) -> Result<bool, NoMemory>
         ensures key { OnOk result (self.new.key ≡ self.old.key) }
         ensures keeps { OnOk result ((c : Candidates) → LooksWhereKept self.old c → KeepsMemories (beside self.old c) (beside self.new c) (F.map facts.now)
             (λ r. has_left (beside self.old c) (F.map facts.now) r || eq_by_cmp row_cmp row.now r) (has_right (beside self.old c) (F.map facts.now))) }
+        ensures is_new { IfOk result (λ is_new. is_new ≡ not (has_row self.old (F.map facts.now) row.now)) }
+        ensures rows { OnOk result ((r : Row) → has_row self.new (F.map facts.now) r ≡ (has_row self.old (F.map facts.now) r || eq_by_cmp row_cmp row.now r)) }
     {
         let value = self.key.row_value(row, facts).into_value(alloc)?;
         let copy = row.copy(alloc)?;
-        self.rows.put(value, copy, ())?;
-        Ok(())
+        let before = self.rows.put(value, copy, ())?;
+        Ok(before.is_none())
     }
 }

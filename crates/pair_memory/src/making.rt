@@ -7,6 +7,7 @@ ghost use Rattle.row_delta.specs.Rows.{has, row_cmp};
 ghost use Rattle.row_delta.specs.NameOrder.{name_cmp};
 ghost use Rattle.alpha_memory.specs.JoinIndex.{bucket_at};
 ghost use Rattle.join_tests.specs.Joins.{joins};
+ghost use Rattle.join_tests.specs.Kept.{SeesRows};
 ghost use Rattle.pair_memory.specs.Joined.{joined};
 ghost use Rattle.pair_memory.specs.Memories.{row_kept, name_kept};
 ghost use Rattle.pair_memory.specs.Under.{row_joins, name_joins, stands_in};
@@ -14,27 +15,27 @@ ghost use Rattle.pair_memory.specs.Under.{row_joins, name_joins, stands_in};
 use crate::partners::{with_names, with_rows};
 use alpha_memory::JoinIndex;
 use fx_base::{Facts, NoMemory, Value};
-use join_tests::{KeyedPattern, Sought};
+use join_tests::{KeyedPattern, Sight, Sought};
 use row_delta::{Named, Row};
 use std::alloc::Global;
 
-/// The rows that a candidate makes with the left rows of an index. It costs a test of each left row with a join value that is sought
-/// for it.
+/// The rows that a candidate of this sight makes with the left rows of an index. It costs a test of each left row with a join value that
+/// is sought for it.
 pub(crate) fn made_with_name<S: Drop, F: Facts>(
     alloc: Global,
     pattern: &KeyedPattern,
     left: &JoinIndex<Value, Row, S>,
+    sight: &Sight<'_>,
     who: Named,
     facts: &F,
 ) -> Result<Vec<Row>, NoMemory>
-    ensures { IfOk result (λ found. (row : Row) → has found.items row
+    ensures { SeesRows pattern.now (F.map facts.now) who sight.now → IfOk result (λ found. (row : Row) → has found.items row
         ≡ joined (joins pattern.now (F.map facts.now)) (row_kept pattern.now left.now (F.map facts.now)) (eq_by_cmp name_cmp who) row) }
 {
-    match pattern.rows_sought(who, facts) {
-        Sought::One(value) => rows_under(alloc, pattern, left, value.value(), None, who, facts),
-        Sought::Two(first, second) => {
-            rows_of_both(alloc, pattern, left, &first, &second, who, facts)
-        }
+    let (value, other) = sight.sought();
+    match other {
+        Some(second) => rows_of_both(alloc, pattern, left, value, second, who, facts),
+        None => rows_under(alloc, pattern, left, value, None, who, facts),
     }
 }
 

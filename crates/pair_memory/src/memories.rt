@@ -1,4 +1,4 @@
-ghost use Rattle.std.specs.Prelude.{◌≡◌, ◌&&◌, ◌||◌, not, None, Some, Bool, true, cond, option_map, IfOk, IfErr, OnOk, OnErr};
+ghost use Rattle.std.specs.Prelude.{◌≡◌, ◌&&◌, ◌||◌, not, None, Some, Bool, true, cond, option_map, IfOk, IfErr, IfSome, OnOk, OnErr};
 ghost use Rattle.std.specs.Option.{is_some};
 ghost use Rattle.std.specs.Ordering.{eq_by_cmp};
 ghost use Rattle.std.specs.List.Sorted.{IsStrictlySortedBy};
@@ -7,6 +7,7 @@ ghost use Rattle.row_delta.specs.declared.row.Named.{Named};
 ghost use Rattle.row_delta.specs.Rows.{has, row_cmp, InOrder};
 ghost use Rattle.row_delta.specs.NameOrder.{name_cmp};
 ghost use Rattle.join_tests.specs.Joins.{Look, joins};
+ghost use Rattle.join_tests.specs.Kept.{SeesRows};
 ghost use Rattle.pair_memory.specs.Joined.{joined, has_name};
 ghost use Rattle.pair_memory.specs.Memories.{left_at, has_left, has_right, KeepsMemories};
 ghost use Rattle.pair_memory.specs.Standing.{no_rows, no_names, StandsFor};
@@ -20,8 +21,8 @@ use crate::making::{made_with_name, made_with_row};
 use crate::merge::merged;
 use crate::partners::{names_passed, rows_passed};
 use alpha_memory::JoinIndex;
-use fx_base::{Facts, NoMemory, Value};
-use join_tests::{KeyedPattern, Sought};
+use fx_base::{Copies, Facts, NoMemory, Value};
+use join_tests::{KeyedPattern, Sight, Sought};
 use row_delta::{Named, Row};
 use rule_model::Pattern;
 use std::alloc::Global;
@@ -110,46 +111,51 @@ impl<S: Drop> Memories<S> {
         }
     }
 
-    /// Takes a candidate out, and answers whether it was kept. Takes no memory.
-    pub fn take_right<F: Facts>(&mut self, who: Named, facts: &F) -> bool
-        ensures taken { result ≡ has_right self.old (F.map facts.now) who }
+    /// Takes a candidate out, and answers its sight if it was kept. Takes no memory.
+    pub fn take_right<'a, F: Facts>(&mut self, who: Named, facts: &'a F) -> Option<Sight<'a>>
+        ensures taken { is_some result ≡ has_right self.old (F.map facts.now) who }
+        ensures sight { IfSome result (SeesRows self.old.pattern (F.map facts.now) who) }
         ensures left { (r : Row) → left_at self.new (F.map facts.now) r ≡ left_at self.old (F.map facts.now) r }
         ensures keeps { KeepsMemories self.old self.new (F.map facts.now)
             (has_left self.old (F.map facts.now)) (λ c. has_right self.old (F.map facts.now) c && not (eq_by_cmp name_cmp who c)) }
     {
-        let value = self.pattern.candidate_value(who, facts);
-        self.right.take(value.value(), &who).is_some()
+        let sight = self.pattern.sight(who, facts);
+        let was = self.right.take(sight.own(), &who).is_some();
+        was.then_some(sight)
     }
 
-    /// Puts a candidate in, and answers whether it was kept before.
-    pub fn put_right<F: Facts>(
+    /// Puts a candidate in, and answers its sight unless it was kept before.
+    pub fn put_right<'a, F: Facts>(
         &mut self,
         alloc: Global,
         who: Named,
-        facts: &F,
-    ) -> Result<bool, NoMemory>
-        ensures before { IfOk result (λ before. before ≡ has_right self.old (F.map facts.now) who) }
+        facts: &'a F,
+    ) -> Result<Option<Sight<'a>>, NoMemory>
+        ensures came { IfOk result (λ sight. is_some sight ≡ not (has_right self.old (F.map facts.now) who)) }
+        ensures sight { IfOk result (λ sight. IfSome sight (SeesRows self.old.pattern (F.map facts.now) who)) }
         ensures left { OnOk result ((r : Row) → left_at self.new (F.map facts.now) r ≡ left_at self.old (F.map facts.now) r) }
         ensures keeps { OnOk result (KeepsMemories self.old self.new (F.map facts.now)
             (has_left self.old (F.map facts.now)) (λ c. has_right self.old (F.map facts.now) c || eq_by_cmp name_cmp who c)) }
     {
-        let value = self.pattern.candidate_value(who, facts).into_value(alloc)?;
-        let before = self.right.put(value, who, ())?;
-        Ok(before.is_some())
+        let sight = self.pattern.sight(who, facts);
+        let value = sight.own().copy(alloc)?;
+        let came = self.right.put(value, who, ())?.is_none();
+        Ok(came.then_some(sight))
     }
 
-    /// The rows that a candidate makes with the left rows that are kept, whether it is kept or not. It costs a test of each
-    /// left row with a join value that is sought for it.
+    /// The rows that a candidate of this sight makes with the left rows that are kept, whether it is kept or not. It costs a test of
+    /// each left row with a join value that is sought for it.
     pub fn with_candidate<F: Facts>(
         &self,
         alloc: Global,
+        sight: &Sight<'_>,
         who: Named,
         facts: &F,
     ) -> Result<Vec<Row>, NoMemory>
-        ensures { IfOk result (λ found. (row : Row) → has found.items row
+        ensures { SeesRows self.now.pattern (F.map facts.now) who sight.now → IfOk result (λ found. (row : Row) → has found.items row
             ≡ joined (joins self.now.pattern (F.map facts.now)) (has_left self.now (F.map facts.now)) (eq_by_cmp name_cmp who) row) }
     {
-        made_with_name(alloc, &self.pattern, &self.left, who, facts)
+        made_with_name(alloc, &self.pattern, &self.left, sight, who, facts)
     }
 
     /// The rows that a left row makes with the candidates that are kept, whether it is kept or not. It costs a test of each
@@ -166,20 +172,23 @@ impl<S: Drop> Memories<S> {
         made_with_row(alloc, &self.pattern, &self.right, row, facts)
     }
 
-    /// The left rows for which a candidate passes, in order. It costs a test of each left row with a join value that is sought
-    /// for it, and where two are, the logarithm of what passes.
+    /// The left rows for which a candidate of this sight passes, in order. It costs a test of each left row with a join value that is
+    /// sought for it, and where two are, the logarithm of what passes.
     pub fn partners<F: Facts>(
         &self,
         alloc: Global,
+        sight: &Sight<'_>,
         who: Named,
         facts: &F,
     ) -> Result<Vec<Row>, NoMemory>
-        ensures rows { IfOk result (λ found. (row : Row) → has found.items row ≡ (has_left self.now (F.map facts.now) row && joins self.now.pattern (F.map facts.now) row who)) }
+        ensures rows { SeesRows self.now.pattern (F.map facts.now) who sight.now → IfOk result (λ found. (row : Row) → has found.items row
+            ≡ (has_left self.now (F.map facts.now) row && joins self.now.pattern (F.map facts.now) row who)) }
         ensures in_order { IfOk result (λ found. InOrder found.items) }
     {
-        match self.pattern.rows_sought(who, facts) {
-            Sought::One(value) => self.partners_under(alloc, value.value(), None, who, facts),
-            Sought::Two(first, second) => self.partners_of_both(alloc, &first, &second, who, facts),
+        let (value, other) = sight.sought();
+        match other {
+            Some(second) => self.partners_of_both(alloc, value, second, who, facts),
+            None => self.partners_under(alloc, value, None, who, facts),
         }
     }
 

@@ -8,16 +8,24 @@ use fx_base::NoMemory;
 use std::alloc::Global;
 use std::collections::BTreeSet;
 
-/// The elements of two lists, in order, each once. It costs the logarithm of their number for each.
+/// The elements of two lists in order, in order, each once. Where both have any, it costs the logarithm of their number for each.
 pub(crate) fn merged<K: Ord + Drop>(
     alloc: Global,
     first: Vec<K>,
     second: Vec<K>,
 ) -> Result<Vec<K>, NoMemory>
+    requires first { IsStrictlySortedBy K.cmp first.items }
+    requires second { IsStrictlySortedBy K.cmp second.items }
     ensures members { IfOk result (λ all. (k : K) → list_any (eq_by_cmp K.cmp k) all.items
         ≡ (list_any (eq_by_cmp K.cmp k) first.items || list_any (eq_by_cmp K.cmp k) second.items)) }
     ensures in_order { IfOk result (λ all. IsStrictlySortedBy K.cmp all.items) }
 {
+    if first.is_empty() {
+        return Ok(second);
+    }
+    if second.is_empty() {
+        return Ok(first);
+    }
     let mut all = BTreeSet::new(alloc);
     put_all(&mut all, first)?;
     put_all(&mut all, second)?;

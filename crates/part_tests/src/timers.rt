@@ -1,4 +1,4 @@
-use due_queue::{DueMap, DueQueue};
+use due_queue::{DueMap, DueQueue, RisingMap};
 use fx_base::NoMemory;
 use std::ops::Bound;
 use std::test::Fail;
@@ -38,5 +38,22 @@ fn a_key_that_is_put_again_waits_for_its_new_moment(rt: HostRuntime) -> Result<(
     assert_eq!(rt; waiting.moment(1), Some(9));
     assert_eq!(rt; waiting.first(), Some((9, 1)));
     assert_eq!(rt; waiting.cancel(1), Some((9, 11)));
+    Ok(())
+}
+
+#[test]
+fn keys_that_rise_and_others_come_in_one_order(rt: HostRuntime) -> Result<(), Fail> {
+    let mut waiting: RisingMap<i64, u64, u64> = RisingMap::new(rt.alloc());
+    waiting.put(3, 1, 10)?;
+    waiting.put(7, 2, 20)?;
+    waiting.put(5, 3, 30)?;
+    assert_eq!(rt;
+        waiting.due(rt.alloc(), Bound::Included(7))?.as_slice(),
+        [1, 3, 2].as_slice()
+    );
+    assert_eq!(rt; waiting.cancel(1), Some((3, 10)));
+    assert_eq!(rt; waiting.first(), Some((5, 3)));
+    assert_eq!(rt; waiting.take_due(Bound::Included(6)), Some((5, 3, 30)));
+    assert_eq!(rt; waiting.take_due(Bound::Unbounded), Some((7, 2, 20)));
     Ok(())
 }

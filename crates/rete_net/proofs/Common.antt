@@ -25,11 +25,13 @@ pub use Rattle.std.specs.declared.cmp.Ordering.{Ordering}
 pub use Rattle.std.specs.declared.cmp.Ordering.TheVariants.{Less, Equal, Greater}
 pub use Rattle.beta_join.specs.declared.join.BetaJoin.{BetaJoin}
 pub use Rattle.condition_rows.proofs.Alike.{held_known, joining_alike, clean_of_none, facts_alike}
+pub use Rattle.beta_join.specs.Doors.{joined_pattern}
 pub use Rattle.condition_node.proofs.Knowing.{AsksOfSet, blockers_ask, gathers_ask, witnesses_ask}
 pub use Rattle.condition_node.proofs.Moved.{node_moves, no_candidates}
 pub use Rattle.condition_node.proofs.Quietness.{join_quiet, exists_quiet, fold_quiet}
 pub use Rattle.condition_node.proofs.Still.{Stays, TellsNothing, exists_still, exists_tells_nothing, fold_still, fold_tells_nothing, join_still}
 pub use Rattle.condition_node.proofs.Still.{join_tells_nothing, not_still, not_tells_nothing}
+pub use Rattle.condition_node.specs.Doors.{gathered_tallies}
 pub use Rattle.condition_node.specs.Loading.{AreExtrasBeside, IsAside, IsExtraBeside, IsLoad, IsLost, IsResumed, Laden, node_rows}
 pub use Rattle.laden_rows.specs.Extras.{lost_partners, values_gathered, extra_cmp, IsFirstWith, AreExtras, IsExtraIn}
 pub use Rattle.condition_node.specs.Nodes.{condition_of, NodeStands, is_negated, CountsPartners}
@@ -119,6 +121,7 @@ pub use Rattle.row_delta.specs.declared.delta.Delta.{Delta}
 pub use Rattle.row_delta.specs.declared.extra.Extra.{Extra}
 pub use Rattle.row_delta.specs.declared.row.Named.{Named}
 pub use Rattle.row_delta.specs.declared.row.Row.{Row}
+pub use Rattle.not_node.specs.Doors.{blocker_tallies, blocking_pattern}
 pub use Rattle.rule_model.proofs.Floors.{floor_on, same_floor}
 pub use Rattle.rule_model.proofs.Listed.{in_left, in_right, of_map}
 pub use Rattle.rule_model.proofs.Named.{of_filter}
@@ -145,6 +148,7 @@ pub use Rattle.rule_model.specs.declared.program.Program.{Program}
 pub use Rattle.rule_model.specs.declared.program.Rule.{Rule}
 pub use Rattle.rule_world.proofs.Kept.{filter_swap, filter_same}
 pub use Rattle.rule_world.specs.Programs.{IsRunnable, has_window, has_conditions, has_windows}
+pub use Rattle.tally_node.specs.Doors.{tallied_pattern}
 pub use Rattle.tally_node.specs.Counts.{counts_blockers, counts_witnesses}
 pub use Rattle.tally_node.specs.Extras.{extra_for, rows_of_extras}
 pub use Rattle.tally_node.specs.Gathers.{gathers}
@@ -152,5 +156,6 @@ pub use Rattle.tally_node.specs.Laws.{ForgottenStay, StandsCounted, all_passing}
 pub use Rattle.window_gate.proofs.Insides.{differ_after, inside_whole}
 pub use Rattle.window_gate.specs.Standing.{StandsForArrivals, KeepsWindow, window_kept, KeepsTime, TagsDiffer, window_of, with_tag, HoldsArrivals}
 pub use Rattle.window_gate.specs.Windows.{Arrival, rows_inside, named_of, has_tag, inside, single}
+pub use Rattle.window_gate.specs.declared.gate.Gate.{Gate}
 pub use Rattle.window_gate.specs.declared.gate.Kept.{Kept}
 pub use mathlib.Core.Path.{fun_ext}

@@ -1,10 +1,12 @@
 -- One fan of others turns: its rows, or the candidates of one member.
+use Rattle.join_tests.specs.declared.row_key.RowKey.{RowKey}
 use Rattle.rete_net.proofs.Common.{◌≡◌, ◌∙◌, sym, ap, refl, subst, ℕ, ◌+◌, ◌<◌, ◌≤◌, arith, List, [], ◌∷◌, length, Option, Some, None, slice_get, inl, inr}
 use Rattle.rete_net.proofs.Common.{true, false, zero, suc, set, slice_get_within, get, is_at, Updates, nat_tests, are_none, IsDifference, Vec, option_map}
 use Rattle.rete_net.proofs.Common.{nat_cmp, Delta, Named, Row, Look, Pattern, row_key, Candidates, beside, made, AreBeside, IsMemberTurned, AreNamesTurned, Fan}
 use Rattle.rete_net.proofs.Common.{Fans, Seat, Span, NetNode, given_span, half_at, half_in, in_fan, member_of, AreFans, AreNamesTurnedAt, AreFanRowsTurned}
 use Rattle.rete_net.proofs.Common.{IsFanLike, IsHalf, IsInSpan, IsLaidAs, IsLeft, Member, Bool, BTreeMap, member_delta, IsReached, has_place, no_change, is_in}
-use Rattle.rete_net.proofs.Common.{nat_eq, cond, or-true, ◌||◌}
+use Rattle.rete_net.proofs.Common.{is_some, nat_eq, cond, or-true, ◌||◌}
+use Rattle.fan_join.specs.Doors.{shared_key}
 use Rattle.std.proofs.lemmas.Bool.{false_from_ne_true}
 use Rattle.fan_join.specs.declared.fan.FanJoin.{FanJoin}
 use Rattle.std.specs.Map.{keys_of, lookup}
@@ -241,16 +243,17 @@ module _ (look : Look) (gone come : List Row) (first now next : Fans) (span : Sp
 -- ---- the rows of one fan
 
 -- a fan whose rows turned is like it was
-pub rows_like : (was now : Fan) → now.parent ≡ was.parent → now.places ≡ was.places → now.join.left.key ≡ was.join.left.key → now.join.members ≡ was.join.members → now.join.reached ≡ was.join.reached → IsFanLike was now
+pub rows_like : (was now : Fan) → now.parent ≡ was.parent → now.places ≡ was.places → shared_key now.join ≡ shared_key was.join → now.join.members ≡ was.join.members → now.join.reached ≡ was.join.reached → IsFanLike was now
 rows_like was now parent places key members reached = record {
   parent = parent;
   places = places;
   key = key;
   many = ap (λ v. length v.items) members;
   patterns = λ m c d e h. ap (λ (z : Candidates). z.pattern) (one_value (slice_get was.join.members.items m) d c (ap (λ v. slice_get v.items m) (sym members) ∙ h) e);
-  reached = λ all.
-      subst (λ r. IsReached (record { left = now.join.left; members = now.join.members; reached = r })) (sym reached)
-      (subst (λ (m : Vec Candidates). IsReached (record { left = now.join.left; members = m; reached = was.join.reached })) (sym members) all);
+  reached = λ all untimed.
+      subst (λ r. IsReached (record { left = was.join.left; members = now.join.members; reached = r })) (sym reached)
+      (subst (λ (m : Vec Candidates). IsReached (record { left = was.join.left; members = m; reached = was.join.reached })) (sym members) all)
+      (ap (λ (k : RowKey). is_some k.time) (sym key) ∙ untimed);
 }
 
 module _ (look : Look) (gone come : List Row) (list : List Fan) (f : ℕ) (was now : Fan) (at : slice_get list f ≡ Some was) (deltas : BTreeMap ℕ Delta) (members : now.join.members ≡ was.join.members)

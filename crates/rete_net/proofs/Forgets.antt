@@ -1,5 +1,5 @@
 -- A node of the network forgets, out of what the node of its condition answers.
-use Rattle.rete_net.proofs.Common.{◌≡◌, ◌∙◌, sym, ap, refl, subst, ◌&&◌, ◌||◌, not, Bool, true, false, List, Named, Row, has, InOrder, Condition, Program}
+use Rattle.rete_net.proofs.Common.{◌≡◌, ◌∙◌, sym, ap, refl, subst, ◌&&◌, not, Bool, true, false, List, Named, Row, has, InOrder, Condition, Program}
 use Rattle.rete_net.proofs.Common.{pattern_of, Snapshot, name_of, Look, clean, cleaned, either, line, HasAllOf, held, GateStands, condition_of, NodeStands}
 use Rattle.rete_net.proofs.Common.{NetNode, IsForgetting, NodeForgets, NetNodeStands}
 use Rattle.condition_node.specs.Forgetting.{ForgetsIn}

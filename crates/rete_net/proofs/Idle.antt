@@ -1,5 +1,5 @@
 -- A member for which what its rows change is nothing, and that nothing else reaches, takes its turn without a look at it.
-use Rattle.rete_net.proofs.Common.{◌≡◌, ◌∙◌, sym, ap, refl, subst, ◌&&◌, ◌||◌, not, Bool, true, false, List, [], Option, Some, Fact, Delta, Named, Row, has}
+use Rattle.rete_net.proofs.Common.{◌≡◌, ◌∙◌, sym, ap, refl, subst, ◌&&◌, not, Bool, true, false, List, [], Option, Some, Fact, Delta, Named, Row, has}
 use Rattle.rete_net.proofs.Common.{Plain, Pattern, Moment, Program, pattern_of, Snapshot, Look, Candidates, beside, has_left, has_right, candidates_of, NetNode}
 use Rattle.rete_net.proofs.Common.{HasNoOld, NodeForgets, Fan, Seat, member_of, showing, IsHalf, IsHalfTurned, IsOfSeat, Member, no_change, NodeStep}
 use Rattle.rete_net.proofs.Common.{condition_of, is_negated, IsLeftAlone, node_moves}

@@ -34,6 +34,7 @@ mod Idle
 mod Fanned
 mod Fanning
 pub mod Fanwise
+pub mod Networks
 mod Lading
 mod Seated
 mod Telling

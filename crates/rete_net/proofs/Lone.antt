@@ -5,6 +5,8 @@ use Rattle.rete_net.proofs.Common.{KeepsWindow, window_kept, window_of, Arrival,
 use Rattle.rete_net.proofs.Common.{is_one_meant, PatternGate, same_arrivals, stands_still, same_candidates, Node, condition_of, is_negated, Stays, TellsNothing}
 use Rattle.rete_net.proofs.Common.{join_still, join_tells_nothing, exists_still, exists_tells_nothing, fold_still, fold_tells_nothing, not_still}
 use Rattle.rete_net.proofs.Common.{not_tells_nothing, NetNode, is_changed_by_clock, IsLeftAlone, IsStillAt, IsUndue, no_change, NodeStep}
+use Rattle.rete_net.proofs.Common.{blocking_pattern, Gate}
+use Rattle.not_node.specs.Doors.{awaited_entry}
 use Rattle.not_node.specs.declared.node.NotNode.{NotNode}
 use Rattle.window_gate.specs.declared.change.WindowKind.{WindowKind}
 use Rattle.window_gate.specs.declared.gate.Kept.TheVariants as kept
@@ -29,6 +31,10 @@ keeps_whole Whole e (kept.Length window) is list now = absurd cc
 keeps_whole (Time span) e (kept.Length window) is list now = absurd (let n : false ≡ true = e in cc)
 keeps_whole (Length count) e (kept.Length window) is list now = absurd (let n : false ≡ true = e in cc)
 
+-- so it is with what a gate keeps
+gate_keeps_whole : (w : WindowTag) → is_whole w ≡ true → (gate : Gate) → window_of gate ≡ window_kind_of w → (list : List Arrival) (now : ℤ) → KeepsWindow gate.kept list now
+gate_keeps_whole w e gate is list now = keeps_whole w e gate.kept is list now
+
 rows_whole : (w : WindowTag) → is_whole w ≡ true → (was now : ℤ) (list : List Arrival) → rows_inside (window_kind_of w) was list ≡ rows_inside (window_kind_of w) now list
 rows_whole Whole e was now list = ap (λ (xs : List Arrival). map single (map named_of xs)) (inside_whole was list ∙ sym (inside_whole now list))
 rows_whole (Time span) e was now list = absurd (let n : false ≡ true = e in cc)
@@ -44,7 +50,7 @@ gate_stays : (p : Program) (q : Pattern) (gate : PatternGate) (gone : List Fact)
 gate_stays p q gate gone come clock whole none = record {
   stands = λ s next stands moves at. stands_still p q s next moves.before moves.after (same_arrivals p q s next gone come moves none) gate stands (record {
     tags = stands.stands.tags;
-    keeps = keeps_whole q.window whole gate.gate.kept stands.window (arrivals p q s) next.clock;
+    keeps = gate_keeps_whole q.window whole gate.gate stands.window (arrivals p q s) next.clock;
   });
   candidates = λ s next stands moves at. same_candidates p q s next moves.before moves.after (same_arrivals p q s next gone come moves none) gate stands
       (inside_still q gate whole stands.window s.clock next.clock (arrivals p q s));
@@ -71,8 +77,8 @@ module _ (p : Program) (moment : Moment) where
   abbrev told : Node → ℤ
   told n = floor p (snapshot_at moment) (pattern_of (condition_of n)).entry.0
 
-  told_is : (waiting : NotNode) (next : Snapshot) → IsAt next moment → told (node.Not waiting) ≡ floor p next waiting.tally.memories.pattern.entry.0
-  told_is waiting next at = floor_told p moment waiting.tally.memories.pattern waiting.tally.memories.pattern (told (node.Not waiting)) refl refl next at
+  told_is : (waiting : NotNode) (next : Snapshot) → IsAt next moment → told (node.Not waiting) ≡ floor p next (awaited_entry waiting)
+  told_is waiting next at = floor_told p moment (blocking_pattern waiting) (blocking_pattern waiting) (told (node.Not waiting)) refl refl next at
 
   stays_at : (n : Node) → IsStillAt n (told n) → Stays p moment n
   stays_at (node.Join join) still = join_still p moment join

@@ -3,7 +3,7 @@ use Rattle.rete_net.proofs.Common.{◌≡◌, ◌∙◌, sym, ap, refl, subst, �
 use Rattle.rete_net.proofs.Common.{Some, None, slice_get, ≤ℤ_refl, filter, Fact, Delta, Moment, Program, Condition, snapshot_at, pattern_of, is_whole, Snapshot}
 use Rattle.rete_net.proofs.Common.{floor, floor_on, held, IsOrderly, MovesSnapshot, at_clock, shares_tag, PatternGate, is_one_meant, BetaJoin, Node}
 use Rattle.rete_net.proofs.Common.{condition_of, is_negated, IsBefore, join_quiet, NetNode, Schedule, Member, shown, showing, with_member, is_changed_by_clock}
-use Rattle.rete_net.proofs.Common.{AreQuiet, IsNodeQuiet, AreScheduled, IsGateStill, IsLeftAlone, IsScheduled, IsStillAt, IsReplaced}
+use Rattle.rete_net.proofs.Common.{AreQuiet, IsNodeQuiet, AreScheduled, IsGateStill, IsLeftAlone, IsScheduled, IsStillAt, IsReplaced, joined_pattern}
 use Rattle.condition_node.specs.declared.node.Node.TheVariants as node
 use Rattle.rete_net.proofs.Quieting.{untimed_quiet}
 use Rattle.rete_net.proofs.Turning.{held_has, rising}
@@ -139,7 +139,7 @@ clock_moves p s clock before after later = record {
 join_still_quiet : (p : Program) (parent : Option ℕ) (gate : PatternGate) (join : BetaJoin) (until : Option ℤ) → ((clock : ℤ) → IsBefore until clock → IsGateStill gate clock)
     → IsNodeQuiet p (record { parent = parent; gate = gate; node = node.Join join }) until
 join_still_quiet p parent gate join until still s rows forgotten clock stands named kept kept_now begun later low before =
-    let same = (still clock before).candidates p join.memories.pattern s (at_clock s clock) [] None refl stands.gate (clock_moves p s clock kept kept_now later) refl in
+    let same = (still clock before).candidates p (joined_pattern join) s (at_clock s clock) [] None refl stands.gate (clock_moves p s clock kept kept_now later) refl in
     record {
       same_candidates = same;
       same_line = join_quiet p join until (held s) s rows forgotten clock (rising s.facts kept.in_order) (held_has s forgotten) named stands.node begun later low before same;

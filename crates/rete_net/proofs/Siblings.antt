@@ -6,7 +6,7 @@ use Rattle.rete_net.proofs.Common.{IsAt, pattern_of, Snapshot, Look, Candidates,
 use Rattle.rete_net.proofs.Common.{made, no_names, row_decides, name_decides, BetaJoin, AreNamesTurned, candidates_of, GateStands, has_good_window}
 use Rattle.rete_net.proofs.Common.{nothing_differs, IsOrderly, MovesSnapshot, PatternGate, Node, condition_of, node_moves, NetNode, NodeForgets, Fan, Fans}
 use Rattle.rete_net.proofs.Common.{Seat, half_at, half_of, member_at, member_of, seat_at, showing, with_member, AreNamesTurnedAt, IsHalf, IsHalfTurned, IsLeft}
-use Rattle.rete_net.proofs.Common.{IsOfSeat, Member, type_of, is_fact_of_type, NodeLoad, no_change, NodeStep}
+use Rattle.rete_net.proofs.Common.{IsOfSeat, Member, type_of, is_fact_of_type, NodeLoad, no_change, NodeStep, joined_pattern, tallied_pattern, blocking_pattern}
 use Rattle.std.proofs.Math.Bool.{or-false}
 use Rattle.std.specs.Option.{IfSome}
 use Rattle.std.specs.List.Sorted.{IsStrictlySortedBy}
@@ -28,9 +28,9 @@ abbrev join_of : Pattern → Member → Node
 join_of q m = node.Join (record { memories = record { pattern = q; left = m.left.rows; right = m.own.names } })
 
 pub shows_join : (m : Member) (x : Node) (q : Pattern) → condition_of x ≡ Plain q → with_member m x ≡ join_of q m
-shows_join m (node.Join join) q e = let is : join.memories.pattern ≡ q = cc in ap (λ (r : Pattern). join_of r m) is
-shows_join m (node.Not waiting) q e = absurd (let no : Negated waiting.tally.memories.pattern ≡ Plain q = e in cc)
-shows_join m (node.Exists tally) q e = absurd (let no : Existing tally.memories.pattern ≡ Plain q = e in cc)
+shows_join m (node.Join join) q e = let is : joined_pattern join ≡ q = cc in ap (λ (r : Pattern). join_of r m) is
+shows_join m (node.Not waiting) q e = absurd (let no : Negated (blocking_pattern waiting) ≡ Plain q = e in cc)
+shows_join m (node.Exists tally) q e = absurd (let no : Existing (tallied_pattern tally) ≡ Plain q = e in cc)
 shows_join m (node.Fold fold) q e = absurd (let no : Folded fold.accumulate ≡ Plain q = e in cc)
 
 -- the memories of a member, in a node of its own

@@ -4,7 +4,8 @@ use Rattle.rete_net.proofs.Common.{Row, InOrder, Condition, Plain, Negated, Exis
 use Rattle.rete_net.proofs.Common.{Snapshot, tests_hold, name_of, unbound, of_filter, passed, Look, joins, Memories, clean, cleaned, either, remembered}
 use Rattle.rete_net.proofs.Common.{StandsFor, joined, unvalued, splits_value, from_unvalued, joined_clean, gives, is_ripe, line, held, candidates_of}
 use Rattle.rete_net.proofs.Common.{has_partner, held_fact, candidate_of, Node, counts_blockers, counts_witnesses, gathers, condition_of, CountsPartners}
-use Rattle.rete_net.proofs.Common.{NodeStands, NetNode, HasNoOld, IsForgetting, NodeForgets, HaveDistinctTags, HasAllOf}
+use Rattle.rete_net.proofs.Common.{NodeStands, NetNode, HasNoOld, IsForgetting, NodeForgets, HaveDistinctTags, HasAllOf, blocker_tallies, joined_pattern}
+use Rattle.rete_net.proofs.Common.{gathered_tallies}
 use Rattle.std.proofs.lemmas.Bool.{and_parts, false_from_ne_true}
 use Rattle.std.specs.List.Sorted.{IsStrictlySortedBy}
 use Rattle.pair_memory.specs.Valued.{valued}
@@ -78,10 +79,10 @@ module _ (p : Program) (look : Look) (s : Snapshot) (rows : Row → Bool) (forgo
   counted holds m other at stands = record { stands = memories_stand m other m.pattern at stands.stands; counts = stands.counts }
 
   node_stands : (m : Node) → condition_of m ≡ c → (other : Look) → NodeStands p m other s rows forgotten → NodeStands p m other s rows (either forgotten old)
-  node_stands (node.Join join) at other stands = memories_stand join.memories other join.memories.pattern (ap pattern_of at) stands
-  node_stands (node.Not waiting) at other stands = record { counts = counted counts_blockers waiting.tally.memories other (ap pattern_of at) stands.counts; in_step = stands.in_step; none_due = stands.none_due; floor = stands.floor }
+  node_stands (node.Join join) at other stands = memories_stand join.memories other (joined_pattern join) (ap pattern_of at) stands
+  node_stands (node.Not waiting) at other stands = record { counts = counted counts_blockers (blocker_tallies waiting) other (ap pattern_of at) stands.counts; in_step = stands.in_step; none_due = stands.none_due; floor = stands.floor }
   node_stands (node.Exists tally) at other stands = counted counts_witnesses tally.memories other (ap pattern_of at) stands
-  node_stands (node.Fold fold) at other stands = record { counts = counted (gathers fold.accumulate) fold.tally.memories other (stands.pattern ∙ ap pattern_of at) stands.counts; pattern = stands.pattern }
+  node_stands (node.Fold fold) at other stands = record { counts = counted (gathers fold.accumulate) (gathered_tallies fold) other (stands.pattern ∙ ap pattern_of at) stands.counts; pattern = stands.pattern }
 
   tested_same : (x : Row → Bool) (row : Row) → ((rows row && x row) && clean (either forgotten old) row) ≡ ((rows row && x row) && clean forgotten row)
   tested_same x row =

@@ -1,5 +1,5 @@
 -- The first step of a network, over no facts: the empty row comes.
-use Rattle.rete_net.proofs.Common.{◌≡◌, ◌∙◌, sym, ap, refl, subst, inl, inr, ℕ, ℤ, pos, ◌≤ℤ◌, ◌<◌, arith, ◌&&◌, not, Bool, true, false, List, [], ◌∷◌, ◌++◌}
+use Rattle.rete_net.proofs.Common.{◌≡◌, ◌∙◌, sym, ap, refl, subst, inl, inr, ℕ, ℤ, pos, ◌<◌, arith, ◌&&◌, not, Bool, true, false, List, [], ◌∷◌, ◌++◌}
 use Rattle.rete_net.proofs.Common.{length, take, get_or, Option, Some, None, slice_get, fun_ext, In, ≤ℤ_refl, get_or-take, length-take, slice_get_within}
 use Rattle.rete_net.proofs.Common.{get_or_from_slice_get, slice_get-get_or, Named, Row, has, LeadsRows, Condition, Plain, Negated, Existing, Folded, Pattern}
 use Rattle.rete_net.proofs.Common.{Program, Rule, rows, Snapshot, floor, Look, joins, splits, unjoined, clean, cleaned, no_rows, no_names, splits_value}

@@ -1,5 +1,5 @@
 -- One node after the others.
-use Rattle.rete_net.proofs.Common.{◌≡◌, ◌∙◌, sym, ap, subst, ℕ, ◌<◌, ◌^◌, List, [], length, Option, Some, slice_get, Fact, Delta, Program, Look, RuleChange}
+use Rattle.rete_net.proofs.Common.{◌≡◌, ◌∙◌, sym, ap, subst, ℕ, ◌<◌, ◌^◌, List, length, Option, Some, slice_get, Fact, Delta, Program, Look, RuleChange}
 use Rattle.rete_net.proofs.Common.{NetNode, Index, Answered, given, some_answer, answer_in, AreRuled, no_change, delta_at, changes_from, NetStep, HasAnswered}
 use Rattle.rete_net.proofs.Common.{IsWired, Moment}
 

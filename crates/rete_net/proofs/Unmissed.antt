@@ -9,7 +9,7 @@ use Rattle.rete_net.proofs.Common.{KeepsTime, StandsForArrivals, TagsDiffer, wit
 use Rattle.rete_net.proofs.Common.{PatternGate, GateStands, arrival_of, arrivals, window_kind_of, IsOrderly, at_clock, filter_made, is_other, number, rising}
 use Rattle.rete_net.proofs.Common.{inside_are, Node, condition_of, NodeStands, AsksOfSet, blockers_ask, witnesses_ask, gathers_ask, held_known, node_moves}
 use Rattle.rete_net.proofs.Common.{shown_nodes, Rete, NetNode, snapshot_without, IsUnmissed, HaveSameFronts, NodesStand, NetStands, clean_rows, NetNodeStands}
-use Rattle.rete_net.proofs.Common.{before, IsRuleFront, HoldsArrivals}
+use Rattle.rete_net.proofs.Common.{before, IsRuleFront, HoldsArrivals, tallied_pattern, blocker_tallies, blocking_pattern, gathered_tallies, Gate, window_of}
 use Rattle.std.proofs.lemmas.Bool.{and_parts, eqb-true}
 use Rattle.std.proofs.lemmas.List.Kept.{IsStrictlySortedBy-filter}
 use Rattle.rule_model.specs.Candidates.{is_present}
@@ -84,6 +84,10 @@ module _ (p : Program) (s : Snapshot) (f : Fact) (forgotten : Named → Bool) (k
     keeps_less (kept.Length l) (Time span) is short out keeps = absurd cc
     keeps_less (kept.Length l) (Length count) is short out keeps = absurd (let n : true ≡ false = short in cc)
 
+    gate_keeps_less : (g : Gate) (w : WindowTag) → window_of g ≡ window_kind_of w → is_length w ≡ false → ((span : ℤ) → w ≡ Time span → (fits p q s.clock f && is_inside p q (Time span) s.clock s.facts f) ≡ false)
+        → KeepsWindow g.kept (arrivals p q s) s.clock → KeepsWindow g.kept (arrivals p q less) s.clock
+    gate_keeps_less g w is short out keeps = keeps_less g.kept w is short out keeps
+
     gate_apart : IsApart q f → GateStands p q gate less
     gate_apart is = record {
       window = stands.window;
@@ -96,7 +100,7 @@ module _ (p : Program) (s : Snapshot) (f : Fact) (forgotten : Named → Bool) (k
       window = stands.window;
       stands = record {
         tags = tags_less;
-        keeps = keeps_less gate.gate.kept q.window stands.window short
+        keeps = gate_keeps_less gate.gate q.window stands.window short
             (λ span at. subst (λ (w : WindowTag). (fits p q s.clock f && is_inside p q w s.clock s.facts f) ≡ false) at (out span at)) stands.stands.keeps;
       };
     }
@@ -145,19 +149,19 @@ module _ (p : Program) (s : Snapshot) (f : Fact) (forgotten : Named → Bool) (k
     node_less (node.Not waiting) (of_other is) stands =
         let now = moved (node.Not waiting) stands in
         record {
-          counts = counts_less counts_blockers blockers_ask (Negated waiting.tally.memories.pattern) (of_other is) is waiting.tally.memories now.counts;
+          counts = counts_less counts_blockers blockers_ask (Negated (blocking_pattern waiting)) (of_other is) is (blocker_tallies waiting) now.counts;
           in_step = now.in_step;
           none_due = now.none_due;
           floor = now.floor;
         }
     node_less (node.Not waiting) (of_binding q at short) stands = absurd cc
     node_less (node.Exists tally) (of_other is) stands =
-        counts_less counts_witnesses witnesses_ask (Existing tally.memories.pattern) (of_other is) is tally.memories (moved (node.Exists tally) stands)
+        counts_less counts_witnesses witnesses_ask (Existing (tallied_pattern tally)) (of_other is) is tally.memories (moved (node.Exists tally) stands)
     node_less (node.Exists tally) (of_binding q at short) stands = absurd cc
     node_less (node.Fold fold) (of_other is) stands =
         let now = moved (node.Fold fold) stands in
         let a = fold.accumulate in
-        let m = fold.tally.memories in
+        let m = gathered_tallies fold in
         record {
           counts = subst (λ (q : Pattern). StandsCounted (gathers a) m (held less) (held less) (joins q (held less)) rows_less (candidates_of p q less) forgotten) (sym now.pattern)
               (counts_less (gathers a) (gathers_ask a) (Folded a) (of_other is) is m

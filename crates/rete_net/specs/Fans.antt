@@ -28,7 +28,9 @@ use Rattle.rete_net.specs.declared.net.Rete.{Rete}
 use Rattle.rete_net.specs.declared.node.NetNode.{NetNode}
 use Rattle.rete_net.specs.Indexes.{is_listed}
 use Rattle.fan_join.specs.Reaching.{has_place}
+use Rattle.fan_join.specs.Doors.{shared_key}
 use Rattle.rete_net.specs.Steps.{no_change}
+use Rattle.beta_join.specs.Doors.{joined_pattern}
 
 -- ---- what a node keeps
 
@@ -39,7 +41,7 @@ pub record Member : Type 0 where
 
 -- a node that binds a fact, with the memories of a member in place of its own
 abbrev pub with_member : Member → Node → Node
-with_member m (node.Join join) = node.Join (record { memories = record { pattern = join.memories.pattern; left = m.left.rows; right = m.own.names } })
+with_member m (node.Join join) = node.Join (record { memories = record { pattern = joined_pattern join; left = m.left.rows; right = m.own.names } })
 with_member m (node.Not waiting) = node.Not waiting
 with_member m (node.Exists tally) = node.Exists tally
 with_member m (node.Fold fold) = node.Fold fold
@@ -137,7 +139,7 @@ AreEmpty fans = (f : ℕ) (fan : Fan) → slice_get fans.list.items f ≡ Some f
 pub record IsFanLike (old new : Fan) : Type 0 where
   pub parent : new.parent ≡ old.parent
   pub places : new.places ≡ old.places
-  pub key : new.join.left.key ≡ old.join.left.key
+  pub key : shared_key new.join ≡ shared_key old.join
   pub many : length new.join.members.items ≡ length old.join.members.items
   pub patterns : (m : ℕ) (c d : Candidates) → slice_get old.join.members.items m ≡ Some c → slice_get new.join.members.items m ≡ Some d → d.pattern ≡ c.pattern
   pub reached : IsReached old.join → IsReached new.join

@@ -7,6 +7,7 @@ pub mod Timers
 pub mod Schedules
 pub mod Owners
 pub mod Nets
+pub mod Doors
 pub mod Forgetting
 pub mod Answers
 pub mod Dropped

@@ -11,6 +11,7 @@ use Rattle.rule_model.specs.Rows.{pattern_of}
 use Rattle.rule_model.specs.Snapshots.{Snapshot, floor}
 use Rattle.condition_rows.specs.Sets.{candidates_of}
 use Rattle.not_node.specs.Waiting.{NoneDue}
+use Rattle.not_node.specs.Doors.{waiting_rows}
 use Rattle.pattern_gate.specs.declared.gate.PatternGate.{PatternGate}
 use Rattle.pattern_gate.specs.Gates.{GateStands}
 use Rattle.pattern_gate.specs.Moves.{MovesSnapshot}
@@ -40,7 +41,7 @@ pub record IsGateStill (gate : PatternGate) (clock : ℤ) : Type 0 where
 -- no row of a `not` waits for a moment below this floor
 abbrev pub IsStillAt : Node → ℤ → Type 0
 IsStillAt (node.Join join) floor = Unit {0}
-IsStillAt (node.Not waiting) floor = NoneDue waiting.ripening.waiting.keys floor
+IsStillAt (node.Not waiting) floor = NoneDue (waiting_rows waiting) floor
 IsStillAt (node.Exists tally) floor = Unit {0}
 IsStillAt (node.Fold fold) floor = Unit {0}
 

@@ -4,6 +4,7 @@ use Rattle.rule_model.specs.declared.condition.Pattern.{Pattern}
 use Rattle.join_tests.specs.declared.row_key.RowKey.{RowKey}
 use Rattle.pair_memory.specs.declared.candidates.Candidates.{Candidates}
 use Rattle.fan_join.specs.Fans.{AreBeside, IsEmpty, IsReached}
+use Rattle.fan_join.specs.Doors.{shared_key}
 use Rattle.rete_net.specs.declared.fans.Fan.{Fan}
 use Rattle.rete_net.specs.declared.fans.Fans.{Fans}
 use Rattle.rete_net.specs.declared.fans.Span.{Span}
@@ -28,12 +29,12 @@ pub record GrowsTo (nodes : List NetNode) (from : ℕ) (old new : Fans) : Type 0
 pub record IsFanWith (fans : List Fan) (key : RowKey) (f : ℕ) : Type 0 where
   pub one : Fan
   pub found : slice_get fans f ≡ Some one
-  pub same : one.join.left.key ≡ key
+  pub same : shared_key one.join ≡ key
 
 -- a fan of a parent without members
 pub record IsNewFan (parent : ℕ) (key : RowKey) (fan : Fan) : Type 0 where
   pub behind : fan.parent ≡ parent
-  pub same : fan.join.left.key ≡ key
+  pub same : shared_key fan.join ≡ key
   pub members : fan.join.members.items ≡ []
   pub places : fan.places.items ≡ []
   pub beside : AreBeside fan.join

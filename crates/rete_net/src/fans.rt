@@ -6,6 +6,7 @@ ghost use Rattle.rete_net.specs.declared.fans.Seat.{Seat as SeatData};
 ghost use Rattle.rete_net.specs.declared.node.NetNode.{NetNode as NetNodeData};
 ghost use Rattle.rete_net.specs.Fans.{half_at, member_of, seat_at, given_span, AreFans, AreNamesTurnedAt, AreFanRowsTurned, AreWoken, IsHalf, IsLaidAs, IsLeft};
 ghost use Rattle.fan_join.specs.Reaching.{has_place};
+ghost use Rattle.fan_join.specs.Doors.{shared_key};
 ghost use Rattle.rete_net.specs.Steps.{no_change as nothing};
 
 use crate::build::no_change;
@@ -229,7 +230,7 @@ impl Fan {
     ) -> Result<BTreeMap<usize, Delta>, NoMemory>
         ensures parent { OnOk result (self.new.parent ≡ self.old.parent) }
         ensures places { OnOk result (self.new.places ≡ self.old.places) }
-        ensures key { OnOk result (self.new.join.left.key ≡ self.old.join.left.key) }
+        ensures key { OnOk result (shared_key self.new.join ≡ shared_key self.old.join) }
         ensures members { OnOk result (self.new.join.members ≡ self.old.join.members) }
         ensures reached { OnOk result (self.new.join.reached ≡ self.old.join.reached) }
         ensures turned { IfOk result (λ halves. AreBeside self.old.join → IsReached self.old.join → JoinTurned self.old.join self.new.join (F.map facts.now) gone.now come.now halves) }

@@ -1,5 +1,5 @@
 //! Laws of networks: each function's contract is the law, and its body is empty.
-ghost use Rattle.std.specs.Prelude.{◌≡◌, Bool};
+ghost use Rattle.std.specs.Prelude.{◌≡◌, Bool, length};
 ghost use Rattle.fx_base.specs.Lists.{In};
 ghost use Rattle.fx_base.specs.declared.fact.Fact.{Fact};
 ghost use Rattle.row_delta.specs.declared.row.Named.{Named};
@@ -10,6 +10,7 @@ ghost use Rattle.rule_model.specs.declared.program.Rule.{Rule};
 ghost use Rattle.rule_model.specs.Distinct.{HaveDistinctTags};
 ghost use Rattle.rule_model.specs.Snapshots.{Snapshot};
 ghost use Rattle.rete_net.specs.declared.net.Rete.{Rete};
+ghost use Rattle.rete_net.specs.Doors.{IsNetwork, rule_count};
 ghost use Rattle.rete_net.specs.Forgetting.{IsUnmissed, snapshot_without};
 ghost use Rattle.rete_net.specs.Nets.{NetStands, clean_rows};
 
@@ -23,4 +24,10 @@ pub fn a_forgotten_fact_may_go()
 pub fn no_clean_row_misses_a_forgotten_fact()
     ensures { (p : Program) (s : Snapshot) (forgotten : Named → Bool) (f : Fact) → HaveDistinctTags s.facts → IsUnmissed p s forgotten f
         → (rule : Rule) → In rule p.rules → (row : Row) → has (clean_rows p (snapshot_without s f) forgotten rule) row ≡ has (clean_rows p s forgotten rule) row }
+{}
+
+/// A network that stands for a snapshot is that of its program, and a program's network answers the changes of each of its rules.
+pub fn a_network_that_stands_is_its_programs()
+    ensures network { (p : Program) (net : Rete) (s : Snapshot) (forgotten : Named → Bool) → NetStands p net s forgotten → IsNetwork p net }
+    ensures rules { (p : Program) (net : Rete) → IsNetwork p net → rule_count net ≡ length p.rules }
 {}

@@ -10,12 +10,12 @@ ghost use Rattle.laden_rows.specs.Extras.{extra_cmp};
 ghost use Rattle.laden_rows.specs.Laden.{AreOwners};
 ghost use Rattle.rete_net.specs.declared.changes.RuleChange.{RuleChange as RuleChangeData};
 ghost use Rattle.rete_net.specs.declared.load.LoadFault.TheVariants.{NoMemory as OutOfMemory};
+ghost use Rattle.rete_net.specs.Doors.{IsNetwork};
 ghost use Rattle.rete_net.specs.Fans.{AreFans, IsLaidAs, shown_nodes};
 ghost use Rattle.rete_net.specs.Loading.{IsLoadable, IsThere, AreLadenRows, IsBehind};
 ghost use Rattle.rete_net.specs.Loads.{AreLoaded, IsStuck};
 ghost use Rattle.rete_net.specs.Nets.{NetStands};
 ghost use Rattle.rete_net.specs.Schedules.{AreScheduled};
-ghost use Rattle.rete_net.specs.Shapes.{IsNetOf};
 ghost use Rattle.rete_net.specs.Steps.{empty_row_comes};
 ghost use Rattle.rete_net.specs.Walks.{IsReplaced, IsWired};
 
@@ -71,7 +71,7 @@ impl Rete {
         moment: &Moment,
         facts: &F,
     ) -> Result<(Rete, Vec<RuleChange>), LoadFault>
-        ensures net { IsRunnable program.now → IfOk result (λ loaded. IsNetOf program.now loaded.0.nodes.items loaded.0.ends.items) }
+        ensures net { IsRunnable program.now → IfOk result (λ loaded. IsNetwork program.now loaded.0) }
         ensures rules { length program.now.rules < 2 ^ 16 → IfOk result (λ loaded. (c : RuleChangeData) → In c loaded.1.items → c.rule.0 < length program.now.rules) }
         ensures rows { IfOk result (λ loaded. (t : Snapshot) (owners : ℕ → ℕ → ℕ) → IsLoadable program.now t (lent kept.now) extras.now moment.now (F.map facts.now) → AreOwners program.now owners
             → AreLadenRows program.now t extras.now owners loaded.1.items) }

@@ -17,6 +17,7 @@ ghost use Rattle.condition_rows.specs.Sets.{rows_of};
 ghost use Rattle.pattern_gate.specs.Moves.{IsOrderly, MovesSnapshot, at_clock};
 ghost use Rattle.condition_node.specs.Quiet.{IsBefore};
 ghost use Rattle.rete_net.specs.declared.changes.RuleChange.{RuleChange as RuleChangeData};
+ghost use Rattle.rete_net.specs.Doors.{IsNetwork, node_count, quiet_time, rule_count};
 ghost use Rattle.rete_net.specs.Dropped.{AreDropped, AreListed, HaveForgotten};
 ghost use Rattle.rete_net.specs.Fans.{AreFans, IsLaidAs, shown_nodes};
 ghost use Rattle.rete_net.specs.Forgetting.{AreNotNeeded};
@@ -26,7 +27,7 @@ ghost use Rattle.rete_net.specs.Building.{AreBuilt, AreDistinctFronts, AreFronts
 ghost use Rattle.rete_net.specs.Owners.{AreOwnedSoFar};
 ghost use Rattle.rete_net.specs.Quiet.{AreQuiet};
 ghost use Rattle.rete_net.specs.Schedules.{AreScheduled};
-ghost use Rattle.rete_net.specs.Shapes.{CountsFronts, IsNetOf};
+ghost use Rattle.rete_net.specs.Shapes.{CountsFronts};
 ghost use Rattle.rete_net.specs.Steps.{NetStep};
 ghost use Rattle.rete_net.specs.Walks.{HasAnswered, IsReplaced, IsWired};
 
@@ -67,7 +68,7 @@ impl Rete {
     /// conditions, and for each of them it looks at the nodes that are there.
     pub fn build(alloc: Global, program: &Program) -> Result<(Rete, Vec<RuleChange>), NoMemory>
         ensures stands { IsRunnable program.now → IfOk result (λ built. (forgotten : NamedData → Bool) → NetStands program.now built.0 empty_snapshot forgotten) }
-        ensures net { IsRunnable program.now → IfOk result (λ built. IsNetOf program.now built.0.nodes.items built.0.ends.items) }
+        ensures net { IsRunnable program.now → IfOk result (λ built. IsNetwork program.now built.0) }
         ensures first { IsRunnable program.now → IfOk result (λ built. AreBetween program.now (λ rule. []) (λ rule. rows program.now empty_snapshot rule.conditions) built.1.items) }
     {
         let mut net = Rete::of_rules(alloc, program)?;
@@ -110,8 +111,8 @@ impl Rete {
             → HasAllOf (F.map facts.now) s forgotten → HasAllOf (F.map facts.now) next forgotten
             → AreBetween program.now (clean_rows program.now s forgotten) (clean_rows program.now next forgotten) changes.items) }
         // Whatever the network stands for: it stays that of its program, and the rules that are answered are the program's.
-        ensures net { (p : ProgramData) → IsNetOf p self.old.nodes.items self.old.ends.items → OnOk result (IsNetOf p self.new.nodes.items self.new.ends.items) }
-        ensures rules { length self.old.ends.items < 2 ^ 16 → IfOk result (λ changes. (c : RuleChangeData) → In c changes.items → c.rule.0 < length self.old.ends.items) }
+        ensures net { (p : ProgramData) → IsNetwork p self.old → OnOk result (IsNetwork p self.new) }
+        ensures rules { rule_count self.old < 2 ^ 16 → IfOk result (λ changes. (c : RuleChangeData) → In c changes.items → c.rule.0 < rule_count self.old) }
     {
         let none = no_change(alloc);
         let changes = self.step(alloc, program, &none, gone, come, moment, facts)?;
@@ -120,15 +121,15 @@ impl Rete {
 
     /// How many nodes there are: one for each distinct front of the rules' conditions. Takes no memory.
     pub fn nodes(&self) -> usize
-        ensures number { result ≡ length self.now.nodes.items }
-        ensures fronts { (p : ProgramData) → IsNetOf p self.now.nodes.items self.now.ends.items → CountsFronts p result }
+        ensures number { result ≡ node_count self.now }
+        ensures fronts { (p : ProgramData) → IsNetwork p self.now → CountsFronts p result }
     {
         self.nodes.len()
     }
 
     /// Whether a move of the clock to this moment, in milliseconds, changes nothing where no fact goes or comes. Takes no memory.
     pub fn is_quiet(&self, clock: Millis) -> bool
-        ensures exact { IsTrue result ↔ IsBefore self.now.quiet_until clock }
+        ensures exact { IsTrue result ↔ IsBefore (quiet_time self.now) clock }
         ensures stands { IsTrue result → (p : ProgramData) (s : Snapshot) (forgotten : NamedData → Bool) → NetStands p self.now s forgotten → s.clock ≤ℤ clock → IsOrderly p (at_clock s clock)
             → NetStands p self.now (at_clock s clock) forgotten }
         ensures rows { IsTrue result → (p : ProgramData) (s : Snapshot) (forgotten : NamedData → Bool) → NetStands p self.now s forgotten → s.clock ≤ℤ clock → IsOrderly p (at_clock s clock)
@@ -153,8 +154,8 @@ impl Rete {
             → NetStands program.now self.new s (either forgotten (has_name old.now))) }
         ensures dropped { IfOk result (λ answers. (s : Snapshot) (forgotten : NamedData → Bool) → NetStands program.now self.old s forgotten → HasAllOf (F.map facts.now) s forgotten
             → AreDropped program.now s forgotten (has_name old.now) answers.items) }
-        ensures listed { IfOk result (λ answers. AreListed answers.items (length self.old.ends.items)) }
-        ensures net { (p : ProgramData) → IsNetOf p self.old.nodes.items self.old.ends.items → OnOk result (IsNetOf p self.new.nodes.items self.new.ends.items) }
+        ensures listed { IfOk result (λ answers. AreListed answers.items (rule_count self.old)) }
+        ensures net { (p : ProgramData) → IsNetwork p self.old → OnOk result (IsNetwork p self.new) }
     {
         let dropped = self.forget_nodes(alloc, program, old, facts)?;
         let answers = rows_of_rules(alloc, &dropped, &self.ends)?;

@@ -7,6 +7,7 @@ ghost use Rattle.rete_net.specs.declared.node.NetNode.{NetNode as NetNodeData};
 ghost use Rattle.rete_net.specs.Fans.{seat_at, AreEmpty, AreFans, AreLoneFound};
 ghost use Rattle.rete_net.specs.Indexes.{is_listed};
 ghost use Rattle.rete_net.specs.Seating.{AreGrowing, GrowsTo, IsFanPut, IsFanWith, IsNewFan};
+ghost use Rattle.fan_join.specs.Doors.{shared_key};
 
 use crate::fans::{Fan, Fans, Seat, Span, seat_in};
 use crate::lists::Lists;
@@ -263,7 +264,7 @@ impl Fans {
         place: usize,
         pattern: &Pattern,
     ) -> Result<(), NoMemory>
-        requires { (f : FanData) → slice_get self.now.list.items fan ≡ Some f → row_key pattern.now ≡ f.join.left.key }
+        requires { (f : FanData) → slice_get self.now.list.items fan ≡ Some f → row_key pattern.now ≡ shared_key f.join }
         ensures spans { OnOk result (self.new.spans ≡ self.old.spans) }
         ensures grown { OnOk result ((nodes : List NetNodeData) (from : ℕ) (n : NetNodeData) → from ≤ fan → slice_get nodes place ≡ Some n → n.parent ≡ Some (length self.old.spans.items)
             → condition_of n.node ≡ Plain pattern.now → AreGrowing nodes self.old from → AreGrowing nodes self.new from) }
@@ -292,7 +293,7 @@ impl Fans {
 impl Fan {
     // Puts the node in a place as the next member.
     fn put(&mut self, alloc: Global, place: usize, pattern: &Pattern) -> Result<(), NoMemory>
-        requires { row_key pattern.now ≡ self.now.join.left.key }
+        requires { row_key pattern.now ≡ shared_key self.now.join }
         ensures { OnOk result (IsFanPut self.old self.new place pattern.now) }
     {
         let copy = pattern.copy(alloc)?;

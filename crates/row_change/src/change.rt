@@ -61,6 +61,9 @@ fn cross(alloc: Global, from: &mut RowSet, to: &mut RowSet, rows: Vec<Row>) -> R
     ensures from { OnOk result ((row : Row) → has from.new.keys row ≡ (has from.old.keys row && not (has rows.items row))) }
     ensures to { OnOk result ((row : Row) → has to.new.keys row ≡ (has to.old.keys row || (has rows.items row && not (has from.old.keys row)))) }
 {
+    if rows.is_empty() {
+        return Ok(());
+    }
     if from.is_empty() {
         to.insert_all(rows)?;
         return Ok(());

@@ -8,3 +8,4 @@ pub mod Reads
 pub mod Turns
 pub mod Limits
 pub mod Live
+pub mod Doors

@@ -1,6 +1,7 @@
 //! What takes the lines of a live script: commands, with a limit for each fire command, and what is asked beside them.
 ghost use Rattle.std.specs.Prelude.{◌≡◌, ◌++◌, ◌+◌, ◌*◌, ◌-◌, ◌<◌, ◌≤◌, ◌^◌, ℕ, List, Option, None, Some, length, map as list_map, option_map, IfOk, OnOk};
 ghost use Rattle.fx_io.specs.Answers.{Answers, UsesBytesUp};
+ghost use Rattle.rule_model.specs.Lent.{lent};
 ghost use Rattle.rule_world.specs.Worlds.{World};
 ghost use Rattle.change_read.specs.Changes.{type_named};
 ghost use Rattle.line_run.specs.Run.{state_in};
@@ -69,10 +70,10 @@ fn push_kept_of(
     form: &Form,
     program: &Program,
     number: u64,
-    facts: &[Fact],
+    facts: &[&Fact],
     place: usize,
 ) -> Result<(), NoMemory>
-    ensures { OnOk result (text.new.items ≡ text.old.items ++ written_kept form.now program.now number (of_type place facts.now)) }
+    ensures { OnOk result (text.new.items ≡ text.old.items ++ written_kept form.now program.now number (of_type place (lent facts.now))) }
 {
     for fact in facts {
         if fact.ty.0 as usize == place {

@@ -1,5 +1,6 @@
 //! What a run prints, by the form of its answers.
 ghost use Rattle.std.specs.Prelude.{◌≡◌, ◌++◌, ◌||◌, IfOk, OnOk, option_map};
+ghost use Rattle.rule_model.specs.Lent.{lent};
 ghost use Rattle.script_run.specs.Texts.{has_fault, is_fault};
 ghost use Rattle.script_run.specs.Written.{kept_by, written_counts, written_done, written_fault, written_kept, written_limit};
 ghost use Rattle.script_run.specs.Written.{written_line, written_lines, written_met, written_saved};
@@ -146,9 +147,9 @@ pub(crate) fn push_kept(
     form: &Form,
     program: &Program,
     number: u64,
-    facts: &[Fact],
+    facts: &[&Fact],
 ) -> Result<(), NoMemory>
-    ensures { OnOk result (text.new.items ≡ text.old.items ++ written_kept form.now program.now number facts.now) }
+    ensures { OnOk result (text.new.items ≡ text.old.items ++ written_kept form.now program.now number (lent facts.now)) }
 {
     for fact in facts {
         push_fact(text, alloc, form, program, number, fact)?;

@@ -1,5 +1,5 @@
 use crate::session::Session;
-use checkpoint::{Image, RunPart};
+use checkpoint::{Image, LentImage, RunPart};
 use engine::{Detail, Engine, Fired, Lines, ResumeFault};
 use fx_base::NoMemory;
 use rule_model::{LifeTable, Program};
@@ -71,7 +71,7 @@ impl Engine for DetailedSession {
         Session::save(inside, alloc, run)
     }
 
-    fn image(&self, alloc: Global, run: RunPart) -> Result<Image, NoMemory> {
+    fn image(&self, alloc: Global, run: RunPart) -> Result<LentImage<'_>, NoMemory> {
         Session::image(&self.inside, alloc, run)
     }
 

@@ -3,7 +3,6 @@ ghost use Rattle.rule_world.specs.Programs.{IsRunnable};
 ghost use Rattle.session.specs.Inspected.{IsCounted, all_floors, all_types as types_of_all};
 
 use crate::detailed::DetailedSession;
-use crate::saving::copies_of;
 use crate::session::Session;
 use crate::state::State;
 use engine::{Inspect, WorldCounts};
@@ -63,20 +62,20 @@ impl State {
 }
 
 impl Session {
+    ghost use Rattle.rule_model.specs.Lent.{lent};
     ghost use Rattle.rule_world.specs.Worlds.{World};
     ghost use Rattle.engine.specs.WorldCounts.{world_counts as counts_of_world};
     ghost use Rattle.engine.specs.KeptFacts.{kept_by_tag};
     ghost use Rattle.session.specs.Sessions.{SessionStands};
 
-    /// Copies of the facts that are kept, in the order of their tags. Time and memory grow with them.
-    pub fn kept(&self, alloc: Global) -> Result<Vec<Fact>, NoMemory>
+    /// The facts that are kept, in the order of their tags. Time grows with them, and memory by a reference each.
+    pub fn kept(&self, alloc: Global) -> Result<Vec<&Fact>, NoMemory>
         ensures { IfOk result (λ facts. (w : World) → SessionStands self.now w
-            → facts.items ≡ kept_by_tag self.now.setting.program self.now.setting.lives w) }
+            → lent facts.items ≡ kept_by_tag self.now.setting.program self.now.setting.lives w) }
     {
         // (that its table of lives is safe is known from this call)
         let _inside = self.setting.setting();
-        let facts = self.state.facts.facts(alloc)?;
-        copies_of(alloc, &facts)
+        self.state.facts.facts(alloc)
     }
 
     /// The clock, and counts. It goes over the types and the entry points, not over the facts, and takes memory for their numbers alone.
@@ -89,7 +88,7 @@ impl Session {
 }
 
 impl Inspect for Session {
-    fn kept(&self, alloc: Global) -> Result<Vec<Fact>, NoMemory> {
+    fn kept(&self, alloc: Global) -> Result<Vec<&Fact>, NoMemory> {
         Session::kept(self, alloc)
     }
 
@@ -99,7 +98,7 @@ impl Inspect for Session {
 }
 
 impl Inspect for DetailedSession {
-    fn kept(&self, alloc: Global) -> Result<Vec<Fact>, NoMemory> {
+    fn kept(&self, alloc: Global) -> Result<Vec<&Fact>, NoMemory> {
         Session::kept(&self.inside, alloc)
     }
 

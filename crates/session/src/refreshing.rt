@@ -1,10 +1,10 @@
-ghost use Rattle.std.specs.Prelude.{◌≡◌, ◌<◌, ◌^◌, ◌==◌, ◌||◌, length, ℕ, ℤ, Bool, List, filter_map, option_map, IfOk, OnOk};
+ghost use Rattle.std.specs.Prelude.{◌≡◌, ◌<◌, ◌^◌, ◌==◌, ◌||◌, ℕ, ℤ, Bool, List, filter_map, option_map, IfOk, OnOk};
 ghost use Rattle.std.specs.List.{list_any};
 ghost use Rattle.fact_store.specs.Held.{HeldFacts};
 ghost use Rattle.fx_base.specs.Lists.{In};
 ghost use Rattle.rete_net.specs.declared.changes.RuleChange.{RuleChange as RuleChangeData};
+ghost use Rattle.rete_net.specs.Doors.{IsNetwork, rule_count};
 ghost use Rattle.rete_net.specs.Nets.{AreBetween, NetStands, clean_rows};
-ghost use Rattle.rete_net.specs.Shapes.{IsNetOf};
 ghost use Rattle.session_laws.specs.Standing.{AreOfRules};
 ghost use Rattle.retention.specs.Retentions.{is_tag_among};
 ghost use Rattle.forgetting.specs.Steps.{HasLeft};
@@ -103,8 +103,8 @@ pub(crate) fn follow(
         → NetStands program.now net.old (facts_at before from) forgotten
         → OnOk result (IsRefreshed program.now.rules (clean_rows program.now (facts_at before from) forgotten) (clean_rows program.now (facts_at behind (instant_at moment.now)) forgotten) agenda.old agenda.new) }
     ensures left { IfOk result (λ left. HasLeft agenda.old agenda.new (is_tag_among left.items)) }
-    ensures shape { (p : ProgramData) → IsNetOf p net.old.nodes.items net.old.ends.items → OnOk result (IsNetOf p net.new.nodes.items net.new.ends.items) }
-    ensures rules { length net.old.ends.items < 2 ^ 16 → AreOfRules (length net.old.ends.items) agenda.old.pending → OnOk result (AreOfRules (length net.old.ends.items) agenda.new.pending) }
+    ensures shape { (p : ProgramData) → IsNetwork p net.old → OnOk result (IsNetwork p net.new) }
+    ensures rules { rule_count net.old < 2 ^ 16 → AreOfRules (rule_count net.old) agenda.old.pending → OnOk result (AreOfRules (rule_count net.old) agenda.new.pending) }
 {
     let gone = facts_at(alloc, facts, gone)?;
     let changes = net.advance(alloc, program, gone.as_slice(), come, moment, facts)?;

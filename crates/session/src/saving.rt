@@ -6,7 +6,6 @@ ghost use Rattle.rule_lives.specs.Keeping.{IsSafeTable};
 ghost use Rattle.rule_world.specs.Lawful.{IsLawful};
 ghost use Rattle.rule_world.specs.Programs.{IsRunnable};
 ghost use Rattle.rule_world.specs.Worlds.{World};
-ghost use Rattle.rule_model.specs.Lent.{lent};
 ghost use Rattle.rule_model.specs.Matches.{match_cmp};
 ghost use Rattle.image_laws.specs.Fitting.{Fits};
 ghost use Rattle.image_laws.specs.Images.{IsImageOf, match_fired};
@@ -16,18 +15,18 @@ ghost use Rattle.session_laws.specs.Restoring.{IsMatched, IsRestored};
 ghost use Rattle.session_laws.specs.Saving.{IsSessionSaved};
 ghost use Rattle.session_laws.specs.Standing.{Runs};
 ghost use Rattle.answer_lines.specs.declared.lines.Detail.TheVariants.{Brief};
+ghost use Rattle.checkpoint.specs.Pieces.{whole};
 ghost use Rattle.checkpoint.specs.declared.image.Image.{Image as ImageData};
 ghost use Rattle.session.specs.Restores.{AreOfImage};
 ghost use Rattle.session.specs.Sessions.{SessionStands};
 
-use crate::copying::copy_of;
 use crate::course::Course;
 use crate::restoring::{Restored, agenda_of};
 use crate::running::Running;
 use crate::session::Session;
 use crate::state::State;
 use agenda::Agenda;
-use checkpoint::{FiredMatch, Image, RunPart};
+use checkpoint::{FiredMatch, Image, LentImage, RunPart};
 use engine::{Detail, ResumeFault};
 use fact_store::FactStore;
 use fx_base::{Fact, NoMemory, Seq};
@@ -126,17 +125,6 @@ fn boxed(alloc: Global, state: State, memory: Memory) -> Result<(Box<State>, Box
     Ok((Box::new(alloc, state)?, Box::new(alloc, memory)?))
 }
 
-/// Copies of these facts, in their order.
-pub(crate) fn copies_of(alloc: Global, facts: &[&Fact]) -> Result<Vec<Fact>, NoMemory>
-    ensures { IfOk result (λ copies. copies.items ≡ lent facts.now) }
-{
-    let mut copies = Vec::with_capacity(alloc, facts.len())?;
-    for fact in facts {
-        copies.push(copy_of(alloc, fact)?)?;
-    }
-    Ok(copies)
-}
-
 // The fired matches of an agenda, by rule and row.
 fn fired_of(alloc: Global, agenda: &Agenda) -> Result<Vec<FiredMatch>, NoMemory>
     ensures matches { IfOk result (λ fired. list_map match_fired fired.items ≡ agenda.now.fired) }
@@ -198,21 +186,20 @@ impl State {
         Ok(image)
     }
 
-    // The same image, with copies of the facts.
-    fn copied(
+    // The same image, with the facts lent.
+    fn lent(
         &self,
         alloc: Global,
         run: RunPart,
         entries: usize,
         net: &Rete,
-    ) -> Result<Image, NoMemory>
-        ensures run { IfOk result (λ image. image.run ≡ run) }
-        ensures saved { IfOk result (IsSessionSaved self.now entries net.now) }
+    ) -> Result<LentImage<'_>, NoMemory>
+        ensures run { IfOk result (λ image. image.apart.run ≡ run) }
+        ensures saved { IfOk result (λ image. IsSessionSaved self.now entries net.now (whole image)) }
     {
-        let mut image = self.saved_apart(alloc, run, entries, net)?;
+        let apart = self.saved_apart(alloc, run, entries, net)?;
         let facts = self.facts.facts(alloc)?;
-        image.facts = Seq::from_vec(copies_of(alloc, &facts)?);
-        Ok(image)
+        Ok(LentImage { apart, facts })
     }
 }
 
@@ -229,14 +216,14 @@ impl Session {
         Box::into_inner(state).saved(alloc, run, entries, &memory.net)
     }
 
-    /// The same image. The session stays as it is; it copies the kept facts too.
-    pub fn image(&self, alloc: Global, run: RunPart) -> Result<Image, NoMemory>
-        ensures run { IfOk result (λ image. image.run ≡ run) }
+    /// The same image, of the session as it stays: it lends the kept facts.
+    pub fn image(&self, alloc: Global, run: RunPart) -> Result<LentImage<'_>, NoMemory>
+        ensures run { IfOk result (λ image. image.apart.run ≡ run) }
         ensures lawful { (w : World) → SessionStands self.now w → IsLawful self.now.setting.program w }
-        ensures image { IfOk result (λ image. (w : World) → SessionStands self.now w → IsImageOf self.now.setting.program self.now.setting.lives w image) }
+        ensures image { IfOk result (λ image. (w : World) → SessionStands self.now w → IsImageOf self.now.setting.program self.now.setting.lives w (whole image)) }
     {
         let entries = self.setting.setting().program.entries.as_slice().len();
-        self.state.copied(alloc, run, entries, &self.memory.net)
+        self.state.lent(alloc, run, entries, &self.memory.net)
     }
 
     /// A session of a program, with a safe table of lives, in each lawful world of which the image is that. Its lines tell in brief. `Unfit`:

@@ -8,7 +8,7 @@ use crate::running::Running;
 use crate::state::State;
 use agenda::Agenda;
 use change_read::asked_step;
-use checkpoint::{Image, RunPart};
+use checkpoint::{Image, LentImage, RunPart};
 use engine::{Detail, Engine, Fired, Lines, ResumeFault};
 use fx_base::{Millis, NoMemory, Seq};
 use rete_net::Rete;
@@ -268,7 +268,7 @@ impl Engine for Session {
         Session::save(self, alloc, run)
     }
 
-    fn image(&self, alloc: Global, run: RunPart) -> Result<Image, NoMemory> {
+    fn image(&self, alloc: Global, run: RunPart) -> Result<LentImage<'_>, NoMemory> {
         Session::image(self, alloc, run)
     }
 

@@ -74,11 +74,11 @@ pub use Rattle.pair_memory.specs.Joined.{has_name, joined}
 pub use Rattle.pair_memory.specs.Standing.{clean, cleaned, either, no_names}
 pub use Rattle.pattern_gate.specs.Moves.{IsOrderly, MovesSnapshot, shares_tag}
 pub use Rattle.rete_net.proofs.Cleaning.{has_clean}
+pub use Rattle.rete_net.specs.Doors.{IsNetwork}
 pub use Rattle.rete_net.specs.Dropped.{rows_for, AreDropped, AreListed}
 pub use Rattle.rete_net.specs.Forgetting.{AreNotNeeded, CountsNone, IsUnmissed, snapshot_without}
 pub use Rattle.rete_net.specs.Loading.{AreLadenRows, IsBehind, IsLoadable, IsThere, AreOutsideOfTime, coming}
 pub use Rattle.rete_net.specs.Nets.{NetStands, clean_rows, change_of, AreBetween, IsChange}
-pub use Rattle.rete_net.specs.Shapes.{IsNetOf}
 pub use Rattle.rete_net.specs.declared.changes.RuleChange.{RuleChange}
 pub use Rattle.rete_net.specs.declared.forgetting.RuleRows.{RuleRows}
 pub use Rattle.rete_net.specs.declared.net.Rete.{Rete}

@@ -6,10 +6,11 @@ use Rattle.session_laws.proofs.Common.{ReferenceFixed, Match, Program, Rule, Typ
 use Rattle.session_laws.proofs.Common.{type_or_first, IsRunnable, In, World, is_of_type, snapshot, all_of, of_map, has_pending, rule_of, in_place, Change}
 use Rattle.session_laws.proofs.Common.{Given, entry_asked, fields_step, insert_step, modify_step, new_step, promise_step, retract_step, sets_step, type_named}
 use Rattle.session_laws.proofs.Common.{values_step, entry_within, asked_fits, Detail, OutLine, append-nil, Memory, Setting, actions_of, new_line, AllWantKnown, has_known_places}
-use Rattle.session_laws.proofs.Common.{StayKnown, WantsKnown, planned, planned_for, held_at, IsNetOf, AreOfRules, Contents, Course, IsSound, ReachesNoMore}
-use Rattle.session_laws.proofs.Common.{Runs, Standing, reached_by, reached_of, nat_tests, moment_in, nothing_reached, is_event}
+use Rattle.session_laws.proofs.Common.{StayKnown, WantsKnown, planned, planned_for, held_at, IsNetwork, AreOfRules, Contents, Course, IsSound, ReachesNoMore}
+use Rattle.session_laws.proofs.Common.{Runs, Standing, reached_by, reached_of, nat_tests, moment_in, nothing_reached, is_event, facts_of, over}
 use Rattle.std.proofs.lemmas.Bool.{and_from, and_parts, and_right}
-use Rattle.rete_net.proofs.Fanwise.{net_under}
+use Rattle.rete_net.proofs.Networks.{network_of, rules_counted}
+use Rattle.rete_net.specs.Doors.{rule_count}
 use Rattle.std.specs.Prelude.{slice_get}
 use mathlib.Core.Bool.{Bool-set}
 use Rattle.rule_world.specs.Kinds.{step_fits}
@@ -233,7 +234,7 @@ retraction_known p lines Full ty id before = one_more_known p lines (Retracted i
 
 pub standing_sound : (s : Setting) (m : Memory) (k : Contents) (w : World) → Standing s m k w → ReachesNoMore s.program w.reached → IsSound s.program m k
 standing_sound s m k w st more = record {
-  net = net_under s.program m.net.nodes.items m.net.fans m.net.ends.items st.seen.stands.nodes.shape;
+  net = network_of s.program m.net (over (facts_of st.seen.all) k.clock (reached_of k)) st.seen.forgotten st.seen.stands;
   pending = λ q e.
       let p = s.program in
       let is_match = (and_parts (has_match (matches p (snapshot w)) q) (not (has_match w.fired q)) (sym (has_pending p w q) ∙ sym (st.holds.pending q) ∙ e)).0 in
@@ -267,13 +268,13 @@ promise_no_more p entry from was now has within before = subst (ReachesNoMore p)
 
 -- a network that is followed stays that of its program, and what becomes pending is of its rules
 pub followed_sound : (s : Setting) (m n : Memory) (k t : Contents) → Runs s → IsSound s.program m k
-    → (IsNetOf s.program m.net.nodes.items m.net.ends.items → IsNetOf s.program n.net.nodes.items n.net.ends.items)
-    → (length m.net.ends.items < 2 ^ 16 → AreOfRules (length m.net.ends.items) k.agenda.pending → AreOfRules (length m.net.ends.items) t.agenda.pending)
+    → (IsNetwork s.program m.net → IsNetwork s.program n.net)
+    → (rule_count m.net < 2 ^ 16 → AreOfRules (rule_count m.net) k.agenda.pending → AreOfRules (rule_count m.net) t.agenda.pending)
     → (ReachesNoMore s.program (reached_of k) → ReachesNoMore s.program (reached_of t)) → IsSound s.program n t
 followed_sound s m n k t runs sound shape rules reached = record {
   net = shape sound.net;
   pending =
-      let count : length m.net.ends.items ≡ length s.program.rules = sound.net.count in
+      let count : rule_count m.net ≡ length s.program.rules = rules_counted s.program m.net sound.net in
       let few = runs.runnable.few_rules in
       subst (λ (many : ℕ). AreOfRules many t.agenda.pending) count
       (rules (omega (arith, count, few)) (subst (λ (many : ℕ). AreOfRules many k.agenda.pending) (sym count) sound.pending));

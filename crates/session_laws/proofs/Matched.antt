@@ -4,7 +4,7 @@ use Rattle.session_laws.proofs.Common.{Result, Ok, Err, refl, sym, ap, subst, ar
 use Rattle.session_laws.proofs.Common.{Image, Timers, HeldFacts, itself, LifeTable, Moment, Program, saliences, Snapshot, most_millis, IsRunnable, below_of}
 use Rattle.session_laws.proofs.Common.{slice_get_within, Look, Marks, match_fired, snapshot_of, AreOwners, FitsPlainly, FitsByRows, Retention, has_listed_tag}
 use Rattle.session_laws.proofs.Common.{is_tag_among, is_named, PassesLives, Covers, Ends, is_old, past_law, ends_by, ends_of, RuleChange, Rete, AreLadenRows}
-use Rattle.session_laws.proofs.Common.{IsBehind, IsLoadable, IsThere, NetStands, IsNetOf, Memory, Setting, IsSafe, at_hand, comes_by, has_marked, is_laden}
+use Rattle.session_laws.proofs.Common.{IsBehind, IsLoadable, IsThere, NetStands, IsNetwork, Memory, Setting, IsSafe, at_hand, comes_by, has_marked, is_laden}
 use Rattle.session_laws.proofs.Common.{stored, AreHeld, AreMarked, IsMatched, IsRestored, NoneGo, AreOfRules, Contents, Course, IsSound, ReachesNoMore, Runs}
 use Rattle.session_laws.proofs.Common.{expiry_at, reached_of}
 use Rattle.std.proofs.lemmas.Bool.{and_parts, or_left}
@@ -60,7 +60,7 @@ module _ (p : Program) (table : LifeTable) (image : Image) (plain : FitsPlainly 
   rows_here : (changes : List RuleChange) → HasRows changes → (owners : ℕ → ℕ → ℕ) → AreOwners p owners → AreLadenRows p here image.extras owners changes
   rows_here changes has owners own = subst (λ (es : List Extra). AreLadenRows p here es owners changes) is_told (has here owners can_load own)
 
-  pub matched_is : (net : Rete) (changes : List RuleChange) (marks : Marks) (fired : List FiredMatch) → fired ≡ image.fired → IsNetOf p net.nodes.items net.ends.items
+  pub matched_is : (net : Rete) (changes : List RuleChange) (marks : Marks) (fired : List FiredMatch) → fired ≡ image.fired → IsNetwork p net
       → ((s t : Snapshot) (forgotten : Named → Bool) → IsLoadable p t kept told moment look → IsBehind p s t forgotten told look → NetStands p net s forgotten)
       → HasRows changes
       → ((t : Snapshot) (owners : ℕ → ℕ → ℕ) → IsLoadable p t kept told moment look → AreOwners p owners → (e : Extra) → In e told → IsThere p t told owners e true)

@@ -34,7 +34,7 @@ use Rattle.rete_net.specs.declared.changes.RuleChange.{RuleChange}
 use Rattle.rete_net.specs.declared.net.Rete.{Rete}
 use Rattle.rete_net.specs.Loading.{IsBehind, IsThere}
 use Rattle.rete_net.specs.Nets.{NetStands}
-use Rattle.rete_net.specs.Shapes.{IsNetOf}
+use Rattle.rete_net.specs.Doors.{IsNetwork}
 use Rattle.session_laws.specs.declared.memory.Memory.{Memory}
 use Rattle.session_laws.specs.declared.setting.Setting.{Setting}
 use Rattle.session_laws.specs.Standing.{Contents, IsSound, Standing, expiry_at}
@@ -108,7 +108,7 @@ at_hand image tag = map.get (stored image.facts) tag.0
 -- A network stands for each snapshot that is behind an image, and an agenda has the matches over its facts: what was fired is marked, and is
 -- there, as the rows of its extras are.
 pub record IsMatched (p : Program) (image : Image) (net : Rete) (marks : Marks) : Type 0 where
-  pub net_of : IsNetOf p net.nodes.items net.ends.items
+  pub net_of : IsNetwork p net
   pub stands : (s : Snapshot) (forgotten : Named → Bool) → IsBehind p s (snapshot_of image) forgotten image.extras (at_hand image) → NetStands p net s forgotten
   pub salient : marks.saliences ≡ saliences p.rules
   pub marked : (owners : ℕ → ℕ → ℕ) → AreOwners p owners → AreMarked (is_laden p image owners) image.fired marks

@@ -18,7 +18,7 @@ use Rattle.agenda.specs.Agendas.{Marks}
 use Rattle.pair_memory.specs.Standing.{clean}
 use Rattle.rete_net.specs.declared.net.Rete.{Rete}
 use Rattle.rete_net.specs.Nets.{NetStands}
-use Rattle.rete_net.specs.Shapes.{IsNetOf}
+use Rattle.rete_net.specs.Doors.{IsNetwork}
 use Rattle.retention.specs.declared.retention.Retention.{Retention}
 use Rattle.forgetting.specs.Sights.{Holding, HoldsKept, ends_by}
 use Rattle.forgetting.specs.Steps.{Forgets}
@@ -133,7 +133,7 @@ ReachesNoMore p reached = (entry : ℕ) → length p.entries ≤ entry → (reac
 -- What a session keeps to, whatever it stands for: its network is that of its program, what is pending are matches of the program's rules,
 -- and only the program's entry points have reached anything.
 pub record IsSound (p : Program) (m : Memory) (k : Contents) : Type 0 where
-  pub net : IsNetOf p m.net.nodes.items m.net.ends.items
+  pub net : IsNetwork p m.net
   pub pending : AreOfRules (length p.rules) k.agenda.pending
   pub reached : ReachesNoMore p (reached_of k)
 

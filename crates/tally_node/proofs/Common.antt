@@ -21,6 +21,7 @@ pub use Rattle.fx_base.proofs.Sequences.{is_some-false, is_some-map, is_some-val
 pub use Rattle.fx_base.proofs.Tests.{and_first, and_is, and_second, not_not, same_test}
 pub use Rattle.fx_base.specs.declared.ids.RuleId.{RuleId}
 pub use Rattle.join_tests.specs.Joins.{Look, joins}
+pub use Rattle.pair_memory.proofs.Keeping.{seen_after, if_not}
 pub use Rattle.pair_memory.proofs.Joining.{name_decides, row_decides}
 pub use Rattle.pair_memory.proofs.Turning.{any_name, keeps_then, less_more, more_more, name_absent, name_present, row_present}
 pub use Rattle.pair_memory.proofs.Valued.{from_unvalued, row_valued, unvalued_with}

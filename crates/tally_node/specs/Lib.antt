@@ -1,3 +1,4 @@
+pub mod Doors
 pub mod Origins
 pub mod Tallies
 pub mod Parts

@@ -180,12 +180,14 @@ impl<T: Tally> TallyNode<T> {
         ensures { OnOk result (PartStep (shown T.origin T.gives (T.output plan.now)) (AllFollow (T.holds plan.now) (F.map facts.now) (eq_by_cmp name_cmp who)) self.old.memories self.new.memories (F.map facts.now)
             (has_left self.old.memories (F.map facts.now)) (λ c. has_right self.old.memories (F.map facts.now) c && not (eq_by_cmp name_cmp who c)) change.old change.new) }
     {
-        if self.memories.take_right(who, facts) {
-            let rows = self.memories.partners(alloc, who, facts)?;
-            self.turn_all(alloc, plan, change, rows.as_slice(), false, who, facts)?;
-            return Ok(());
+        match self.memories.take_right(who, facts) {
+            Some(sight) => {
+                let rows = self.memories.partners(alloc, &sight, who, facts)?;
+                self.turn_all(alloc, plan, change, rows.as_slice(), false, who, facts)?;
+                Ok(())
+            }
+            None => Ok(()),
         }
-        Ok(())
     }
 
     fn name_comes<F: Facts>(
@@ -199,12 +201,14 @@ impl<T: Tally> TallyNode<T> {
         ensures { OnOk result (PartStep (shown T.origin T.gives (T.output plan.now)) (AllFollow (T.holds plan.now) (F.map facts.now) (eq_by_cmp name_cmp who)) self.old.memories self.new.memories (F.map facts.now)
             (has_left self.old.memories (F.map facts.now)) (λ c. has_right self.old.memories (F.map facts.now) c || eq_by_cmp name_cmp who c) change.old change.new) }
     {
-        if self.memories.put_right(alloc, who, facts)? {
-            return Ok(());
+        match self.memories.put_right(alloc, who, facts)? {
+            Some(sight) => {
+                let rows = self.memories.partners(alloc, &sight, who, facts)?;
+                self.turn_all(alloc, plan, change, rows.as_slice(), true, who, facts)?;
+                Ok(())
+            }
+            None => Ok(()),
         }
-        let rows = self.memories.partners(alloc, who, facts)?;
-        self.turn_all(alloc, plan, change, rows.as_slice(), true, who, facts)?;
-        Ok(())
     }
 
     fn names_leave<F: Facts>(

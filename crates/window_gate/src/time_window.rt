@@ -14,7 +14,7 @@ ghost use Rattle.window_gate.specs.Pieces.{Leave, Enter, has_time_come, takes_ou
 
 use crate::change::GateChange;
 use crate::rows::difference;
-use due_queue::DueMap;
+use due_queue::RisingMap;
 use fx_base::{FactId, Millis, NoMemory, Tag};
 use row_delta::{Delta, Named};
 use std::alloc::Global;
@@ -25,7 +25,7 @@ use std::ops::Bound;
 #[derive(Drop)]
 pub(crate) struct TimeWindow {
     pub(crate) millis: Millis,
-    leaving: DueMap<Millis, u64, FactId>,
+    leaving: RisingMap<Millis, u64, FactId>,
 }
 
 impl TimeWindow {
@@ -35,7 +35,7 @@ impl TimeWindow {
     {
         TimeWindow {
             millis,
-            leaving: DueMap::new(alloc),
+            leaving: RisingMap::new(alloc),
         }
     }
 
@@ -56,8 +56,8 @@ impl TimeWindow {
         }
     }
 
-    /// What is due leaves, and what comes enters where it is inside at this moment. It costs the logarithm of what is inside, for
-    /// each that enters or leaves; where none does, it takes no memory.
+    /// What is due leaves, and what comes enters where it is inside at this moment. Over many calls, it costs the logarithm of what
+    /// is inside, for each that enters or leaves; where none does, it takes no memory.
     pub(crate) fn step(
         mut self,
         alloc: Global,

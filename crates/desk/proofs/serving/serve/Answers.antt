@@ -26,6 +26,9 @@ returns-in-Err-ReadFault-clause-served g c files bytes told script = unbegun _ _
 pub returns-in-Err-NoMemory-clause-served : goal.returns-in-Err-NoMemory-clause-served
 returns-in-Err-NoMemory-clause-served g c files bytes told script = unbegun _ _ bytes _ _ 7 (omega arith) (omega arith)
 
+pub returns-in-Err-NoMemory-start-clause-served : goal.returns-in-Err-NoMemory-start-clause-served
+returns-in-Err-NoMemory-start-clause-served g c files bytes told script = unbegun _ _ bytes _ _ 7 (omega arith) (omega arith)
+
 pub returns-in-Refused-clause-served : goal.returns-in-Refused-clause-served
 unfolding file_limit
 returns-in-Refused-clause-served g c files bytes told script =

@@ -1,13 +1,15 @@
-use Rattle.pair_memory.proofs.Common.{◌∙◌, sym, ap, [], ◌∷◌, IfOk-weaker, Value, all_sought}
+use Rattle.pair_memory.proofs.Common.{◌≡◌, ◌∙◌, sym, ap, [], ◌∷◌, IfOk-weaker, Option, Value, option_map}
+use Rattle.std.proofs.Common.{Bor}
+use Rattle.join_tests.specs.Kept.{one_or_none}
 use Rattle.pair_memory.proofs.Found.{rows_alone, rows_both}
 use Rattle.pair_memory.proofs.making.made_with_name.Goals as goal
 
-pub returns-in-One : goal.returns-in-One
-returns-in-One g c =
-    let is = sym c.rows_sought.ensures ∙ ap all_sought c.in-One.is ∙ ap (λ (v : Value). v ∷ []) (sym c.value.ensures) in
-    IfOk-weaker c.rows_under.result _ _ (λ found h k. h k ∙ rows_alone c.args.pattern.now c.args.left.now (g.F.Facts.map c.args.facts.now) c.args.who c.value.result.now is k) c.rows_under.ensures
+pub returns-in-None : goal.returns-in-None
+returns-in-None g c seen =
+    let is = sym seen ∙ c.sought.ensures ∙ ap (λ (o : Option (Bor Value)). c.sought.result.0.now ∷ one_or_none (option_map (λ v. v.now) o)) c.in-None.is in
+    IfOk-weaker c.rows_under.result _ _ (λ found h k. h k ∙ rows_alone c.args.pattern.now c.args.left.now (g.F.Facts.map c.args.facts.now) c.args.who c.sought.result.0.now is k) c.rows_under.ensures
 
-pub returns-in-Two : goal.returns-in-Two
-returns-in-Two g c =
-    let is = sym c.rows_sought.ensures ∙ ap all_sought c.in-Two.is in
-    IfOk-weaker c.rows_of_both.result _ _ (λ found h k. h k ∙ rows_both c.args.pattern.now c.args.left.now (g.F.Facts.map c.args.facts.now) c.args.who c.in-Two.first c.in-Two.second is k) c.rows_of_both.ensures
+pub returns-in-Some : goal.returns-in-Some
+returns-in-Some g c seen =
+    let is = sym seen ∙ c.sought.ensures ∙ ap (λ (o : Option (Bor Value)). c.sought.result.0.now ∷ one_or_none (option_map (λ v. v.now) o)) c.in-Some.is in
+    IfOk-weaker c.rows_of_both.result _ _ (λ found h k. h k ∙ rows_both c.args.pattern.now c.args.left.now (g.F.Facts.map c.args.facts.now) c.args.who c.sought.result.0.now c.in-Some.second.now is k) c.rows_of_both.ensures

@@ -1,5 +1,6 @@
-use Rattle.session.proofs.Common.{◌≡◌, ◌∙◌, List, filter_map, option_map, refl, sym, subst, length, Fact, lent, clean_rows, facts_at, instant_at}
+use Rattle.session.proofs.Common.{◌≡◌, ◌∙◌, List, filter_map, option_map, refl, sym, subst, Fact, lent, clean_rows, facts_at, instant_at}
 use Rattle.pattern_gate.specs.Moves.{MovesSnapshot}
+use Rattle.rete_net.specs.Doors.{rule_count}
 use Rattle.rete_net.specs.Forgetting.{AreNotNeeded}
 use Rattle.session_laws.proofs.Leads.{found_going, has_before, has_behind, leads_move, on_ok}
 use Rattle.session.proofs.refreshing.follow.Goals as goal
@@ -39,4 +40,4 @@ returns-clause-agenda c before behind all from forgotten l st =
     (has_behind p before behind all from.clock to.clock gone come l.leads from.reached to.reached forgotten c.args.facts.now l.at_hand))
 
 pub returns-clause-rules : goal.returns-clause-rules
-returns-clause-rules c = λ few pending. c.refresh.ensures.rules (length c.args.net.now.ends.items) (c.in_ok-changes.ensures.rules few) pending
+returns-clause-rules c = λ few pending. c.refresh.ensures.rules (rule_count c.args.net.now) (c.in_ok-changes.ensures.rules few) pending

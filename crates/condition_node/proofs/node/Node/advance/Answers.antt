@@ -1,4 +1,4 @@
-use Rattle.condition_node.proofs.Common.{sym, refl, subst, SFits, to_z-of_z, w128, IsAt, FoldNode, Node}
+use Rattle.condition_node.proofs.Common.{sym, refl, subst, SFits, to_z-of_z, w128, IsAt, FoldNode, Node, blocking_pattern}
 use Rattle.condition_node.proofs.Turning.{floor_told}
 use Rattle.condition_node.proofs.Telling.{TurnsTo, Tells, join_turns, join_tells, exists_turns, exists_tells, not_turns, not_tells, fold_turns, fold_tells}
 use Rattle.condition_node.specs.declared.node.Node.TheVariants as node
@@ -29,7 +29,7 @@ returns-in_ok-delta-in-Not-clause-stands g c =
     let told = c.in_ok-delta-in-Not.ensures in
     let fits : SFits w128 c.floor-floor.result = search in
     let risen = simp to_z-of_z at told.floor in
-    let told_is = floor_told p c.args.moment.now c.pattern.result.now c.in-Not.waiting.tally.memories.pattern c.floor-floor.result c.pattern.ensures c.floor-floor.ensures in
+    let told_is = floor_told p c.args.moment.now c.pattern.result.now (blocking_pattern c.in-Not.waiting) c.floor-floor.result c.pattern.ensures c.floor-floor.ensures in
     subst (λ (old : Node). TurnsTo p (λ next. IsAt next c.args.moment.now) look old (node.Not new) c.args.left.now c.args.right.now) (sym c.in-Not.is)
     (not_turns p (λ next. IsAt next c.args.moment.now) look c.args.left.now c.args.right.now c.in-Not.waiting new told.kept told.tallies c.floor-floor.result told_is risen told.in_step)
 
@@ -41,7 +41,7 @@ returns-in_ok-delta-in-Not-clause-difference g c =
     let told = c.in_ok-delta-in-Not.ensures in
     let fits : SFits w128 c.floor-floor.result = search in
     let risen = simp to_z-of_z at told.floor in
-    let told_is = floor_told p c.args.moment.now c.pattern.result.now c.in-Not.waiting.tally.memories.pattern c.floor-floor.result c.pattern.ensures c.floor-floor.ensures in
+    let told_is = floor_told p c.args.moment.now c.pattern.result.now (blocking_pattern c.in-Not.waiting) c.floor-floor.result c.pattern.ensures c.floor-floor.ensures in
     subst (λ (old : Node). Tells p (λ next. IsAt next c.args.moment.now) look old c.args.left.now c.args.right.now delta) (sym c.in-Not.is)
     (not_tells p (λ next. IsAt next c.args.moment.now) look c.args.left.now c.args.right.now c.in-Not.waiting c.advance-in-Not.new.self told.kept told.tallies c.floor-floor.result told_is risen told.in_step delta told.difference)
 

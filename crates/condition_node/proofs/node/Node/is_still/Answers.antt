@@ -1,12 +1,12 @@
-use Rattle.condition_node.proofs.Common.{◌≡◌, sym, subst, SFits, to_z-of_z, w128, IsAt, Snapshot, floor}
+use Rattle.condition_node.proofs.Common.{◌≡◌, sym, subst, SFits, to_z-of_z, w128, IsAt, Snapshot, floor, awaited_entry, blocking_pattern}
 use Rattle.condition_node.proofs.Still.{Stays, TellsNothing, TellsOne, join_still, join_tells_nothing, exists_still, exists_tells_nothing, fold_still}
 use Rattle.condition_node.proofs.Still.{fold_tells_nothing, not_still, not_tells_nothing, not_tells_one}
 use Rattle.condition_node.proofs.Turning.{floor_told}
 use Rattle.condition_node.proofs.node.Node.is_still.Goals as goal
 
 -- the floor that is told is that of each snapshot of the moment
-told_is : (c : goal.After-is_still) (next : Snapshot) → IsAt next c.args.moment.now → c.floor-floor.result ≡ floor c.args.program.now next c.in-Not.waiting.tally.memories.pattern.entry.0
-told_is c = floor_told c.args.program.now c.args.moment.now c.pattern.result.now c.in-Not.waiting.tally.memories.pattern c.floor-floor.result c.pattern.ensures c.floor-floor.ensures
+told_is : (c : goal.After-is_still) (next : Snapshot) → IsAt next c.args.moment.now → c.floor-floor.result ≡ floor c.args.program.now next (awaited_entry c.in-Not.waiting)
+told_is c = floor_told c.args.program.now c.args.moment.now c.pattern.result.now (blocking_pattern c.in-Not.waiting) c.floor-floor.result c.pattern.ensures c.floor-floor.ensures
 
 pub returns-in-Not-clause-stands : goal.returns-in-Not-clause-stands
 returns-in-Not-clause-stands c told =

@@ -1,5 +1,5 @@
 use Rattle.condition_node.proofs.Common.{sym, refl, subst, SFits, to_z-of_z, w128, IsDifference, IsAt, no_rows, no_names, empty_snapshot, NodeStands, FoldNode}
-use Rattle.condition_node.proofs.Common.{Node, node_rows}
+use Rattle.condition_node.proofs.Common.{Node, node_rows, blocking_pattern}
 use Rattle.condition_node.proofs.Loading.{LoadsTo, join_loads, exists_loads, not_loads, fold_loads}
 use Rattle.condition_node.proofs.Turning.{floor_told}
 use Rattle.condition_node.specs.declared.node.Node.TheVariants as node
@@ -27,7 +27,7 @@ returns-in_ok-delta-in-Not-clause-laden g c =
     let told = c.in_ok-delta-in-Not.ensures in
     let fits : SFits w128 c.floor-floor.result = search in
     let risen = simp to_z-of_z at told.floor in
-    let told_is = floor_told p c.args.moment.now c.pattern.result.now c.in-Not.waiting.tally.memories.pattern c.floor-floor.result c.pattern.ensures c.floor-floor.ensures in
+    let told_is = floor_told p c.args.moment.now c.pattern.result.now (blocking_pattern c.in-Not.waiting) c.floor-floor.result c.pattern.ensures c.floor-floor.ensures in
     subst (λ (old : Node). LoadsTo p (λ s. IsAt s c.args.moment.now) look left right extras old (node.Not new)) (sym c.in-Not.is)
     (not_loads p (λ s. IsAt s c.args.moment.now) look left right extras c.in-Not.waiting new told.kept told.laden c.floor-floor.result told_is risen told.in_step)
 

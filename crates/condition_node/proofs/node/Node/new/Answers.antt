@@ -1,5 +1,5 @@
 use Rattle.condition_node.proofs.Common.{◌∙◌, sym, ap, SFits, to_z-of_z, w128, Accumulate, Pattern, no_rows, counts_blockers, counts_witnesses, gathers}
-use Rattle.condition_node.proofs.Common.{empty_snapshot, floor}
+use Rattle.condition_node.proofs.Common.{empty_snapshot, floor, blocker_tallies}
 use Rattle.condition_node.proofs.Moved.{stands_empty, counts_empty}
 use Rattle.condition_node.proofs.Turning.{waits_on_time}
 use Rattle.condition_node.proofs.node.Node.new.Goals as goal
@@ -13,7 +13,7 @@ returns-in_ok-pattern-in-Negated-clause-stands c look forgotten =
     let new = c.new-in-Negated in
     let fits : SFits w128 c.first_floor-floor.result = search in
     let floor_is = simp to_z-of_z at new.ensures.floor in
-    waits_on_time p new.result look empty_snapshot no_rows forgotten (counts_empty counts_blockers p new.result.tally.memories look forgotten (new.ensures.nothing look forgotten)) (new.ensures.in_step p look)
+    waits_on_time p new.result look empty_snapshot no_rows forgotten (counts_empty counts_blockers p (blocker_tallies new.result) look forgotten (new.ensures.nothing look forgotten)) (new.ensures.in_step p look)
     (floor_is ∙ c.first_floor-floor.ensures ∙ ap (λ (q : Pattern). floor p empty_snapshot q.entry.0) (sym new.ensures.pattern))
 
 pub returns-in_ok-pattern-in-Existing-clause-stands : goal.returns-in_ok-pattern-in-Existing-clause-stands

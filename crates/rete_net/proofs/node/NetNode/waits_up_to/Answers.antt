@@ -1,10 +1,11 @@
 use Rattle.rete_net.proofs.Common.{sym, subst, Node, IsStillAt}
+use Rattle.not_node.specs.Doors.{waiting_rows}
 use Rattle.rete_net.proofs.Scheduling.{none_below}
 use Rattle.rete_net.proofs.node.NetNode.waits_up_to.Goals as goal
 
 pub returns-in-Not : goal.returns-in-Not
 returns-in-Not c floor low =
-    subst (λ (n : Node). IsStillAt n floor) (sym c.in-Not.is) (none_below c.in-Not.waiting.ripening.waiting.keys c.next_moment.result floor c.next_moment.ensures.least low)
+    subst (λ (n : Node). IsStillAt n floor) (sym c.in-Not.is) (none_below (waiting_rows c.in-Not.waiting) c.next_moment.result floor c.next_moment.ensures.least low)
 
 pub returns-in-Join : goal.returns-in-Join
 returns-in-Join c floor low = subst (λ (n : Node). IsStillAt n floor) (sym c.in-Join.is) tt

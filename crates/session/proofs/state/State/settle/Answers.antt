@@ -1,6 +1,8 @@
 use Rattle.session.proofs.Common.{◌≡◌, ◌∙◌, ◌<◌, ◌^◌, true, List, ap, sym, subst, filter_map, length, FitsSigned, to_z, of_z, to_z-of_z, w64, rules, arith}
 use Rattle.session.proofs.Common.{Match, has_match, has_listed_tag, is_tag_among, is_named, PassesLives, Awaits, Contents, ReachesNoMore, reached_of, no_keys}
-use Rattle.session.proofs.Common.{safe_fewer, stands_less, stands_same, named_at, contents}
+use Rattle.session.proofs.Common.{safe_fewer, stands_less, stands_same, named_at, contents, facts_of, over}
+use Rattle.rete_net.proofs.Networks.{network_of, rules_counted}
+use Rattle.rete_net.specs.Doors.{rule_count}
 use Rattle.session.proofs.state.State.settle.Goals as goal
 
 pub invariant_of-self : goal.invariant_of-self
@@ -32,8 +34,9 @@ returns-clause-stands c w a =
     let awaits : Awaits s m k left w = subst (λ (z : Contents). Awaits s m z left w) (sym c.self.view_is) a in
     let passes : PassesLives k.clock left (is_named k.agenda) m.retention r (has_listed_tag old) = simp same at c.in_ok-old.ensures.passes in
     let names : c.in_ok-names.names.items ≡ filter_map (named_at k.facts) tags = c.in_ok-names.ensures ∙ ap (filter_map (named_at k.facts)) c.deref.ensures.value in
-    let count_of = length m.net.ends.items in
-    let count : count_of ≡ length s.program.rules = awaits.seen.stands.nodes.shape.count in
+    let count_of = rule_count m.net in
+    let count : count_of ≡ length s.program.rules =
+    rules_counted s.program m.net (network_of s.program m.net (over (facts_of awaits.seen.all) k.clock (reached_of k)) awaits.seen.forgotten awaits.seen.stands) in
     let few : count_of < 2 ^ 16 = omega (arith, count, c.requires.runs.runnable.few_rules) in
     let stands = simp c.deref-2.ensures.value at c.in_ok-dropped.ensures.stands in
     let dropped = simp c.deref-2.ensures.value at c.in_ok-dropped.ensures.dropped in

@@ -1,24 +1,26 @@
-use Rattle.tally_node.proofs.Common.{◌∙◌, sym, ap, List, eq_by_cmp, Row, has, name_cmp, joins, left_at, has_right, AllFollow, AllStay, name_absent}
+use Rattle.tally_node.proofs.Common.{◌∙◌, sym, ap, List, is_some, eq_by_cmp, Row, has, name_cmp, joins, left_at, has_right, AllFollow, AllStay, name_absent}
+use Rattle.tally_node.proofs.Common.{seen_after}
 use Rattle.tally_node.proofs.Following.{steps_follow_same}
 use Rattle.tally_node.proofs.Parts.{unmoved, part_then, leave_all}
 use Rattle.tally_node.proofs.node.TallyNode.name_leaves.Goals as goal
 
-pub returns-then-take_right : goal.returns-then-take_right
-returns-then-take_right g c =
+pub returns-in_ok-turn_all-in-Some : goal.returns-in_ok-turn_all-in-Some
+returns-in_ok-turn_all-in-Some g c =
     let look = g.F.Facts.map c.args.facts.now in
     let m = c.args.self.now.memories in
     let n = c.take_right.new.self in
     let z = c.turn_all.new.self.memories in
     let keeps = c.take_right.ensures.keeps in
+    let seen = seen_after m.pattern n.pattern look c.args.who c.take_right.result c.in-Some.sight c.take_right.ensures.sight c.in-Some.is keeps.pattern in
     part_then _ _ _ m n z look _ _ _ _ _ _ _ _ _
     (unmoved g.T.Tally.origin g.T.Tally.gives (g.T.Tally.output c.args.plan.now) (AllStay look) m n look _ _ c.args.change.now keeps c.take_right.ensures.left c.take_right.ensures.left)
-    c.in_ok-turn_all.ensures keeps.rows keeps.names
+    c.in_ok-turn_all-in-Some.ensures keeps.rows keeps.names
     (λ stay turned.
-    leave_all (g.T.Tally.holds c.args.plan.now) look m n z c.args.who (has c.as_slice.result.now) (λ r. ap (λ (rows : List Row). has rows r) c.as_slice.ensures.value ∙ c.in_ok-rows.ensures.rows r) stay c.in_ok-turn_all.ensures.keeps.names
-    keeps (sym c.take_right.ensures.taken ∙ c.if-take_right.true) turned)
+    leave_all (g.T.Tally.holds c.args.plan.now) look m n z c.args.who (has c.as_slice.result.now) (λ r. ap (λ (rows : List Row). has rows r) c.as_slice.ensures.value ∙ c.in_ok-rows-in-Some.ensures.rows seen r) stay c.in_ok-turn_all-in-Some.ensures.keeps.names
+    keeps (sym c.take_right.ensures.taken ∙ ap is_some c.in-Some.is) turned)
 
-pub returns : goal.returns
-returns g c =
+pub returns-in-None : goal.returns-in-None
+returns-in-None g c =
     let look = g.F.Facts.map c.args.facts.now in
     let m = c.args.self.now.memories in
     let n = c.take_right.new.self in
@@ -27,4 +29,4 @@ returns g c =
     unmoved g.T.Tally.origin g.T.Tally.gives (g.T.Tally.output c.args.plan.now) (AllFollow holds look (eq_by_cmp name_cmp c.args.who)) m n look _ _ c.args.change.now keeps c.take_right.ensures.left
     (λ world scope alike inside r.
     steps_follow_same holds world scope (has_right m look) (has_right n look) (joins m.pattern look r)
-    (λ x. keeps.names x ∙ name_absent (has_right m look) c.args.who (sym c.take_right.ensures.taken ∙ c.if-take_right.false) x) (left_at m look r) (left_at n look r) (c.take_right.ensures.left r))
+    (λ x. keeps.names x ∙ name_absent (has_right m look) c.args.who (sym c.take_right.ensures.taken ∙ ap is_some c.in-None.is) x) (left_at m look r) (left_at n look r) (c.take_right.ensures.left r))

@@ -1,0 +1,23 @@
+-- The bytes of a file that is made piece by piece.
+use Rattle.std.proofs.Common.{◌≡◌, ◌++◌, ◌+◌, ◌-◌, ◌≤◌, ℕ, List, length, Option, None, Some, refl, ap, ◌∙◌, append_assoc, arith}
+use Rattle.std.specs.Prelude.{option_map}
+use Rattle.std.proofs.lemmas.List.{length-append}
+use Rattle.fx_io.specs.Outside.{append}
+use Rattle.fx_store.specs.Puts.{IsDraft}
+use Rattle.line_run.specs.Saves.{Files}
+
+-- the file has a piece more
+pub grown : (files : Files) (draft draft' : Option (List ℕ)) (front piece : List ℕ) → IsDraft files draft front → draft' ≡ append draft piece → IsDraft files draft' (front ++ piece)
+grown files draft draft' front piece was is = is ∙ ap (λ (d : Option (List ℕ)). append d piece) was ∙ here files
+  where
+    here : (files : Files) → append (option_map (λ _. front) files) piece ≡ option_map (λ _. front ++ piece) files
+    here None = refl
+    here (Some f) = refl
+
+-- and the rest is what is left behind it
+pub left_behind : (front piece left rest whole : List ℕ) → piece ++ left ≡ rest → front ++ rest ≡ whole → (front ++ piece) ++ left ≡ whole
+left_behind front piece left rest whole is all = append_assoc front piece left ∙ ap (λ (z : List ℕ). front ++ z) is ∙ all
+
+-- so much room is left
+pub room_behind : (front piece : List ℕ) (room most : ℕ) → length piece ≤ room → length front + room ≡ most → length (front ++ piece) + (room - length piece) ≡ most
+room_behind front piece room most fits all = omega (arith, length-append front piece, fits, all)

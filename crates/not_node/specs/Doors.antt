@@ -1,0 +1,28 @@
+-- The parts of the node of a `not`, as other crates name them.
+use Rattle.std.specs.Prelude.{ℕ, ℤ, List}
+use Rattle.row_delta.specs.declared.row.Row.{Row}
+use Rattle.rule_model.specs.declared.condition.Pattern.{Pattern}
+use Rattle.pair_memory.specs.declared.memories.Memories.{Memories}
+use Rattle.tally_node.specs.declared.count.Blockers.{Blockers}
+use Rattle.tally_node.specs.Doors.{tallied_pattern}
+use Rattle.not_node.specs.declared.node.NotNode.{NotNode}
+
+-- the rows before it, each with the number of facts that block it, and these facts
+abbrev pub blocker_tallies : NotNode → Memories Blockers
+blocker_tallies node = node.tally.memories
+
+-- the pattern whose candidates block rows
+abbrev pub blocking_pattern : NotNode → Pattern
+blocking_pattern node = tallied_pattern node.tally
+
+-- the entry point by whose floor rows are mature
+abbrev pub awaited_entry : NotNode → ℕ
+awaited_entry node = (blocking_pattern node).entry.0
+
+-- the floor up to which rows were let through
+abbrev pub reached_floor : NotNode → ℤ
+reached_floor node = node.ripening.floor
+
+-- the rows that wait, each behind its moment, in order
+abbrev pub waiting_rows : NotNode → List (ℤ × Row)
+waiting_rows node = node.ripening.waiting.keys

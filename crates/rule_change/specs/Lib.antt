@@ -1,0 +1,5 @@
+pub mod Changed
+pub mod Refused
+pub mod Alike
+pub mod Told
+pub mod Images

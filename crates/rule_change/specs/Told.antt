@@ -1,0 +1,54 @@
+-- What is told of the rules before the first line.
+use Rattle.std.specs.Prelude.{◌&&◌, ◌+◌, ◌==◌, ◌++◌, ℕ, Bool, true, false, List, [], ◌∷◌, Option, Some, None, if◌then◌else◌}
+use Rattle.std.specs.List.{list_any}
+use Rattle.std.specs.Str.{bytes_eq}
+use Rattle.rule_model.specs.declared.program.Program.{Program}
+use Rattle.rule_model.specs.declared.program.Rule.{Rule}
+use Rattle.rule_change.specs.declared.code.RuleChange.{RuleChange}
+use Rattle.rule_change.specs.declared.code.RuleChange.TheVariants.{Stays, New, Gone}
+
+-- a rule by its name, and what becomes of it
+abbrev pub ToldRule : Type 0
+ToldRule = List ℕ × RuleChange
+
+abbrev pub change_of : Option ℕ → RuleChange
+change_of None = New
+change_of (Some old) = Stays
+
+-- the new rules, the first of which has this place
+unfoldable pub new_told : (ℕ → Option ℕ) → List Rule → ℕ → List ToldRule
+new_told from [] place = []
+new_told from (rule ∷ rules) place = (rule.name, change_of (from place)) ∷ new_told from rules (place + 1)
+
+-- the places of the old rules that stay, by the new ones, the first of which has this place
+unfoldable pub places_from : (ℕ → Option ℕ) → List Rule → ℕ → List (Option ℕ)
+places_from from [] place = []
+places_from from (rule ∷ rules) place = from place ∷ places_from from rules (place + 1)
+
+abbrev pub is_place : ℕ → Option ℕ → Bool
+is_place old None = false
+is_place old (Some place) = place == old
+
+-- the old rules that are gone, the first of which has this place
+unfoldable pub gone_told : List (Option ℕ) → List Rule → ℕ → List ToldRule
+gone_told stay [] place = []
+gone_told stay (rule ∷ rules) place =
+    if list_any (is_place place) stay then gone_told stay rules (place + 1) else ((rule.name, Gone) ∷ gone_told stay rules (place + 1))
+
+abbrev pub is_same_change : RuleChange → RuleChange → Bool
+is_same_change Stays Stays = true
+is_same_change New New = true
+is_same_change Gone Gone = true
+is_same_change _ _ = false
+
+abbrev pub is_same_told : ToldRule → ToldRule → Bool
+is_same_told a b = bytes_eq a.0 b.0 && is_same_change a.1 b.1
+
+-- each of them once, where it stands first, given those before
+unfoldable pub each_once : List ToldRule → List ToldRule → List ToldRule
+each_once before [] = []
+each_once before (told ∷ more) = if list_any (is_same_told told) before then each_once before more else (told ∷ each_once (told ∷ before) more)
+
+-- The new rules in their order, then the old ones that are gone, in theirs. The ways of a rule have its name, and are told once.
+unfoldable pub rules_told : Program → Program → (ℕ → Option ℕ) → List ToldRule
+rules_told p q from = each_once [] (new_told from q.rules 0 ++ gone_told (places_from from q.rules 0) p.rules 0)
