@@ -69,7 +69,8 @@ pub(crate) fn replace_at(pages: &mut Vec<Vec<u64>>, place: u64, value: u64) -> O
     }
 }
 
-/// Takes out the value at this place, and the pages without values at the end of the directory. Takes no memory.
+/// Takes out the value at this place, and the pages without values at the end of the directory; a directory without pages gives its
+/// memory back. Takes no memory.
 pub(crate) fn take_at(alloc: Global, pages: &mut Vec<Vec<u64>>, place: u64) -> Option<u64>
     ensures taken { result ≡ value_for_number (number_in_pages pages.old.items place) }
     ensures rest { (k : ℕ) → number_in_pages pages.new.items k ≡ cond (nat_eq place k) free (number_in_pages pages.old.items k) }
@@ -80,12 +81,12 @@ pub(crate) fn take_at(alloc: Global, pages: &mut Vec<Vec<u64>>, place: u64) -> O
         return None;
     }
     let value = take_from(alloc, &mut pages[number], (place % KEYS) as usize);
-    drop_last(pages);
+    drop_last(alloc, pages);
     value
 }
 
-/// Takes off the pages without values at the end of the directory.
-fn drop_last(pages: &mut Vec<Vec<u64>>)
+/// Takes off the pages without values at the end of the directory; a directory without pages gives its memory back.
+fn drop_last(alloc: Global, pages: &mut Vec<Vec<u64>>)
     ensures kept { (page place : ℕ) → number_in pages.new.items page place ≡ number_in pages.old.items page place }
     ensures short { ArePagesApart pages.old.items → ArePagesApart pages.new.items }
 {
@@ -94,6 +95,9 @@ fn drop_last(pages: &mut Vec<Vec<u64>>)
             break;
         }
         pages.pop();
+    }
+    if pages.is_empty() {
+        *pages = Vec::new(alloc);
     }
 }
 
