@@ -70,15 +70,3 @@ front_fit image front fit = (
     ),
   ),
 )
-
--- ---- the items of a list
-
--- where what is left is fit, so was what was left a turn before
-pub fit_before : {A : Type 0} (items : List A) (x : A) (F : A → Type 0) (i : ℕ) → i < length items → x ≡ get_or items i x → F x → Each F (drop (i + 1) items) → Each F (drop i items)
-fit_before items x F i lt is fit rest =
-    let cut : drop i items ≡ x ∷ drop (i + 1) items = drop_more items i x lt ∙ ap (λ y. y ∷ drop (i + 1) items) (sym is) in
-    subst (Each F) (sym cut) (fit, rest)
-
--- a list that ends is followed by the number of the next and its items
-pub next_list : (old out n items rest : List ℕ) → out ≡ old ++ n → out ++ (items ++ rest) ≡ old ++ ((n ++ items) ++ rest)
-next_list old out n items rest is = rw is (simp append_assoc)

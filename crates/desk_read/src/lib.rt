@@ -6,7 +6,6 @@
 mod asked;
 pub mod laws;
 mod line;
-mod members;
 
 pub use asked::Question;
 pub use line::question;

@@ -1,26 +1,13 @@
-ghost use Rattle.std.specs.Prelude.{◌≡◌, IfOk, codes, option_map};
+ghost use Rattle.std.specs.Prelude.{◌≡◌, IfOk, codes};
 ghost use Rattle.serde_json.specs.View.{view};
-ghost use Rattle.script_read.specs.Asked.{reading};
 ghost use Rattle.script_read.specs.Members.{text_member as text_under};
 ghost use Rattle.desk_read.specs.Questions.{save_of, facts_of, typed_parts, counts_of, question_in, question_of, TellsQuestion};
 
 use crate::asked::Question;
-use crate::members::{count, text_member};
 use fx_base::{NoMemory, Text};
+use script_read::{count, read_value, text_member};
 use serde_json::Value;
 use std::alloc::Global;
-
-// The value that a line is read as.
-#[tactic(auto, using(script_read::proofs::Readings::reading_of_text, script_read::proofs::Readings::no_reading))]
-fn read_value(alloc: Global, line: &[u8]) -> Result<Option<Value>, NoMemory>
-    ensures { IfOk result (λ found. option_map view found ≡ reading line.now) }
-{
-    match Value::from_slice(alloc, line) {
-        Ok(value) => Ok(Some(value)),
-        Err(fault) if fault.is_memory() => Err(NoMemory),
-        Err(_) => Ok(None),
-    }
-}
 
 #[tactic(auto, unfolding(crate::specs::Questions::save_of))]
 fn save(value: &Value) -> Option<Question>

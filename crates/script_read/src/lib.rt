@@ -21,5 +21,6 @@ pub use blank::is_blank;
 pub use fault::CommandFault;
 pub use flat::command_with;
 pub use given::Given;
-pub use line::command;
+pub use line::{command, read_value};
+pub use members::{count, text_member};
 pub use scratch::Scratch;

@@ -13,9 +13,9 @@ use fx_base::{NoMemory, Text};
 use serde_json::Value;
 use std::alloc::Global;
 
-// The value that a line is read as.
+/// The value that a line is read as, by `serde_json`; nothing where it is none.
 #[tactic(auto, using(crate::proofs::Readings::reading_of_text, crate::proofs::Readings::no_reading))]
-fn read_value(alloc: Global, line: &[u8]) -> Result<Option<Value>, NoMemory>
+pub fn read_value(alloc: Global, line: &[u8]) -> Result<Option<Value>, NoMemory>
     ensures { IfOk result (λ found. option_map view found ≡ reading line.now) }
 {
     match Value::from_slice(alloc, line) {

@@ -8,9 +8,9 @@ use serde_json::{Map, Value};
 // The greatest number of firings that a line may ask for.
 const MOST_FIRINGS: i64 = 1 << 53;
 
-/// The text under this name. Takes no memory.
+/// The text under this name; nothing where the value is no object, or has none there. Takes no memory.
 #[tactic(auto, unfolding(crate::specs::Members::text_member))]
-pub(crate) fn text_member<'a>(value: &'a Value, name: &str) -> Option<&'a str>
+pub fn text_member<'a>(value: &'a Value, name: &str) -> Option<&'a str>
     ensures { option_map (λ text. text.now) result ≡ text_under name.now (view value.now) }
 {
     match value.get(name) {
@@ -64,9 +64,9 @@ pub(crate) fn count_member(value: &Value, name: &str) -> Option<u64>
     }
 }
 
-/// How many members an object has. Takes no memory.
+/// How many members an object has; nothing where the value is no object. Takes no memory.
 #[tactic(auto, using(crate::proofs::Counts::members_are_entries), unfolding(crate::specs::Members::count))]
-pub(crate) fn count(value: &Value) -> Option<usize>
+pub fn count(value: &Value) -> Option<usize>
     ensures { result ≡ count_of (view value.now) }
 {
     match value.as_object() {
