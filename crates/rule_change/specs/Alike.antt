@@ -1,12 +1,16 @@
 -- What rules that stay have in a world and in one under other rules: the same matches, the same of them pending, step by step.
 use Rattle.std.specs.Prelude.{◌≡◌, ◌<◌, ℕ, map, length, Option, Some, None, slice_get}
+use Rattle.fx_base.specs.Lists.{In}
+use Rattle.rule_model.specs.declared.condition.Condition.{Condition}
 use Rattle.rule_model.specs.declared.matched.Match.{Match}
 use Rattle.rule_model.specs.declared.program.EntryInfo.{EntryInfo}
 use Rattle.rule_model.specs.declared.program.Program.{Program}
+use Rattle.rule_model.specs.declared.program.Rule.{Rule}
 use Rattle.rule_model.specs.declared.program.TypeInfo.{TypeInfo}
 use Rattle.rule_model.specs.declared.step.Step.{Step}
 use Rattle.rule_model.specs.declared.step.Step.TheVariants.{Insert, Modify, Retract, Advance, At, Promise, Begin}
 use Rattle.rule_model.specs.Matches.{has_match}
+use Rattle.rule_model.specs.Rows.{pattern_of}
 use Rattle.rule_model.specs.Types.{is_observed}
 use Rattle.rule_world.specs.Lawful.{IsLawful}
 use Rattle.rule_world.specs.Programs.{IsRunnable}
@@ -49,6 +53,14 @@ IsStepOf p (At moment) = Unit {0}
 IsStepOf p (Promise entry from) = entry.0 < length p.entries
 IsStepOf p Begin = Unit {0}
 
+-- The types and the entry points of patterns are the program's, as in every accepted rule file (no clause of its checks says so yet). Types of inserting
+-- actions are so by `is_typed`.
+abbrev pub HasPlaces : Program → Condition → Type 0
+HasPlaces p c = ((pattern_of c).ty.0 < length p.types) × ((pattern_of c).entry.0 < length p.entries)
+
+abbrev pub HavePlaces : Program → Type 0
+HavePlaces p = (rule : Rule) → In rule p.rules → (c : Condition) → In c rule.conditions → HasPlaces p c
+
 -- no two types and no two entry points have one name, as in every accepted rule file
 pub record HaveNames (p : Program) : Type 0 where
   pub types : (a b : ℕ) (one other : TypeInfo) → slice_get p.types a ≡ Some one → slice_get p.types b ≡ Some other → one.name ≡ other.name → a ≡ b
@@ -58,27 +70,28 @@ pub record HaveNames (p : Program) : Type 0 where
 pub record AreOver (p q : Program) (from : ℕ → Option ℕ) : Type 0 where
   pub runnable : IsRunnable p
   pub other_runnable : IsRunnable q
+  pub places : HavePlaces p
   pub names : HaveNames p
   pub other_names : HaveNames q
   pub have_types : HaveTypes p q
   pub have_entries : HaveEntries p q
   pub are_from : AreFrom p q from
 
--- ---- what is to hold; none of it is proved yet
+-- ---- what holds
 
 -- the world under the new rules is lawful, and alike
 abbrev pub AlikeAtChange : Type 0
 AlikeAtChange = (p q : Program) (from : ℕ → Option ℕ) (w : World) → AreOver p q from → IsLawful p w
     → IsLawful q (changed p q from w) × AreAlike p q from w (changed p q from w)
 
--- a rule that stays has the same pending
+-- A rule that stays has the same pending. A fact of no type of the old program would be moved to the first type of the new one, so the old world is lawful.
 abbrev pub SamePending : Type 0
-SamePending = (p q : Program) (from : ℕ → Option ℕ) (w w' : World) → AreOver p q from → AreAlike p q from w w'
+SamePending = (p q : Program) (from : ℕ → Option ℕ) (w w' : World) → AreOver p q from → IsLawful p w → AreAlike p q from w w'
     → (m : Match) (old : ℕ) → from m.rule.0 ≡ Some old → has_match (pending q w') m ≡ has_match (pending p w) (as_old old m)
 
--- the same steps have the same faults, but for a retraction of events that are observed by some of the rules alone
+-- the same steps have the same faults, but for a retraction of events that are observed by some of the rules alone; the old world is lawful, as above
 abbrev pub SameFault : Type 0
-SameFault = (p q : Program) (from : ℕ → Option ℕ) (w w' : World) → AreOver p q from → AreAlike p q from w w'
+SameFault = (p q : Program) (from : ℕ → Option ℕ) (w w' : World) → AreOver p q from → IsLawful p w → AreAlike p q from w w'
     → ((ty : ℕ) → ty < length p.types → is_observed q (new_type p q ty) ≡ is_observed p ty)
     → (step : Step) → IsStepOf p step → step_fault q w' (moved_step p q step) ≡ step_fault p w step
 

@@ -2,4 +2,4 @@ pub mod Changed
 pub mod Refused
 pub mod Alike
 pub mod Told
-pub mod Images
+pub mod Lives

@@ -4,21 +4,21 @@ use Rattle.std.specs.List.{list_any}
 use Rattle.std.specs.Str.{bytes_eq}
 use Rattle.rule_model.specs.declared.program.Program.{Program}
 use Rattle.rule_model.specs.declared.program.Rule.{Rule}
-use Rattle.rule_change.specs.declared.code.RuleChange.{RuleChange}
-use Rattle.rule_change.specs.declared.code.RuleChange.TheVariants.{Stays, New, Gone}
+use Rattle.rule_change.specs.declared.code.RuleStatus.{RuleStatus}
+use Rattle.rule_change.specs.declared.code.RuleStatus.TheVariants.{Stays, New, Gone}
 
 -- a rule by its name, and what becomes of it
 abbrev pub ToldRule : Type 0
-ToldRule = List ℕ × RuleChange
+ToldRule = List ℕ × RuleStatus
 
-abbrev pub change_of : Option ℕ → RuleChange
-change_of None = New
-change_of (Some old) = Stays
+abbrev pub status_of : Option ℕ → RuleStatus
+status_of None = New
+status_of (Some old) = Stays
 
 -- the new rules, the first of which has this place
 unfoldable pub new_told : (ℕ → Option ℕ) → List Rule → ℕ → List ToldRule
 new_told from [] place = []
-new_told from (rule ∷ rules) place = (rule.name, change_of (from place)) ∷ new_told from rules (place + 1)
+new_told from (rule ∷ rules) place = (rule.name, status_of (from place)) ∷ new_told from rules (place + 1)
 
 -- the places of the old rules that stay, by the new ones, the first of which has this place
 unfoldable pub places_from : (ℕ → Option ℕ) → List Rule → ℕ → List (Option ℕ)
@@ -35,14 +35,14 @@ gone_told stay [] place = []
 gone_told stay (rule ∷ rules) place =
     if list_any (is_place place) stay then gone_told stay rules (place + 1) else ((rule.name, Gone) ∷ gone_told stay rules (place + 1))
 
-abbrev pub is_same_change : RuleChange → RuleChange → Bool
-is_same_change Stays Stays = true
-is_same_change New New = true
-is_same_change Gone Gone = true
-is_same_change _ _ = false
+abbrev pub is_same_status : RuleStatus → RuleStatus → Bool
+is_same_status Stays Stays = true
+is_same_status New New = true
+is_same_status Gone Gone = true
+is_same_status _ _ = false
 
 abbrev pub is_same_told : ToldRule → ToldRule → Bool
-is_same_told a b = bytes_eq a.0 b.0 && is_same_change a.1 b.1
+is_same_told a b = bytes_eq a.0 b.0 && is_same_status a.1 b.1
 
 -- each of them once, where it stands first, given those before
 unfoldable pub each_once : List ToldRule → List ToldRule → List ToldRule

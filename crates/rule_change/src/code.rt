@@ -17,7 +17,7 @@ pub enum ChangeCode {
 
 /// What becomes of a rule where others come over a running world.
 #[derive(Clone, Copy, Debug, PartialEq, Eq)]
-pub enum RuleChange {
+pub enum RuleStatus {
     Stays,
     New,
     Gone,

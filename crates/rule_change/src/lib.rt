@@ -1,7 +1,9 @@
-//! Other rules over a running state: which rules stay, when the new ones are refused, and the world and the image under them.
-//! They are definitions, and no program goes by them yet. No call takes memory.
+//! Other rules over a running state: which rules stay, when the new ones are refused, the world under them, and that rules that stay have in it what
+//! they had in the old one, step by step. It has definitions and laws alone, as `image_change`, which has the images; no program goes by them yet. No
+//! call takes memory.
 #![tactic(auto)]
 
 mod code;
+pub mod laws;
 
-pub use code::{ChangeCode, RuleChange};
+pub use code::{ChangeCode, RuleStatus};

@@ -51,11 +51,6 @@ pub record IsChangedImage (p q : Program) (from : ℕ → Option ℕ) (image mad
 
 -- ---- what is to hold; none of it is proved yet
 
--- what is not refused for its lives goes on by a safe table
-abbrev pub CarriedIsSafe : Type 0
-CarriedIsSafe = (p q : Program) (from : ℕ → Option ℕ) (table own : LifeTable) (w : World) → AreOver p q from
-    → IsSafeTable p table → AreLives q own → AreShort own → IsVerdict p q from table own w None → IsSafeTable q (carried p q table own)
-
 -- of each lawful world of which the image is, the changed one is the image of the world under the new rules, with the carried lives
 abbrev pub ChangedIsImage : Type 0
 ChangedIsImage = (p q : Program) (from : ℕ → Option ℕ) (table own : LifeTable) (w : World) (image made : Image) → AreOver p q from

@@ -1,0 +1,3 @@
+//! The image of a world under other rules: made of its image under the old ones. It has definitions alone, no program goes by them yet, and no call
+//! takes memory.
+#![tactic(auto)]
