@@ -31,6 +31,8 @@ mod pending;
 #[cfg(test)]
 mod questions;
 #[cfg(test)]
+mod ranges;
+#[cfg(test)]
 mod rows;
 #[cfg(test)]
 mod texts;

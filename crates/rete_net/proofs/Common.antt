@@ -6,11 +6,13 @@ pub use Rattle.std.proofs.Common.{int_lt, nat_le, ◌-ℤ◌, IsTrue, Ok, Result
 pub use Rattle.std.proofs.Math.Bool.{and-false, and_assoc, or-true}
 pub use Rattle.std.proofs.Math.ListN.{set, length-set, drop_of_length-le}
 pub use Rattle.std.proofs.Math.Seq.{get_or-append_seam, take-append_seam}
+pub use Rattle.std.proofs.lemmas.Bool.{and_parts, or_left}
 pub use Rattle.std.proofs.lemmas.Bool.Decides.{nat_tests, Decides-eqb, same_from_decides}
 pub use Rattle.std.proofs.lemmas.Int.{ints}
 pub use Rattle.std.proofs.lemmas.List.{take_all, take_more, get_or-take, length-take-le, take-append-le, append_assoc, get_or_append_left, length-take}
 pub use Rattle.std.proofs.lemmas.List.{length_push, take_rest}
 pub use Rattle.std.proofs.lemmas.Option.{slice_get_within, slice_get-get_or, get_or_from_slice_get}
+pub use Rattle.std.proofs.lemmas.Result.{on_ok_weaker}
 pub use Rattle.std.specs.BTreeMap.{get, Updates, is_at, BTreeMap}
 pub use Rattle.std.specs.Cmp.{eq_by_cmp_equiv, nat_cmp_is, nat_cmp_total}
 pub use Rattle.std.specs.Global.{Vec}
@@ -51,6 +53,8 @@ pub use Rattle.fx_base.specs.Lists.{In}
 pub use Rattle.fx_base.specs.declared.fact.Fact.{Fact}
 pub use Rattle.fx_base.specs.declared.ids.RuleId.{RuleId}
 pub use Rattle.fx_base.specs.declared.ids.Tag.{Tag}
+pub use Rattle.fx_base.specs.declared.value.Value.{Value}
+pub use Rattle.fx_base.specs.declared.value.Value.TheVariants.{Int}
 pub use Rattle.laden_rows.proofs.Extras.{extra_count, extra_values, found_in}
 pub use Rattle.laden_rows.specs.Laden.{extra_at, laden_line, count_of, laden, laden_with, extra_values_of}
 pub use Rattle.join_tests.specs.Joins.{Look, joins}
@@ -73,7 +77,9 @@ pub use Rattle.pattern_gate.specs.Gates.{GateStands, has_good_window, arrivals, 
 pub use Rattle.pattern_gate.specs.Moves.{IsOrderly, MovesSnapshot, at_clock, shares_tag}
 pub use Rattle.pattern_gate.specs.Turns.{is_meant, is_one_meant}
 pub use Rattle.pattern_gate.specs.declared.gate.PatternGate.{PatternGate}
+pub use Rattle.range_index.specs.Ranges.{is_found}
 pub use Rattle.rete_net.specs.Answers.{answer_in, left_given, AreRuled, IsAnswerPut, some_answer, given}
+pub use Rattle.rete_net.specs.Bounds.{AreWithin}
 pub use Rattle.rete_net.specs.Building.{AreGrown, IsParentNode, HaveEnds, AreBuilt, AreDistinctFronts, IsBehindParent, AreFronts}
 pub use Rattle.rete_net.specs.Dropped.{NodeForgets, AreListed, rows_for, IsForgetting, AreDue, ForgotBelow, HasNoOld, dropped_before, AreDropped, AreOld}
 pub use Rattle.rete_net.specs.Dropped.{HaveForgotten, dropped_at, with_rows}
@@ -81,7 +87,7 @@ pub use Rattle.rete_net.specs.Fans.{AreFans, member_at, shown_nodes, Member, sho
 pub use Rattle.rete_net.specs.Fans.{IsOfSeat, half_of, in_fan, member_of, given_span, half_in, AreNamesTurnedAt, IsFanLike, with_member, AreEmpty, IsHalfTurned}
 pub use Rattle.rete_net.specs.Fans.{IsInSpan, IsSeat, given_seat, shown, AreWoken, AreLoneFound, AreFansBelow}
 pub use Rattle.rete_net.specs.Forgetting.{AreNotNeeded, CountsNone, snapshot_without, IsUnmissed}
-pub use Rattle.rete_net.specs.Indexes.{is_listed, IsNodeFound, IsIndexOf, is_changed_by_clock, is_in, items_of, type_of, IsAskedWhereMeant}
+pub use Rattle.rete_net.specs.Indexes.{is_listed, IsNodeFound, IsIndexOf, is_changed_by_clock, is_in, items_of, type_of, IsAskedWhereMeant, IsInRange}
 pub use Rattle.rete_net.specs.Loading.{IsLoadable, AreLadenRows, IsThere, coming}
 pub use Rattle.rete_net.specs.Loads.{is_fact_of_type, grouped_facts_at, AreLoaded, NodeLoad, is_extra_under, IsNodeLoad, IsStuck, comes_before, HasRowsOf}
 pub use Rattle.rete_net.specs.Loads.{given_facts}
@@ -110,6 +116,7 @@ pub use Rattle.rete_net.specs.declared.lists.Lists.{Lists}
 pub use Rattle.rete_net.specs.declared.load.LoadFault.TheVariants.{NoRow}
 pub use Rattle.rete_net.specs.declared.net.Rete.{Rete}
 pub use Rattle.rete_net.specs.declared.node.NetNode.{NetNode}
+pub use Rattle.rete_net.specs.declared.ranges.FieldRanges.{FieldRanges}
 pub use Rattle.rete_net.specs.declared.schedule.EntryTimers.{EntryTimers}
 pub use Rattle.rete_net.specs.declared.schedule.Schedule.{Schedule}
 pub use Rattle.rete_net.specs.declared.timers.Timers.{Timers}
@@ -135,7 +142,7 @@ pub use Rattle.rule_model.specs.Moments.{IsAt, snapshot_at}
 pub use Rattle.rule_model.specs.Rows.{pattern_of, rows, result_of}
 pub use Rattle.rule_model.specs.Simple.{is_whole, is_length, is_observed_in, observes}
 pub use Rattle.rule_model.specs.Snapshots.{Snapshot, floor}
-pub use Rattle.rule_model.specs.Tests.{tests_hold, results_hold}
+pub use Rattle.rule_model.specs.Tests.{tests_hold, results_hold, compare_holds, compares_hold}
 pub use Rattle.rule_model.specs.Tuples.{name_of, unbound, Bindings}
 pub use Rattle.rule_model.specs.Types.{expiry_of, is_event}
 pub use Rattle.rule_model.specs.declared.condition.Condition.{Condition}

@@ -21,6 +21,7 @@ pub mod Unmissed
 mod Answering
 mod Skipping
 mod Places
+mod Ranged
 mod Listed
 mod Lone
 mod Gating

@@ -1,9 +1,12 @@
 -- By what the nodes and the rules of a network are found.
-use Rattle.std.specs.Prelude.{◌≡◌, ◌⊎◌, ◌||◌, not, ℕ, Bool, true, false, List, [], Option, Some, None, nat_eq, slice_get}
+use Rattle.std.specs.Prelude.{◌≡◌, ◌⊎◌, ◌||◌, not, ℕ, ℤ, Bool, true, false, List, [], Option, Some, None, nat_eq, slice_get, FitsSigned}
+use Rattle.std.specs.Int.{w64}
 use Rattle.std.specs.List.{list_any}
 use Rattle.std.specs.Global.{Vec}
 use Rattle.fx_base.specs.declared.fact.Fact.{Fact}
 use Rattle.fx_base.specs.declared.value.Value.{Value}
+use Rattle.fx_base.specs.declared.value.Value.TheVariants.{Int}
+use Rattle.range_index.specs.Ranges.{is_found}
 use Rattle.row_delta.specs.declared.delta.Delta.{Delta}
 use Rattle.row_change.specs.Changes.{changes_nothing}
 use Rattle.rule_model.specs.declared.condition.Pattern.{Pattern}
@@ -15,6 +18,8 @@ use Rattle.rete_net.specs.declared.alpha_index.AlphaIndex.{AlphaIndex}
 use Rattle.rete_net.specs.declared.index.Index.{Index}
 use Rattle.rete_net.specs.declared.lists.Lists.{Lists}
 use Rattle.rete_net.specs.declared.node.NetNode.{NetNode}
+use Rattle.rete_net.specs.declared.ranges.FieldRanges.{FieldRanges}
+use Rattle.rete_net.specs.declared.ranges.Ranges.{Ranges}
 use Rattle.rete_net.specs.Selectors.{list_slot_of}
 
 -- ---- lists of places
@@ -42,13 +47,20 @@ type_of n = (pattern_of (condition_of n.node)).ty.0
 abbrev pub is_changed_by_clock : NetNode → Bool
 is_changed_by_clock n = is_negated (condition_of n.node) || not (is_whole (pattern_of (condition_of n.node)).window)
 
--- The place stands where the fact is looked up: among the nodes of its type that no constant tells apart, or in the list of what it has in
--- a field by which some are.
+-- ranges of a field of the fact's type, in which it has a number, find the place
+abbrev pub IsInRange : Ranges → Fact → ℕ → Type 0
+IsInRange ranges f k =
+    (at : ℕ) × (of : FieldRanges) × (number : ℤ) × (slice_get ranges.fields.items at ≡ Some of) × (is_listed ranges.by_type f.ty.0 at ≡ true)
+    × (slice_get f.fields of.field ≡ Some (Int number)) × (FitsSigned w64 number → is_found number of.ranges k ≡ true)
+
+-- The place stands where the fact is looked up: among the nodes of its type that no constant tells apart, in the list of what it has in a
+-- field by which some are, or under a range of a field in which it has a number.
 abbrev pub IsLookedUp : AlphaIndex → Fact → ℕ → Type 0
 IsLookedUp alpha f k =
     (is_listed alpha.others f.ty.0 k ≡ true)
     ⊎ ((field : ℕ) × (value : Value) × (slice_get f.fields field ≡ Some value) × (is_listed alpha.fields f.ty.0 field ≡ true)
     × (is_listed alpha.constants (list_slot_of alpha.mask f.ty.0 field value) k ≡ true))
+    ⊎ IsInRange alpha.ranges f k
 
 -- so it does for each fact that the pattern means
 abbrev pub IsAskedWhereMeant : AlphaIndex → Pattern → ℕ → Type 0

@@ -15,6 +15,7 @@ pub mod Steps
 pub mod Fans
 pub mod Seating
 pub mod Walks
+pub mod Bounds
 pub mod Building
 pub mod Loading
 pub mod Loads

@@ -3,20 +3,24 @@ ghost use Rattle.fx_base.specs.declared.fact.Fact.{Fact as FactData};
 ghost use Rattle.rete_net.specs.Indexes.{items_of, IsLookedUp, IsAskedWhereMeant};
 ghost use Rattle.rete_net.specs.Selectors.{list_slot_of};
 
+use crate::bounds::range_of;
 use crate::lists::Lists;
+use crate::ranges::Ranges;
 use crate::selector::{number_of, selector_of};
 use fx_base::{NoMemory, TypeId, Value};
 use rule_model::Pattern;
 use std::alloc::Global;
 
 /// By what the nodes are found whose patterns may mean a fact, by their places. A node whose pattern asks that a field is equal to a literal
-/// is found by a hash of the type, the field and the value, as selector nodes find theirs; the others by the type. A list of a hash may have
-/// nodes of other constants, which are asked too. An empty list takes 24 bytes, and there are none above the last with a node.
+/// is found by a hash of the type, the field and the value, as selector nodes find theirs; one whose pattern bounds a field by an order, by
+/// the ranges of the field; the others by the type. A list of a hash may have nodes of other constants, which are asked too. An empty list
+/// takes 24 bytes, and there are none above the last with a node.
 #[derive(Drop)]
 pub(crate) struct AlphaIndex {
     fields: Lists,
     mask: u64,
     constants: Lists,
+    ranges: Ranges,
     others: Lists,
 }
 
@@ -27,13 +31,15 @@ impl AlphaIndex {
             fields: Lists::new(alloc),
             mask: mask_above(nodes),
             constants: Lists::new(alloc),
+            ranges: Ranges::new(alloc),
             others: Lists::new(alloc),
         }
     }
 
     /// Puts the node in a place where the facts are looked up that its pattern means. Of several equalities it takes the first: nodes that
-    /// have this one alike, and are told apart by another, stand in one list and are each asked. It costs a look at the fields by which nodes
-    /// of the type are told apart, and the lists below that are not there yet.
+    /// have this one alike, and are told apart by another, stand in one list and are each asked. Without one it takes the bounds of the first
+    /// field that has some. It costs a look at the fields by which nodes of the type are told apart, and the lists below that are not there
+    /// yet.
     pub(crate) fn put(
         &mut self,
         alloc: Global,
@@ -52,11 +58,18 @@ impl AlphaIndex {
                 self.constants.put(alloc, slot, place)?;
                 Ok(())
             }
-            None => {
-                self.others.put(alloc, ty, place)?;
-                Ok(())
-            }
+            None => match range_of(pattern.alone.as_slice()) {
+                Some(range) => self.ranges.put(alloc, ty, range, place),
+                None => self.others.put(alloc, ty, place),
+            },
         }
+    }
+
+    /// Puts the ranges in their order: until then each is looked at. It costs the logarithm for each.
+    pub(crate) fn settle(&mut self, alloc: Global) -> Result<(), NoMemory>
+        ensures { OnOk result ((f : FactData) (k : ℕ) → IsLookedUp self.old f k → IsLookedUp self.new f k) }
+    {
+        self.ranges.settle(alloc)
     }
 
     /// The fields by which nodes of a type are told apart. Takes no memory.
@@ -71,6 +84,13 @@ impl AlphaIndex {
         ensures { result.now ≡ items_of (slice_get self.now.constants.lists.items (list_slot_of self.now.mask ty.0 field value.now)) }
     {
         self.constants.list(self.slot(ty, field, value))
+    }
+
+    /// The ranges by which nodes are found. Takes no memory.
+    pub(crate) fn ranges(&self) -> &Ranges
+        ensures { result.now ≡ self.now.ranges }
+    {
+        &self.ranges
     }
 
     /// The nodes of a type that are not told apart. Takes no memory.

@@ -1,6 +1,9 @@
-ghost use Rattle.std.specs.Prelude.{◌≡◌, ◌≤◌, ◌<◌, ◌||◌, ℕ, Some, true, false, nat_eq, option_map, slice_get, IfOk, IfSome, IsNone, OnOk};
+ghost use Rattle.std.specs.Prelude.{◌≡◌, ◌≤◌, ◌<◌, ◌||◌, ℕ, ℤ, Some, true, false, nat_eq, option_map, slice_get, FitsSigned, IfOk, IfSome, IsNone, OnOk};
+ghost use Rattle.std.specs.Int.{w64};
 ghost use Rattle.std.specs.List.{list_any};
 ghost use Rattle.fx_base.specs.declared.value.Value.{Value as ValueData};
+ghost use Rattle.fx_base.specs.declared.value.Value.TheVariants.{Int};
+ghost use Rattle.range_index.specs.Ranges.{is_found};
 ghost use Rattle.rule_model.specs.Lent.{lent};
 ghost use Rattle.rule_model.specs.Rows.{pattern_of};
 ghost use Rattle.pattern_gate.specs.Turns.{is_meant};
@@ -9,11 +12,14 @@ ghost use Rattle.rete_net.specs.Indexes.{is_in, is_listed, IsNodeFound, IsUnreac
 ghost use Rattle.fan_join.specs.Reaching.{has_place};
 ghost use Rattle.rete_net.specs.Selectors.{list_slot_of};
 ghost use Rattle.rete_net.specs.declared.node.NetNode.{NetNode as NetNodeData};
+ghost use Rattle.rete_net.specs.declared.ranges.FieldRanges.{FieldRanges as FieldRangesData};
 
 use crate::alpha_index::AlphaIndex;
 use crate::index::Index;
 use crate::node::NetNode;
-use fx_base::{Fact, NoMemory};
+use crate::ranges::Ranges;
+use fx_base::{Fact, NoMemory, Value};
+use range_index::Hits;
 use row_change::changes_nothing;
 use row_delta::Delta;
 use std::alloc::Global;
@@ -86,8 +92,9 @@ fn does_mean(nodes: &[NetNode], place: usize, fact: &Fact) -> bool
     }
 }
 
-/// Puts the nodes that mean a fact. Of those of its type it asks the ones that a value of the fact tells apart, and the ones that no constant
-/// tells apart. It costs a hash for each field by which nodes of the type are told apart.
+/// Puts the nodes that mean a fact. Of those of its type it asks the ones that a value of the fact tells apart, the ones in whose range it has
+/// a number, and the ones that no constant tells apart. It costs a hash for each field by which nodes of the type are told apart, and for each
+/// field with ranges the logarithm of these, once and for each node that is asked.
 fn put_fact(
     due: &mut BTreeSet<usize, Global>,
     nodes: &[NetNode],
@@ -100,6 +107,9 @@ fn put_fact(
 {
     let alpha = &index.alpha;
     put_meant(due, nodes, alpha.others(fact.ty), fact)?;
+    for at in alpha.ranges().of_type(fact.ty) {
+        put_in_range(due, nodes, alpha.ranges(), *at, fact)?;
+    }
     for field in alpha.fields(fact.ty) {
         put_selected(due, nodes, alpha, *field, fact)?;
     }
@@ -125,6 +135,45 @@ fn put_selected(
     }
 }
 
+// Puts the nodes that mean a fact, of those that are found by a range of the field that the ranges in a place are of.
+fn put_in_range(
+    due: &mut BTreeSet<usize, Global>,
+    nodes: &[NetNode],
+    ranges: &Ranges,
+    at: usize,
+    fact: &Fact,
+) -> Result<(), NoMemory>
+    ensures kept { OnOk result ((k : ℕ) → has_place due.old.keys k ≡ true → has_place due.new.keys k ≡ true) }
+    ensures put { OnOk result ((k : ℕ) (n : NetNodeData) (of : FieldRangesData) (number : ℤ) → slice_get nodes.now k ≡ Some n → slice_get ranges.now.fields.items at ≡ Some of
+        → slice_get fact.now.fields of.field ≡ Some (Int number) → (FitsSigned w64 number → is_found number of.ranges k ≡ true)
+        → is_meant (pattern_of (condition_of n.node)) fact.now ≡ true → has_place due.new.keys k ≡ true) }
+{
+    match ranges.get(at) {
+        Some(of) => match fact.fields.as_slice().get(of.field) {
+            Some(Value::Int(number)) => put_hits(due, nodes, of.ranges.hits(*number), fact),
+            _ => Ok(()),
+        },
+        None => Ok(()),
+    }
+}
+
+// Puts the nodes that mean a fact, of those that a range finds.
+fn put_hits(
+    due: &mut BTreeSet<usize, Global>,
+    nodes: &[NetNode],
+    mut hits: Hits,
+    fact: &Fact,
+) -> Result<(), NoMemory>
+    ensures kept { OnOk result ((k : ℕ) → has_place due.old.keys k ≡ true → has_place due.new.keys k ≡ true) }
+    ensures put { OnOk result ((k : ℕ) (n : NetNodeData) → slice_get nodes.now k ≡ Some n → is_in hits.entry k ≡ true
+        → is_meant (pattern_of (condition_of n.node)) fact.now ≡ true → has_place due.new.keys k ≡ true) }
+{
+    'hits: while let Some(place) = hits.next() {
+        put_if_meant(due, nodes, place, fact)?;
+    }
+    Ok(())
+}
+
 /// Puts the nodes that mean one of these facts.
 fn put_facts(
     due: &mut BTreeSet<usize, Global>,
@@ -143,7 +192,7 @@ fn put_facts(
 }
 
 /// Puts the nodes that a step reaches by facts: those that mean one that goes or comes, and the first ones where something comes to them.
-/// It asks the nodes of the types of these facts, but for those that a constant tells apart which the fact does not have.
+/// It asks the nodes of the types of these facts, but for those that a constant or a range tells apart which the fact does not have.
 pub(crate) fn put_reached(
     due: &mut BTreeSet<usize, Global>,
     nodes: &[NetNode],

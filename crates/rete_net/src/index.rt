@@ -32,6 +32,7 @@ impl Index {
         for (place, node) in nodes.iter().enumerate() {
             index.put_node(alloc, place, node)?;
         }
+        index.alpha.settle(alloc)?;
         for (rule, end) in ends.iter().enumerate() {
             index.put_rule(alloc, rule, *end)?;
         }

@@ -5,6 +5,7 @@
 
 mod alpha_index;
 mod answered;
+mod bounds;
 mod build;
 mod changes;
 mod due;
@@ -21,6 +22,7 @@ mod net;
 mod node;
 mod pieces;
 mod quiet;
+mod ranges;
 mod schedule;
 mod seating;
 mod selector;

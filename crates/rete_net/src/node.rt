@@ -188,7 +188,9 @@ impl NetNode {
         if join_pattern(&self.node).is_some() {
             return Ok(Vec::new(alloc));
         }
-        let extras = self.node.extras(alloc, owner.rule, owner.condition, facts)?;
+        let extras = self
+            .node
+            .extras(alloc, None, owner.rule, owner.condition, facts)?;
         Ok(extras)
     }
 

@@ -20,7 +20,8 @@ pub loop-rule-init : goal.loop-rule-init
 loop-rule-init c = record {
   found = λ k n e.
       let within : k < length c.args.nodes.now = slice_get_within c.args.nodes.now k n e in
-      c.loop-place.invariant k n (omega arith) e;
+      let was = c.loop-place.invariant k n (omega arith) e in
+      record { typed = was.typed; asked = λ f meant. c.in_ok-settle.ensures f k (was.asked f meant); first = was.first };
   ended = λ rule end lt e. absurd (omega arith);
 }
 
