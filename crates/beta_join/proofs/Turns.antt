@@ -9,6 +9,11 @@ use Rattle.pair_memory.specs.Joined.{joined}
 use Rattle.pair_memory.proofs.Joining.{row_decides, name_decides, joined_alike}
 use Rattle.pair_memory.proofs.Keeping.{made_after}
 use Rattle.fx_base.proofs.Tests.{and_or_and}
+use Rattle.beta_join.proofs.Common.{subst, ℕ, ◌+◌, ◌<◌, ◌≤◌, length, take, get_or, [], has_name, any_name, sharing, take_all, NamesTurned}
+use Rattle.pair_memory.specs.declared.candidates.Candidates.{Candidates}
+use Rattle.pair_memory.specs.Handed.{moved}
+use Rattle.pair_memory.specs.Shared.{AreHanded}
+use Rattle.pair_memory.proofs.Handed.{next_may, moved_more, moved_none, may_go, may_come, handed_joined}
 
 splits_imply : (t u : Row → Named → Bool) (b : Bool) → ((l : Row) (c : Named) → t l c ≡ true → u l c ≡ b) → (o : Option (Row × Named)) → splits t o ≡ true → splits u o ≡ b
 splits_imply t u b h None e = let f : false ≡ true = e in cc
@@ -204,3 +209,65 @@ turned_then first next last look left left_next left_now right right_next right_
   keeps = keeps_then first next last look left left_next left_now right right_next right_now k.keeps m.keeps h j;
   leads = λ old before. m.leads old (k.leads old before);
 }
+
+-- ---- candidates that are handed, one after another
+
+module _ {S : Type 0} (m : Memories S) (look : Look) where
+  -- the rows that are made of the left rows and a set of candidates
+  abbrev makes : (Named → Bool) → Row → Bool
+  makes set = joined (joins m.pattern look) (has_left m look) set
+
+  module _ (who : Named) (set : Named → Bool) (old : Row → Bool) (change changed : Change) (rows : List Row) (are : (r : Row) → has rows r ≡ makes (eq_by_cmp name_cmp who) r)
+      (leads : LeadsRows old (makes set) change.gone.keys change.come.keys) where
+    pub handed_goes : (comes : Bool) → comes ≡ false → set who ≡ not comes
+        → ((old now : Row → Bool) → LeadsRows old now change.gone.keys change.come.keys → ((r : Row) → has rows r ≡ true → now r ≡ true) → LeadsRows old (without now rows) changed.gone.keys changed.come.keys)
+        → LeadsRows old (makes (moved comes (eq_by_cmp name_cmp who) set)) changed.gone.keys changed.come.keys
+    handed_goes true e there leave = let f : true ≡ false = e in cc
+    handed_goes false e there leave =
+        leads_alike old (without (makes set) rows) (makes (moved false (eq_by_cmp name_cmp who) set)) changed.gone.keys changed.come.keys
+        (leave old (makes set) leads (λ r e. name_inside (joins m.pattern look) (has_left m look) set who there r (sym (are r) ∙ e)))
+        (λ r. ap (λ b. makes set r && not b) (are r) ∙ sym (name_less (joins m.pattern look) (has_left m look) set who r))
+
+    pub handed_comes : (comes : Bool) → comes ≡ true → set who ≡ not comes
+        → ((old now : Row → Bool) → LeadsRows old now change.gone.keys change.come.keys → ((r : Row) → has rows r ≡ true → now r ≡ false) → LeadsRows old (along now rows) changed.gone.keys changed.come.keys)
+        → LeadsRows old (makes (moved comes (eq_by_cmp name_cmp who) set)) changed.gone.keys changed.come.keys
+    handed_comes false e absent arrive = let f : false ≡ true = e in cc
+    handed_comes true e absent arrive =
+        leads_alike old (along (makes set) rows) (makes (moved true (eq_by_cmp name_cmp who) set)) changed.gone.keys changed.come.keys
+        (arrive old (makes set) leads (λ r e. name_outside (joins m.pattern look) (has_left m look) set who absent r (sym (are r) ∙ e)))
+        (λ r. ap (λ b. makes set r || b) (are r) ∙ sym (name_more (joins m.pattern look) (has_left m look) set who r))
+
+  made_alike : (set other : Named → Bool) → ((c : Named) → set c ≡ other c) → (r : Row) → makes set r ≡ makes other r
+  made_alike set other h = joined_alike (joins m.pattern look) (has_left m look) (has_left m look) set other (λ l. refl) h
+
+  module _ (comes : Bool) (names : List Named) where
+    pub none_turned : (change : Change) → NamesTurned m look comes names [] change change
+    none_turned change set old may before =
+        leads_alike old (makes set) (makes (moved comes (has_name []) set)) change.gone.keys change.come.keys before (made_alike set (moved comes (has_name []) set) (λ c. sym (moved_none comes set c)))
+
+    pub one_turned : (i : ℕ) → i < length names → (change next changed : Change) → NamesTurned m look comes names (take i names) change next
+        → ((set : Named → Bool) (old : Row → Bool) → set (get_or names i any_name) ≡ not comes → LeadsRows old (makes set) next.gone.keys next.come.keys
+        → LeadsRows old (makes (moved comes (eq_by_cmp name_cmp (get_or names i any_name)) set)) changed.gone.keys changed.come.keys)
+        → NamesTurned m look comes names (take (i + 1) names) change changed
+    one_turned i below change next changed so_far turn set old may before =
+        let these = moved comes (has_name (take i names)) set in
+        leads_alike old (makes (moved comes (eq_by_cmp name_cmp (get_or names i any_name)) these)) (makes (moved comes (has_name (take (i + 1) names)) set)) changed.gone.keys changed.come.keys
+        (turn these old (next_may names set i below comes may) (so_far set old may before)) (made_alike _ _ (moved_more names set i below comes))
+
+    pub all_turned : (i : ℕ) → length names ≤ i → (change changed : Change) → NamesTurned m look comes names (take i names) change changed → NamesTurned m look comes names names change changed
+    all_turned i past change changed = subst (λ (some : List Named). NamesTurned m look comes names some change changed) (take_all i names past)
+
+  module _ (was : Candidates) (gone : List Named) where
+    -- the rows of what was there before, and of what is there
+    pub handed_lead : (come : List Named) → AreHanded m look (has_right (sharing m was) look) (has_right m look) gone come → (old : Row → Bool) (change next changed : Change)
+        → NamesTurned m look false gone gone change next → NamesTurned m look true come come next changed
+        → LeadsRows old (made (sharing m was) look) change.gone.keys change.come.keys → LeadsRows old (made m look) changed.gone.keys changed.come.keys
+    handed_lead come handed old change next changed go arrive before =
+        let right = has_right (sharing m was) look in
+        leads_alike old (makes (moved true (has_name come) (moved false (has_name gone) right))) (made m look) changed.gone.keys changed.come.keys
+        (arrive (moved false (has_name gone) right) old (may_come m look right (has_right m look) gone come handed) (go right old (may_go m look right (has_right m look) gone come handed) before))
+        (handed_joined m look right (has_right m look) gone come handed)
+
+    pub handed_leave : AreHanded m look (has_right (sharing m was) look) (has_right m look) gone [] → (old : Row → Bool) (change changed : Change)
+        → NamesTurned m look false gone gone change changed → LeadsRows old (made (sharing m was) look) change.gone.keys change.come.keys → LeadsRows old (made m look) changed.gone.keys changed.come.keys
+    handed_leave handed old change changed go = handed_lead [] handed old change changed changed go (none_turned true [] changed)

@@ -1,19 +1,29 @@
-ghost use Rattle.std.specs.Prelude.{◌≡◌, ◌&&◌, ◌||◌, not, Bool, OnOk, IfOk};
+ghost use Rattle.std.specs.Prelude.{◌≡◌, ◌&&◌, ◌||◌, not, None, Bool, false, OnOk, IfOk};
 ghost use Rattle.std.specs.Ordering.{eq_by_cmp};
 ghost use Rattle.row_delta.specs.declared.row.Row.{Row};
 ghost use Rattle.row_delta.specs.declared.row.Named.{Named};
+ghost use Rattle.row_delta.specs.declared.delta.Delta.{Delta};
 ghost use Rattle.row_delta.specs.Rows.{has, row_cmp, InOrder};
 ghost use Rattle.row_delta.specs.NameOrder.{name_cmp};
-ghost use Rattle.row_change.specs.Changes.{IsDifference};
-ghost use Rattle.join_tests.specs.Joins.{Look};
+ghost use Rattle.row_change.specs.Changes.{IsDifference, LeadsRows};
+ghost use Rattle.fx_base.specs.Values.{same_value};
+ghost use Rattle.alpha_memory.specs.JoinIndex.{at};
+ghost use Rattle.join_tests.specs.JoinValues.{shown};
+ghost use Rattle.join_tests.specs.Joins.{Look, joins};
+ghost use Rattle.join_tests.specs.Kept.{row_value};
 ghost use Rattle.pair_memory.specs.Memories.{has_left, has_right, made, KeepsMemories};
-ghost use Rattle.pair_memory.specs.Joined.{has_name};
+ghost use Rattle.pair_memory.specs.declared.candidates.Candidates.{Candidates};
+ghost use Rattle.pair_memory.specs.Handed.{moved};
+ghost use Rattle.pair_memory.specs.Joined.{has_name, joined};
+ghost use Rattle.pair_memory.specs.Shared.{sharing, ForgoesOld, TakesOver};
 ghost use Rattle.pair_memory.specs.Standing.{no_rows, no_names, StandsFor};
 ghost use Rattle.pair_memory.specs.Inputs.{IsStepped};
-ghost use Rattle.beta_join.specs.Turns.{TurnedMemories};
+ghost use Rattle.beta_join.specs.Doors.{joined_candidates, joined_pattern};
+ghost use Rattle.beta_join.specs.Turns.{NamesTurned, TurnedMemories};
 
-use fx_base::{Copies, Facts, NoMemory, Seq};
-use pair_memory::{Memories, names_alone};
+use fx_base::{Copies, Facts, NoMemory, Seq, Value};
+use join_tests::JoinValue;
+use pair_memory::{Candidates, Memories, names_alone};
 use row_change::{Change, changes_nothing};
 use row_delta::{Delta, Named, Row};
 use rule_model::Pattern;
@@ -87,6 +97,81 @@ impl BetaJoin {
         Ok(delta.gone)
     }
 
+    /// Exchanges the candidates with shared ones, as they are lent for a turn and given back. Takes no memory.
+    pub fn exchange_right(&mut self, shared: &mut Candidates)
+        ensures memories { self.new.memories ≡ sharing self.old.memories shared.old }
+        ensures pattern { shared.new.pattern ≡ shared.old.pattern }
+        ensures names { shared.new.names ≡ joined_candidates self.old }
+    {
+        self.memories.exchange_right(shared);
+    }
+
+    /// The value under which a row of the conditions before this one is kept. Takes no memory.
+    pub fn row_value<'a, F: Facts>(&self, row: &Row, facts: &'a F) -> JoinValue<'a>
+        ensures { shown result ≡ row_value self.now.memories.pattern (F.map facts.now) row.now }
+    {
+        self.memories.row_value(row, facts)
+    }
+
+    /// Whether a row of the conditions before this one is kept under a value. It takes no memory, and costs a hash.
+    pub fn has_rows_under(&self, value: &Value) -> bool
+        ensures none { result ≡ false → (row : Row) → at same_value row_cmp self.now.memories.left value.now row ≡ None }
+    {
+        self.memories.has_rows_under(value)
+    }
+
+    /// A step of a node whose candidates have turned already: of those that went and came, these are handed to it. What it
+    /// answers leads from the rows that it had with the candidates before to those that it has with the new ones. It costs what a
+    /// step costs in which these rows and candidates come and go.
+    pub fn advance_turned<F: Facts>(
+        &mut self,
+        alloc: Global,
+        left: &Delta,
+        gone: &[Named],
+        come: &[Named],
+        facts: &F,
+    ) -> Result<Delta, NoMemory>
+        ensures right { OnOk result (joined_candidates self.new ≡ joined_candidates self.old) }
+        ensures pattern { OnOk result (joined_pattern self.new ≡ joined_pattern self.old) }
+        ensures kept { OnOk result ((was : Candidates) (right : Delta) → TakesOver self.old.memories was (F.map facts.now) right gone.now come.now
+            → IsStepped (sharing self.old.memories was) self.new.memories (F.map facts.now) left.now right) }
+        ensures difference { IfOk result (λ delta. (was : Candidates) (right : Delta) → TakesOver self.old.memories was (F.map facts.now) right gone.now come.now
+            → IsDifference (made (sharing self.old.memories was) (F.map facts.now)) (made self.new.memories (F.map facts.now)) delta) }
+    {
+        let mut change = Change::none(alloc);
+        self.names_turn(alloc, &mut change, gone, false, facts)?;
+        self.names_turn(alloc, &mut change, come, true, facts)?;
+        self.rows_leave(alloc, &mut change, left.gone.as_slice(), facts)?;
+        self.rows_come(alloc, &mut change, left.come.as_slice(), facts)?;
+        let delta = change.delta(alloc)?;
+        Ok(delta)
+    }
+
+    /// Drops left rows whose facts are forgotten, where old candidates were dropped already and these of them are handed, and
+    /// answers the rows that go with both, in order. It costs what a step costs in which they go.
+    pub fn forget_turned<F: Facts>(
+        &mut self,
+        alloc: Global,
+        rows: &[Row],
+        gone: &[Named],
+        facts: &F,
+    ) -> Result<Seq<Row>, NoMemory>
+        ensures right { OnOk result (joined_candidates self.new ≡ joined_candidates self.old) }
+        ensures pattern { OnOk result (joined_pattern self.new ≡ joined_pattern self.old) }
+        ensures kept { OnOk result ((was : Candidates) (old : Named → Bool) → ForgoesOld self.old.memories was (F.map facts.now) old gone.now
+            → KeepsMemories (sharing self.old.memories was) self.new.memories (F.map facts.now)
+            (λ row. has_left (sharing self.old.memories was) (F.map facts.now) row && not (has rows.now row)) (λ who. has_right (sharing self.old.memories was) (F.map facts.now) who && not (old who))) }
+        ensures dropped { IfOk result (λ dropped. (was : Candidates) (old : Named → Bool) → ForgoesOld self.old.memories was (F.map facts.now) old gone.now
+            → (row : Row) → has dropped row ≡ (made (sharing self.old.memories was) (F.map facts.now) row && not (made self.new.memories (F.map facts.now) row))) }
+        ensures in_order { IfOk result (λ dropped. (was : Candidates) (old : Named → Bool) → ForgoesOld self.old.memories was (F.map facts.now) old gone.now → InOrder dropped) }
+    {
+        let mut change = Change::none(alloc);
+        self.names_turn(alloc, &mut change, gone, false, facts)?;
+        self.rows_leave(alloc, &mut change, rows, facts)?;
+        let delta = change.delta(alloc)?;
+        Ok(delta.gone)
+    }
+
     /// A step in which something changes.
     fn advanced<F: Facts>(
         &mut self,
@@ -116,8 +201,9 @@ impl BetaJoin {
         rows: &[Row],
         facts: &F,
     ) -> Result<(), NoMemory>
-        ensures { OnOk result (TurnedMemories self.old.memories self.new.memories (F.map facts.now)
+        ensures turned { OnOk result (TurnedMemories self.old.memories self.new.memories (F.map facts.now)
             (λ r. has_left self.old.memories (F.map facts.now) r && not (has rows.now r)) (has_right self.old.memories (F.map facts.now)) change.old change.new) }
+        ensures right { OnOk result (joined_candidates self.new ≡ joined_candidates self.old) }
     {
         for row in rows {
             self.row_leaves(alloc, change, row, facts)?;
@@ -132,8 +218,9 @@ impl BetaJoin {
         rows: &[Row],
         facts: &F,
     ) -> Result<(), NoMemory>
-        ensures { OnOk result (TurnedMemories self.old.memories self.new.memories (F.map facts.now)
+        ensures turned { OnOk result (TurnedMemories self.old.memories self.new.memories (F.map facts.now)
             (λ r. has_left self.old.memories (F.map facts.now) r || has rows.now r) (has_right self.old.memories (F.map facts.now)) change.old change.new) }
+        ensures right { OnOk result (joined_candidates self.new ≡ joined_candidates self.old) }
     {
         for row in rows {
             self.row_comes(alloc, change, row, facts)?;
@@ -173,6 +260,44 @@ impl BetaJoin {
         Ok(())
     }
 
+    fn names_turn<F: Facts>(
+        &self,
+        alloc: Global,
+        change: &mut Change,
+        names: &[Named],
+        comes: bool,
+        facts: &F,
+    ) -> Result<(), NoMemory>
+        ensures { OnOk result (NamesTurned self.now.memories (F.map facts.now) comes names.now names.now change.old change.new) }
+    {
+        for who in names {
+            self.name_turns(alloc, change, *who, comes, facts)?;
+        }
+        Ok(())
+    }
+
+    /// A candidate that is handed comes or goes, as far as the rows are concerned.
+    fn name_turns<F: Facts>(
+        &self,
+        alloc: Global,
+        change: &mut Change,
+        who: Named,
+        comes: bool,
+        facts: &F,
+    ) -> Result<(), NoMemory>
+        ensures { OnOk result ((set : Named → Bool) (old : Row → Bool) → set who ≡ not comes
+            → LeadsRows old (joined (joins self.now.memories.pattern (F.map facts.now)) (has_left self.now.memories (F.map facts.now)) set) change.old.gone.keys change.old.come.keys
+            → LeadsRows old (joined (joins self.now.memories.pattern (F.map facts.now)) (has_left self.now.memories (F.map facts.now)) (moved comes (eq_by_cmp name_cmp who) set)) change.new.gone.keys change.new.come.keys) }
+    {
+        let sight = self.memories.sight(who, facts);
+        let rows = self.memories.with_candidate(alloc, &sight, who, facts)?;
+        if comes {
+            change.arrive(alloc, rows)
+        } else {
+            change.leave(alloc, rows)
+        }
+    }
+
     fn row_leaves<F: Facts>(
         &mut self,
         alloc: Global,
@@ -180,8 +305,9 @@ impl BetaJoin {
         row: &Row,
         facts: &F,
     ) -> Result<(), NoMemory>
-        ensures { OnOk result (TurnedMemories self.old.memories self.new.memories (F.map facts.now)
+        ensures turned { OnOk result (TurnedMemories self.old.memories self.new.memories (F.map facts.now)
             (λ r. has_left self.old.memories (F.map facts.now) r && not (eq_by_cmp row_cmp row.now r)) (has_right self.old.memories (F.map facts.now)) change.old change.new) }
+        ensures right { OnOk result (joined_candidates self.new ≡ joined_candidates self.old) }
     {
         match self.memories.take_left(row, facts) {
             Some(()) => {
@@ -199,8 +325,9 @@ impl BetaJoin {
         row: &Row,
         facts: &F,
     ) -> Result<(), NoMemory>
-        ensures { OnOk result (TurnedMemories self.old.memories self.new.memories (F.map facts.now)
+        ensures turned { OnOk result (TurnedMemories self.old.memories self.new.memories (F.map facts.now)
             (λ r. has_left self.old.memories (F.map facts.now) r || eq_by_cmp row_cmp row.now r) (has_right self.old.memories (F.map facts.now)) change.old change.new) }
+        ensures right { OnOk result (joined_candidates self.new ≡ joined_candidates self.old) }
     {
         let rows = self.memories.with_row(alloc, row, facts)?;
         match self.memories.put_left(alloc, row.copy(alloc)?, (), facts)? {

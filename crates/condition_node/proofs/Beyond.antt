@@ -17,6 +17,10 @@ use Rattle.fx_base.specs.declared.ids.RuleId.{RuleId}
 use Rattle.row_delta.specs.RowOrder.{same_equiv}
 use Rattle.condition_node.proofs.Folding.{distinct, named_where, partners_named}
 use Rattle.condition_node.specs.declared.node.Node.TheVariants as node
+use Rattle.condition_node.specs.Lending.{lent_to}
+use Rattle.pair_memory.specs.declared.candidates.Candidates.{Candidates}
+use Rattle.pair_memory.specs.Shared.{over, sharing}
+use Rattle.not_node.specs.Doors.{with_tallies}
 
 -- ---- extras in the order of their rows
 less_in : (row : Row) (extras : List Extra) → AllByRecursion (λ y. row_cmp row y ≡ Less) (rows_of_extras extras) → (e : Extra) → In e extras → row_cmp row e.row ≡ Less
@@ -183,3 +187,25 @@ module _ (look : Look) (under : RuleId) (place : ℕ) (extras : List Extra) wher
       let a = fold.accumulate in
       extras_beside p look s rows forgotten tags known named (gathers a) (arguments_gathered a) (Folded a) fold.tally.memories folds.pattern tt
       (λ xs ys dx dy same. same_values (argument_of a (held s)) xs ys dx dy same) (arguments_told a s) folds.counts under place extras are
+
+-- the same of a node to which shared candidates are lent, where some are given
+abbrev pub TellsOver : Look → RuleId → ℕ → List Extra → Option Candidates → Node → Type 0
+TellsOver look under place extras shared n = (p : Program) (s : Snapshot) (rows : Row → Bool) (forgotten : Named → Bool)
+    → HaveDistinctTags s.facts → HasAllOf look s forgotten → NameHeld s rows → NodeStands p (lent_to shared n) look s rows forgotten → AreExtrasBeside p (condition_of n) s rows forgotten under place extras
+
+module _ (look : Look) (under : RuleId) (place : ℕ) (extras : List Extra) where
+  pub join_over : (join : BetaJoin) (shared : Option Candidates) → extras ≡ [] → TellsOver look under place extras shared (node.Join join)
+  join_over join None = join_beyond look under place extras join
+  join_over join (Some c) = join_beyond look under place extras (record { memories = sharing join.memories c })
+
+  pub exists_over : (tally : TallyNode Witnesses) (shared : Option Candidates) → AreExtrasOf counts_witnesses nothing_gathered (over tally.memories shared) look under place extras → TellsOver look under place extras shared (node.Exists tally)
+  exists_over tally None = exists_beyond look under place extras tally
+  exists_over tally (Some c) = exists_beyond look under place extras (record { memories = sharing tally.memories c })
+
+  pub not_over : (waiting : NotNode) (shared : Option Candidates) → AreExtrasOf counts_blockers nothing_gathered (over (blocker_tallies waiting) shared) look under place extras → TellsOver look under place extras shared (node.Not waiting)
+  not_over waiting None = not_beyond look under place extras waiting
+  not_over waiting (Some c) = not_beyond look under place extras (with_tallies (sharing (blocker_tallies waiting) c) waiting)
+
+  pub fold_over : (fold : FoldNode) (shared : Option Candidates) → AreExtrasOf (gathers fold.accumulate) (arguments_gathered fold.accumulate) (over fold.tally.memories shared) look under place extras → TellsOver look under place extras shared (node.Fold fold)
+  fold_over fold None = fold_beyond look under place extras fold
+  fold_over fold (Some c) = fold_beyond look under place extras (record { accumulate = fold.accumulate; tally = record { memories = sharing fold.tally.memories c } })

@@ -49,7 +49,7 @@ pub use Rattle.not_node.specs.declared.node.NotNode.{NotNode}
 pub use Rattle.pair_memory.proofs.Joining.{name_decides, row_decides}
 pub use Rattle.pair_memory.proofs.Moving.{joins_alike, named_alike}
 pub use Rattle.pair_memory.specs.Inputs.{IsNameDifference, IsStepped, row_naming}
-pub use Rattle.pair_memory.specs.Joined.{has_name}
+pub use Rattle.pair_memory.specs.Joined.{has_name, AreDistinct}
 pub use Rattle.pair_memory.specs.Memories.{KeepsMemories, has_left, has_right, left_at, made}
 pub use Rattle.pair_memory.specs.Standing.{AlikeOn, LooksAlike, StandsFor, clean, cleaned, either, no_names, no_rows, remembered}
 pub use Rattle.pair_memory.specs.Valued.{shows_value, splits_value, unvalued, without_value}
@@ -80,7 +80,7 @@ pub use Rattle.rule_model.specs.declared.program.Program.{Program}
 pub use Rattle.tally_node.proofs.Gathering.{same_values}
 pub use Rattle.tally_node.proofs.Lawful.{drop_law, gathered_shown, itself_facts, start_law, tally_law, without_value_facts, witnesses_shown}
 pub use Rattle.tally_node.proofs.Resuming.{blockers_made_up, gathered_made_up, load_law, others_law, resume_law, witnesses_made_up}
-pub use Rattle.tally_node.specs.Counts.{AreDistinct, IsNumber, counts_blockers, counts_witnesses, where_unblocked, where_witnessed, zero_where}
+pub use Rattle.tally_node.specs.Counts.{IsNumber, counts_blockers, counts_witnesses, where_unblocked, where_witnessed, zero_where}
 pub use Rattle.tally_node.specs.Doors.{tallied_pattern}
 pub use Rattle.tally_node.specs.Extras.{AllLaden, AreExtrasOf, CountsOthers, IsBeyond, IsExtraFor, IsTallyLaden, arguments_gathered, blockers_laden}
 pub use Rattle.tally_node.specs.Extras.{counts_more, extra_for, gathered_laden, nothing_gathered, rows_of_extras, witnesses_laden}

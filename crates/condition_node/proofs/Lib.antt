@@ -11,5 +11,7 @@ pub mod Still
 pub mod Forgetting
 pub mod Beyond
 pub mod Loading
+pub mod Lending
+pub mod Untouched
 pub mod Resuming
 pub mod Lines

@@ -17,7 +17,7 @@ abbrev pub LoadsTo : Program → (Snapshot → Type 0) → Look → List Row →
 LoadsTo p At look left right extras old new = (world : Look) (s : Snapshot) (rows : Row → Bool)
     → NodeStands p old look empty_snapshot no_rows no_names → At s → IsLoad p (condition_of old) look world s rows left right extras → Laden p new look world s rows (extra_for extras)
 
-nothing_kept : {T : Type 0} (p : Program) (m : Memories T) (look : Look) → StandsFor m look no_rows (candidates_of p m.pattern empty_snapshot) no_names → StandsFor m look no_rows no_names no_names
+pub nothing_kept : {T : Type 0} (p : Program) (m : Memories T) (look : Look) → StandsFor m look no_rows (candidates_of p m.pattern empty_snapshot) no_names → StandsFor m look no_rows no_names no_names
 nothing_kept p m look stands = subst (λ (names : Named → Bool). StandsFor m look no_rows names no_names) (fun_ext (λ who. sym (no_candidates p m.pattern who))) stands
 
 pub all_clean : (rows : Row → Bool) (row : Row) → rows row ≡ cleaned rows no_names row
@@ -46,7 +46,7 @@ named_same a b = same_from_decides _ _ (row_decides (row_naming a) (row_naming b
     first_same : row_naming a ≡ row_naming b → a ≡ b
     first_same e = ap (λ (row : Row). first row.facts) e
 
-has_naming : (names : List Named) (who : Named) → has (map row_naming names) (row_naming who) ≡ has_name names who
+pub has_naming : (names : List Named) (who : Named) → has (map row_naming names) (row_naming who) ≡ has_name names who
 has_naming [] who = refl
 has_naming (n ∷ names) who = ap (λ b. b || has (map row_naming names) (row_naming who)) (named_same who n) ∙ ap (λ b. eq_by_cmp name_cmp who n || b) (has_naming names who)
 

@@ -13,12 +13,12 @@ use Rattle.condition_node.proofs.Telling.{join_turns, exists_turns, fold_turns}
 use Rattle.condition_node.proofs.Turning.{counts_next}
 use Rattle.condition_node.specs.declared.node.Node.TheVariants as node
 
-neither : (gone come : List Row) → are_none gone come ≡ true → (row : Row) → (has gone row ≡ false) × (has come row ≡ false)
+pub neither : (gone come : List Row) → are_none gone come ≡ true → (row : Row) → (has gone row ≡ false) × (has come row ≡ false)
 neither [] [] e row = (refl, refl)
 neither (r ∷ gone) come e row = absurd (let n : false ≡ true = e in cc)
 neither [] (r ∷ come) e row = absurd (let n : false ≡ true = e in cc)
 
-same : (b gone come : Bool) → gone ≡ false → come ≡ false → b ≡ ((b && not gone) || come)
+pub same : (b gone come : Bool) → gone ≡ false → come ≡ false → b ≡ ((b && not gone) || come)
 same true gone come e f = ap (λ g. not g || come) (sym e)
 same false gone come e f = sym f
 

@@ -4,3 +4,4 @@ pub mod Turns
 pub mod Quiet
 pub mod Forgetting
 pub mod Loading
+pub mod Lending

@@ -1,4 +1,4 @@
-ghost use Rattle.std.specs.Prelude.{◌≡◌, ◌-ℤ◌, ◌+ℤ◌, ◌≤ℤ◌, ◌<ℤ◌, ◌^◌, pos, ℤ, not, Bool, true, false, None, IfOk, IfSome, OnOk, IsTrue};
+ghost use Rattle.std.specs.Prelude.{◌≡◌, ◌-ℤ◌, ◌+ℤ◌, ◌≤ℤ◌, ◌<ℤ◌, ◌^◌, pos, ℤ, not, Bool, true, false, [], None, IfOk, IfSome, OnOk, IsTrue};
 ghost use Rattle.row_delta.specs.declared.delta.Delta.{Delta};
 ghost use Rattle.row_delta.specs.declared.row.Named.{Named};
 ghost use Rattle.row_delta.specs.declared.row.Row.{Row};
@@ -9,15 +9,18 @@ ghost use Rattle.rule_model.specs.Rows.{pattern_of};
 ghost use Rattle.rule_model.specs.Moments.{IsAt};
 ghost use Rattle.rule_model.specs.Snapshots.{Snapshot, floor};
 ghost use Rattle.join_tests.specs.Joins.{Look};
+ghost use Rattle.pair_memory.specs.declared.candidates.Candidates.{Candidates};
 ghost use Rattle.pair_memory.specs.Joined.{has_name};
 ghost use Rattle.pair_memory.specs.Standing.{clean, cleaned, either, no_rows};
 ghost use Rattle.condition_rows.specs.Lines.{line};
 ghost use Rattle.condition_rows.specs.Looks.{empty_snapshot};
 ghost use Rattle.condition_node.specs.Forgetting.{ForgetsIn};
+ghost use Rattle.condition_node.specs.Lending.{with_candidates, NodeTakes};
 ghost use Rattle.condition_node.specs.Nodes.{condition_of, is_negated, NodeStands};
 ghost use Rattle.condition_node.specs.Quiet.{IsBefore, IsDue, IsQuiet};
 ghost use Rattle.condition_node.specs.Turns.{IsConditionTurn};
 
+mod handed;
 mod loading;
 
 use beta_join::BetaJoin;
@@ -196,8 +199,9 @@ impl Node {
     }
 
     /// Whether the node stays as it is, and with it what its condition makes, at this moment, where nothing changes in the rows
-    /// before it and in its candidates. So it is but for a `not` with a row that waits and is mature then. It costs a look at the
-    /// least moment for which a row waits. Takes no memory.
+    /// before it and in its candidates. So it is but for a `not` with a row that waits and is mature then; and so it is too where its
+    /// candidates are lent and have turned, and nothing is handed to it. It costs a look at the least moment for which a row waits.
+    /// Takes no memory.
     pub fn is_still(&self, program: &Program, moment: &Moment) -> bool
         ensures others { is_negated (condition_of self.now) ≡ false → result ≡ true }
         ensures stands { IsTrue result → (look world : Look) (s next : Snapshot) (rows rows_now : Row → Bool) (forgotten : Named → Bool) (left right : Delta)
@@ -207,6 +211,14 @@ impl Node {
         ensures rows { IsTrue result → (look world : Look) (s next : Snapshot) (rows rows_now : Row → Bool) (forgotten : Named → Bool) (left right : Delta)
             → changes_nothing left ≡ true → changes_nothing right ≡ true
             → NodeStands program.now self.now look s rows forgotten → IsAt next moment.now → IsConditionTurn program.now (condition_of self.now) look world s next rows rows_now forgotten left right
+            → (row : Row) → cleaned (line program.now next (condition_of self.now) rows_now) forgotten row ≡ cleaned (line program.now s (condition_of self.now) rows) forgotten row }
+        ensures untouched { IsTrue result → (was : Candidates) (look world : Look) (s next : Snapshot) (rows rows_now : Row → Bool) (forgotten : Named → Bool) (left right : Delta)
+            → NodeTakes self.now was look right [] [] → changes_nothing left ≡ true
+            → NodeStands program.now (with_candidates was self.now) look s rows forgotten → IsAt next moment.now → IsConditionTurn program.now (condition_of self.now) look world s next rows rows_now forgotten left right
+            → NodeStands program.now self.now look next rows_now forgotten }
+        ensures untouched_rows { IsTrue result → (was : Candidates) (look world : Look) (s next : Snapshot) (rows rows_now : Row → Bool) (forgotten : Named → Bool) (left right : Delta)
+            → NodeTakes self.now was look right [] [] → changes_nothing left ≡ true
+            → NodeStands program.now (with_candidates was self.now) look s rows forgotten → IsAt next moment.now → IsConditionTurn program.now (condition_of self.now) look world s next rows rows_now forgotten left right
             → (row : Row) → cleaned (line program.now next (condition_of self.now) rows_now) forgotten row ≡ cleaned (line program.now s (condition_of self.now) rows) forgotten row }
         ensures due { result ≡ false → (look world : Look) (s next : Snapshot) (rows rows_now : Row → Bool) (forgotten : Named → Bool) (left right : Delta)
             → changes_nothing left ≡ true → changes_nothing right ≡ true
@@ -225,10 +237,11 @@ impl Node {
     }
 
     /// The least clock, in milliseconds, at which a row that waits is mature: until then a move of the clock alone, which changes
-    /// no candidates, changes nothing here, and with it a row comes. `None` where no row waits, or for no clock of 128 bits.
-    /// Takes no memory.
+    /// no candidates, changes nothing here, whatever candidates are lent to it, and with it a row comes. `None` where no row waits,
+    /// or for no clock of 128 bits. Takes no memory.
     pub fn quiet_until(&self, program: &Program) -> Option<i128>
         ensures quiet { IsQuiet program.now self.now result }
+        ensures lent { (own : Candidates) → IsQuiet program.now (with_candidates own self.now) result }
         ensures due { IfSome result (λ moment. IsDue program.now self.now moment) }
         ensures others { is_negated (condition_of self.now) ≡ false → result ≡ None }
     {

@@ -6,3 +6,4 @@ pub mod Ranges
 pub mod Slotting
 pub mod Meeting
 pub mod Siding
+pub mod Naming

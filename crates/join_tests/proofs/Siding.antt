@@ -1,5 +1,5 @@
 -- The value under which a row is kept, by its side of the equalities and of the range of time.
-use Rattle.join_tests.proofs.Common.{◌≡◌, ◌∙◌, ap, refl, arith, ◌≤◌, length, List, [], ◌∷◌, ◌++◌, map, Option, Some, None, option_map, cast_signed, FoldHasher}
+use Rattle.join_tests.proofs.Common.{◌≡◌, ◌∙◌, ap, refl, arith, ◌≤◌, length, List, [], ◌∷◌, map, Option, Some, None, option_map, cast_signed, FoldHasher}
 use Rattle.join_tests.proofs.Common.{Value, Int, Row, Pattern, JoinKey, TimeKey, Look, join_keys, row_part, fed_with, as_one, time_key, row_moment, with_slot}
 use Rattle.join_tests.proofs.Common.{kept_under, row_side_of, side_part, row_time, row_key, kept_by_time, value_by}
 use Rattle.std.specs.Int.{w64}
@@ -8,14 +8,6 @@ use Rattle.join_tests.specs.declared.key.JoinSide.{JoinSide}
 use Rattle.join_tests.specs.Keys.{number_for}
 use Rattle.join_tests.specs.Kept.{row_value}
 use Rattle.join_tests.proofs.Counting.{number_behind}
-
-mapped_both : (keys more : List JoinKey) → map row_side_of (keys ++ more) ≡ map row_side_of keys ++ map row_side_of more
-mapped_both [] more = refl
-mapped_both (key ∷ keys) more = ap (λ sides. key.side ∷ sides) (mapped_both keys more)
-
-pub sides_both : (sides : List JoinSide) (keys more : List JoinKey) → sides ++ map row_side_of (keys ++ more) ≡ (sides ++ map row_side_of keys) ++ map row_side_of more
-sides_both [] keys more = mapped_both keys more
-sides_both (side ∷ sides) keys more = ap (λ rest. side ∷ rest) (sides_both sides keys more)
 
 -- several of them are fed to a hash, with a slot or without
 pub sides_several : (f : JoinSide → Value) (sides : List JoinSide) (fed : FoldHasher) → fed ≡ fed_with hasher.initial (map f sides) → 2 ≤ length sides

@@ -6,3 +6,4 @@ pub mod TimeKeys
 pub mod Slots
 pub mod Kept
 pub mod RowKeys
+pub mod NameKeys

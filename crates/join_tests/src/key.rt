@@ -1,9 +1,10 @@
-ghost use Rattle.std.specs.Prelude.{◌≡◌};
+ghost use Rattle.std.specs.Prelude.{◌≡◌, ◌++◌, IfOk, OnOk};
 ghost use Rattle.join_tests.specs.Keys.{key_of_side, key_of_sides, key_of_compare, keys_of_compares, keys_of_choices, keys_of_tests};
 ghost use Rattle.join_tests.specs.Keying.{and_one, and_more, keying_of};
 
-use fx_base::Seq;
+use fx_base::{NoMemory, Seq};
 use rule_model::{Compare, RelTag, Side, Test};
+use std::alloc::Global;
 
 /// What a row has of an equality, by its place from 0.
 #[derive(Clone, Copy, Debug, PartialEq, Eq)]
@@ -72,6 +73,38 @@ fn with_compares(before: Keying, compares: &[Compare]) -> Keying
         };
     }
     keying
+}
+
+/// The equalities that tests ask for, in the order of the text. It costs a walk over the tests.
+pub(crate) fn keys_of_tests(alloc: Global, tests: &[Test]) -> Result<Vec<JoinKey>, NoMemory>
+    ensures { IfOk result (λ keys. keys.items ≡ keys_of_tests tests.now) }
+{
+    let mut keys = Vec::new(alloc);
+    for test in tests {
+        put_choices(&mut keys, test.choices.as_slice())?;
+    }
+    Ok(keys)
+}
+
+fn put_choices(keys: &mut Vec<JoinKey>, choices: &[Seq<Compare>]) -> Result<(), NoMemory>
+    ensures { OnOk result (keys.new.items ≡ keys.old.items ++ keys_of_choices choices.now) }
+{
+    match choices {
+        [choice] => put_compares(keys, choice.as_slice()),
+        _ => Ok(()),
+    }
+}
+
+fn put_compares(keys: &mut Vec<JoinKey>, compares: &[Compare]) -> Result<(), NoMemory>
+    ensures { OnOk result (keys.new.items ≡ keys.old.items ++ keys_of_compares compares.now) }
+{
+    for compare in compares {
+        match key_of_compare(compare) {
+            Some(key) => keys.push(key)?,
+            None => {}
+        }
+    }
+    Ok(())
 }
 
 /// The equality that a comparison is, or nothing where it is none. Takes no memory.

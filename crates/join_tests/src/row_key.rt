@@ -1,14 +1,14 @@
 //! What of a pattern decides under which value a row is kept.
-ghost use Rattle.std.specs.Prelude.{◌≡◌, ◌↔◌, ◌++◌, map, is_some, IfOk, OnOk, IsTrue};
+ghost use Rattle.std.specs.Prelude.{◌≡◌, ◌↔◌, map, is_some, IfOk, IsTrue};
 ghost use Rattle.std.specs.Hash.FoldHasher as hasher;
 ghost use Rattle.std.specs.Option.{option_map};
 ghost use Rattle.join_tests.specs.JoinValues.{shown};
-ghost use Rattle.join_tests.specs.Keys.{keys_of_compares, keys_of_choices, keys_of_tests, as_one, fed_with};
+ghost use Rattle.join_tests.specs.Keys.{as_one, fed_with};
 ghost use Rattle.join_tests.specs.Kept.{with_slot};
 ghost use Rattle.join_tests.specs.RowKeys.{row_side_of, row_time, row_key, side_part, value_by};
 
 use crate::join_value::JoinValue;
-use crate::key::{JoinSide, key_of_compare};
+use crate::key::{JoinKey, JoinSide, keys_of_tests};
 use crate::number::{feed, number_fed, number_with};
 use crate::part::side_value;
 use crate::row_facts::named_fact;
@@ -16,7 +16,7 @@ use crate::slot::{moment_at, slot_at};
 use crate::time_key::{Point, TimeKey, key_of_times};
 use fx_base::{Facts, NoMemory, Seq, Value};
 use row_delta::Row;
-use rule_model::{Compare, Pattern, Test};
+use rule_model::Pattern;
 use std::alloc::Global;
 use std::hash::FoldHasher;
 
@@ -42,8 +42,8 @@ impl RowKey {
     pub fn of(alloc: Global, pattern: &Pattern) -> Result<RowKey, NoMemory>
         ensures { IfOk result (λ key. key ≡ row_key pattern.now) }
     {
-        let mut sides = Vec::new(alloc);
-        put_tests(&mut sides, pattern.joined.as_slice())?;
+        let keys = keys_of_tests(alloc, pattern.joined.as_slice())?;
+        let sides = sides_of(alloc, keys.as_slice())?;
         let time = time_of(key_of_times(pattern.times.as_slice()));
         Ok(RowKey {
             sides: Seq::from_vec(sides),
@@ -140,32 +140,12 @@ fn time_of(key: Option<TimeKey>) -> Option<RowTime>
     }
 }
 
-fn put_tests(sides: &mut Vec<JoinSide>, tests: &[Test]) -> Result<(), NoMemory>
-    ensures { OnOk result (sides.new.items ≡ sides.old.items ++ map row_side_of (keys_of_tests tests.now)) }
+fn sides_of(alloc: Global, keys: &[JoinKey]) -> Result<Vec<JoinSide>, NoMemory>
+    ensures { IfOk result (λ sides. sides.items ≡ map row_side_of keys.now) }
 {
-    for test in tests {
-        put_choices(sides, test.choices.as_slice())?;
+    let mut sides = Vec::new(alloc);
+    for key in keys {
+        sides.push(key.side)?;
     }
-    Ok(())
-}
-
-fn put_choices(sides: &mut Vec<JoinSide>, choices: &[Seq<Compare>]) -> Result<(), NoMemory>
-    ensures { OnOk result (sides.new.items ≡ sides.old.items ++ map row_side_of (keys_of_choices choices.now)) }
-{
-    match choices {
-        [choice] => put_compares(sides, choice.as_slice()),
-        _ => Ok(()),
-    }
-}
-
-fn put_compares(sides: &mut Vec<JoinSide>, compares: &[Compare]) -> Result<(), NoMemory>
-    ensures { OnOk result (sides.new.items ≡ sides.old.items ++ map row_side_of (keys_of_compares compares.now)) }
-{
-    for compare in compares {
-        match key_of_compare(compare) {
-            Some(key) => sides.push(key.side)?,
-            None => {}
-        }
-    }
-    Ok(())
+    Ok(sides)
 }

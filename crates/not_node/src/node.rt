@@ -1,4 +1,4 @@
-ghost use Rattle.std.specs.Prelude.{◌≡◌, ◌&&◌, ◌||◌, not, cond, None, Bool, IfOk, OnOk, IsTrue, ℤ, int_lt, Option, IfSome, true, false};
+ghost use Rattle.std.specs.Prelude.{◌≡◌, ◌&&◌, ◌||◌, not, cond, None, Bool, IfOk, OnOk, IsTrue, ℤ, int_lt, Option, IfSome, option_map, true, false};
 ghost use Rattle.row_delta.specs.declared.row.Row.{Row};
 ghost use Rattle.row_delta.specs.declared.row.Named.{Named};
 ghost use Rattle.row_delta.specs.Rows.{has, InOrder};
@@ -9,6 +9,7 @@ ghost use Rattle.pair_memory.specs.Joined.{has_name};
 ghost use Rattle.pair_memory.specs.Memories.{left_at, has_left, has_right, KeepsMemories};
 ghost use Rattle.pair_memory.specs.Standing.{no_rows, no_names, StandsFor};
 ghost use Rattle.pair_memory.specs.Inputs.{IsStepped};
+ghost use Rattle.pair_memory.specs.Shared.{over};
 ghost use Rattle.tally_node.specs.Counts.{counts_blockers};
 ghost use Rattle.tally_node.specs.Extras.{AllLaden, AreExtrasOf, blockers_laden, nothing_gathered};
 ghost use Rattle.tally_node.specs.Tallies.{TallyStep};
@@ -16,8 +17,11 @@ ghost use Rattle.not_node.specs.Rows.{IsInStep, not_rows};
 ghost use Rattle.not_node.specs.Waiting.{waits, IsMomentFrom, NoneDue, later};
 ghost use Rattle.not_node.specs.Doors.{blocking_pattern};
 
+mod handed;
+
 use crate::ripening::Ripening;
 use fx_base::{Facts, NoMemory, RuleId, Seq};
+use pair_memory::Candidates;
 use row_delta::{Delta, Extra, Named, Row};
 use rule_model::{Pattern, Program};
 use std::alloc::Global;
@@ -140,17 +144,20 @@ impl NotNode {
     }
 
     /// What is counted beside each left row beyond the candidates that are kept and pass there, where that is something, in the
-    /// order of the rows, each under this rule and condition.
+    /// order of the rows, each under this rule and condition. The candidates are shared ones where some are given, and else its own.
     pub fn extras<F: Facts>(
         &self,
         alloc: Global,
+        shared: Option<&Candidates>,
         rule: RuleId,
         condition: u8,
         facts: &F,
     ) -> Result<Vec<Extra>, NoMemory>
-        ensures { IfOk result (λ extras. AreExtrasOf counts_blockers nothing_gathered self.now.tally.memories (F.map facts.now) rule condition extras.items) }
+        ensures { IfOk result (λ extras. AreExtrasOf counts_blockers nothing_gathered (over self.now.tally.memories (option_map (λ c. c.now) shared.entry)) (F.map facts.now) rule condition extras.items) }
     {
-        let extras = self.tally.extras(alloc, &(), rule, condition, facts)?;
+        let extras = self
+            .tally
+            .extras(alloc, &(), shared, rule, condition, facts)?;
         Ok(extras)
     }
 

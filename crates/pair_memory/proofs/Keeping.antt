@@ -5,6 +5,8 @@ use Rattle.pair_memory.proofs.Common.{same_value, Named, Row, row_cmp, name_cmp,
 use Rattle.pair_memory.proofs.Common.{joined, has_left, has_right, made, KeepsMemories, same_itself, left_at}
 use Rattle.std.proofs.lemmas.Bool.{and_parts}
 use Rattle.join_tests.specs.declared.sought.Sight.{Sight}
+use Rattle.pair_memory.specs.declared.candidates.Candidates.{Candidates}
+use Rattle.pair_memory.specs.Shared.{KeepsNames}
 use Rattle.pair_memory.proofs.Joining.{row_decides, name_decides, joined_alike}
 
 absorbed : (a b : Bool) → (b ≡ true → a ≡ true) → (a && b) ≡ b
@@ -115,6 +117,18 @@ module _ {S : Type 0} (m : Memories S) (look : Look) (who : Named) (value : Valu
       rows = before.rows;
       names = agrees_changed (eq_by_cmp name_cmp) (λ a b. (name_decides a b).0) (candidate_value m.pattern look) who value (at same_value name_cmp m.right) (at same_value name_cmp index) w is changed before.names;
     };
+  }
+
+module _ (c : Candidates) (look : Look) (who : Named) (value : Value) (is : value ≡ candidate_value c.pattern look who) (w : Option (Unit {0})) (index : JoinIndex Value Named (Unit {0}))
+    (changed : (v : Value) (n : Named) → at same_value name_cmp index v n ≡ cond (same_value value v && eq_by_cmp name_cmp who n) w (at same_value name_cmp c.names v n)) where
+  -- the same of candidates that no left rows stand beside
+  pub names_keep : (names : Named → Bool)
+      → ((n : Named) → is_some (cond (eq_by_cmp name_cmp who n) w (at same_value name_cmp c.names (candidate_value c.pattern look n) n)) ≡ names n)
+      → KeepsNames c (record { pattern = c.pattern; names = index }) look names
+  names_keep names h = record {
+    pattern = refl;
+    names = λ n. ap is_some (at_changed (eq_by_cmp name_cmp) (λ a b. (name_decides a b).0) (candidate_value c.pattern look) who value (at same_value name_cmp c.names) (at same_value name_cmp index) w is changed n) ∙ h n;
+    agrees = agrees_changed (eq_by_cmp name_cmp) (λ a b. (name_decides a b).0) (candidate_value c.pattern look) who value (at same_value name_cmp c.names) (at same_value name_cmp index) w is changed;
   }
 
 -- the rows that are made after a change

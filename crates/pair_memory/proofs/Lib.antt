@@ -10,3 +10,4 @@ pub mod Steps
 pub mod Moving
 pub mod Listing
 pub mod Sharing
+pub mod Handed

@@ -2,11 +2,12 @@
 use Rattle.pair_memory.proofs.Common.{◌≡◌, ◌∙◌, sym, ap, refl, ℕ, ◌+◌, ◌<◌, length, take, get_or, List, [], ◌∷◌, ◌++◌, Bool, true, false, cond, not, ◌&&◌, ◌||◌}
 use Rattle.pair_memory.proofs.Common.{list_any, eq_by_cmp, list_any-append, list_any_more, Named, Row, row_cmp, has, same_equiv, name_cmp, name_equiv, Value}
 use Rattle.pair_memory.proofs.Common.{same_value, Pattern, Look, row_value, candidate_value, Memories, unjoined, has_name, has_left, has_right, KeepsMemories}
-use Rattle.pair_memory.proofs.Common.{beside, RowsLeave, RowsCome, NamesLeave, NamesCome, LooksWhereKept}
+use Rattle.pair_memory.proofs.Common.{Option, Some, None, name_kept, beside, RowsLeave, RowsCome, NamesLeave, NamesCome, LooksWhereKept}
 use Rattle.join_tests.specs.declared.row_key.RowKey.{RowKey}
 use Rattle.join_tests.specs.RowKeys.{value_by}
 use Rattle.join_tests.proofs.Siding.{kept_by}
 use Rattle.pair_memory.specs.declared.candidates.Candidates.{Candidates}
+use Rattle.pair_memory.specs.Shared.{over}
 use Rattle.pair_memory.specs.declared.left_rows.LeftRows.{LeftRows}
 use Rattle.pair_memory.specs.Joined.{joined}
 use Rattle.pair_memory.proofs.Joining.{name_decides, splits_alike, splits_or, joined_alike, none_right}
@@ -191,3 +192,10 @@ one_made pass left who r = joined_alike pass left left (eq_by_cmp name_cmp who) 
 
 pub none_made : (pass : Row → Named → Bool) (left : Row → Bool) (who : Named) (r : Row) → false ≡ joined pass left (λ c. eq_by_cmp name_cmp who c && false) r
 none_made pass left who r = sym (none_right pass left (λ c. eq_by_cmp name_cmp who c && false) (λ c. and-false (eq_by_cmp name_cmp who c)) r)
+
+-- ---- candidates of the node, or shared ones in their place
+
+-- what is kept of them is looked for by the node's pattern
+pub kept_over : {S : Type 0} (m : Memories S) (shared : Option Candidates) (look : Look) (who : Named) → name_kept m.pattern (over m shared).right look who ≡ has_right (over m shared) look who
+kept_over m None look who = refl
+kept_over m (Some shared) look who = refl

@@ -1,5 +1,5 @@
 -- The rows that a test makes of rows with one fact more, where sets are tests too.
-use Rattle.std.specs.Prelude.{◌&&◌, Bool, false, List, [], ◌∷◌, ◌++◌, Option, Some, None}
+use Rattle.std.specs.Prelude.{◌≡◌, ◌&&◌, Bool, false, List, [], ◌∷◌, ◌++◌, Option, Some, None}
 use Rattle.std.specs.Option.{option_map}
 use Rattle.std.specs.List.{list_any}
 use Rattle.std.specs.Ordering.{eq_by_cmp}
@@ -42,3 +42,8 @@ joined pass left right row = splits (λ l c. left l && (right c && pass l c)) (u
 -- whether a version stands in a list
 abbrev pub has_name : List Named → Named → Bool
 has_name names who = list_any (eq_by_cmp name_cmp who) names
+
+-- each stands once
+abbrev pub AreDistinct : List Named → Type 0
+AreDistinct [] = Unit {0}
+AreDistinct (x ∷ xs) = (has_name xs x ≡ false) × AreDistinct xs

@@ -14,6 +14,7 @@ ghost use Rattle.pair_memory.specs.declared.left_rows.LeftRows.{LeftRows};
 ghost use Rattle.pair_memory.specs.Joined.{joined, has_name};
 ghost use Rattle.pair_memory.specs.Memories.{has_left, has_right, KeepsMemories};
 ghost use Rattle.pair_memory.specs.Apart.{has_candidate, beside, NamesLeave, NamesCome};
+ghost use Rattle.pair_memory.specs.Shared.{KeepsNames};
 
 use crate::left_rows::LeftRows;
 use crate::making::{made_with_name, made_with_row};
@@ -23,6 +24,7 @@ use join_tests::{JoinValue, KeyedPattern, Sight};
 use row_delta::{Named, Row};
 use rule_model::Pattern;
 use std::alloc::Global;
+use std::mem::swap;
 
 /// The candidates of a pattern, found by their join values: the right memory of a node whose left rows are kept with those of others.
 /// A call costs for each candidate a hash and the logarithm of what has the same join value. After a call that was refused memory the
@@ -50,6 +52,13 @@ impl Candidates {
         ensures { result.now ≡ self.now.pattern }
     {
         self.pattern.pattern()
+    }
+
+    /// The index of the candidates. Takes no memory.
+    pub(crate) fn names(&self) -> &JoinIndex<Value, Named, ()>
+        ensures { result.now ≡ self.now.names }
+    {
+        &self.names
     }
 
     /// The value under which a candidate is kept. It takes no memory, and costs what the join value of a candidate costs its pattern.
@@ -134,12 +143,13 @@ impl Candidates {
         Ok(found)
     }
 
-    // Takes a candidate out, and answers its sight if it was there. Takes no memory.
-    fn take<'a, F: Facts>(&mut self, who: Named, facts: &'a F) -> Option<Sight<'a>>
+    /// Takes a candidate out, and answers its sight if it was there. Takes no memory.
+    pub fn take<'a, F: Facts>(&mut self, who: Named, facts: &'a F) -> Option<Sight<'a>>
         ensures pattern { self.new.pattern ≡ self.old.pattern }
         ensures keeps { (left : LeftRows) → KeepsMemories (beside left self.old) (beside left self.new) (F.map facts.now)
             (has_left (beside left self.old) (F.map facts.now)) (λ c. has_right (beside left self.old) (F.map facts.now) c && not (eq_by_cmp name_cmp who c)) }
         ensures under { (value : Value) (c : Named) → is_some (at same_value name_cmp self.new.names value c) ≡ true → is_some (at same_value name_cmp self.old.names value c) ≡ true }
+        ensures names { KeepsNames self.old self.new (F.map facts.now) (λ c. has_candidate self.old (F.map facts.now) c && not (eq_by_cmp name_cmp who c)) }
         ensures taken { is_some result ≡ has_candidate self.old (F.map facts.now) who }
         ensures sight { IfSome result (SeesRows self.old.pattern (F.map facts.now) who) }
     {
@@ -148,8 +158,8 @@ impl Candidates {
         was.then_some(sight)
     }
 
-    // Puts a candidate in, and answers its sight unless it was there.
-    fn put<'a, F: Facts>(
+    /// Puts a candidate in, and answers its sight unless it was there.
+    pub fn put<'a, F: Facts>(
         &mut self,
         alloc: Global,
         who: Named,
@@ -160,6 +170,7 @@ impl Candidates {
             (has_left (beside left self.old) (F.map facts.now)) (λ c. has_right (beside left self.old) (F.map facts.now) c || eq_by_cmp name_cmp who c)) }
         ensures under { OnOk result ((value : Value) (c : Named) → is_some (at same_value name_cmp self.new.names value c)
             ≡ (is_some (at same_value name_cmp self.old.names value c) || (same_value (candidate_value self.old.pattern (F.map facts.now) who) value && eq_by_cmp name_cmp who c))) }
+        ensures names { OnOk result (KeepsNames self.old self.new (F.map facts.now) (λ c. has_candidate self.old (F.map facts.now) c || eq_by_cmp name_cmp who c)) }
         ensures came { IfOk result (λ sight. is_some sight ≡ not (has_candidate self.old (F.map facts.now) who)) }
         ensures sight { IfOk result (λ sight. IfSome sight (SeesRows self.old.pattern (F.map facts.now) who)) }
     {
@@ -167,6 +178,15 @@ impl Candidates {
         let value = sight.own().copy(alloc)?;
         let came = self.names.put(value, who, ())?.is_none();
         Ok(came.then_some(sight))
+    }
+
+    /// Exchanges the index of the candidates. Takes no memory.
+    pub(crate) fn exchange_names(&mut self, names: &mut JoinIndex<Value, Named, ()>)
+        ensures ours { self.new.names ≡ names.old }
+        ensures pattern { self.new.pattern ≡ self.old.pattern }
+        ensures theirs { names.new ≡ self.old.names }
+    {
+        swap(&mut self.names, names);
     }
 
     // The rows that a candidate makes with left rows, if there is a sight, which is its own.

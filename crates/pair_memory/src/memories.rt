@@ -1,4 +1,4 @@
-ghost use Rattle.std.specs.Prelude.{◌≡◌, ◌&&◌, ◌||◌, not, None, Some, Bool, true, cond, option_map, IfOk, IfErr, IfSome, OnOk, OnErr};
+ghost use Rattle.std.specs.Prelude.{◌≡◌, ◌&&◌, ◌||◌, not, None, Some, Bool, true, false, cond, option_map, IfOk, IfErr, IfSome, OnOk, OnErr};
 ghost use Rattle.std.specs.Option.{is_some};
 ghost use Rattle.std.specs.Ordering.{eq_by_cmp};
 ghost use Rattle.std.specs.List.Sorted.{IsStrictlySortedBy};
@@ -6,23 +6,26 @@ ghost use Rattle.row_delta.specs.declared.row.Row.{Row};
 ghost use Rattle.row_delta.specs.declared.row.Named.{Named};
 ghost use Rattle.row_delta.specs.Rows.{has, row_cmp, InOrder};
 ghost use Rattle.row_delta.specs.NameOrder.{name_cmp};
+ghost use Rattle.join_tests.specs.JoinValues.{shown};
 ghost use Rattle.join_tests.specs.Joins.{Look, joins};
-ghost use Rattle.join_tests.specs.Kept.{SeesRows};
+ghost use Rattle.join_tests.specs.Kept.{SeesRows, row_value};
 ghost use Rattle.pair_memory.specs.Joined.{joined, has_name};
 ghost use Rattle.pair_memory.specs.Memories.{left_at, has_left, has_right, KeepsMemories};
 ghost use Rattle.pair_memory.specs.Standing.{no_rows, no_names, StandsFor};
-ghost use Rattle.pair_memory.specs.Under.{row_joins, name_joins, stands_in};
+ghost use Rattle.pair_memory.specs.Under.{row_joins, stands_in};
 ghost use Rattle.fx_base.specs.Values.{same_value};
-ghost use Rattle.alpha_memory.specs.JoinIndex.{bucket_at};
+ghost use Rattle.alpha_memory.specs.JoinIndex.{at, bucket_at};
+ghost use Rattle.pair_memory.specs.Shared.{sharing, over};
 
 mod listing;
 
+use crate::candidates::Candidates;
 use crate::making::{made_with_name, made_with_row};
 use crate::merge::merged;
-use crate::partners::{names_passed, rows_passed};
+use crate::partners::{passing_of_both, passing_under, rows_passed};
 use alpha_memory::JoinIndex;
 use fx_base::{Copies, Facts, NoMemory, Value};
-use join_tests::{KeyedPattern, Sight, Sought};
+use join_tests::{JoinValue, KeyedPattern, Sight, Sought};
 use row_delta::{Named, Row};
 use rule_model::Pattern;
 use std::alloc::Global;
@@ -72,6 +75,7 @@ impl<S: Drop> Memories<S> {
         ensures left { (r : Row) → left_at self.new (F.map facts.now) r ≡ cond (eq_by_cmp row_cmp row.now r) None (left_at self.old (F.map facts.now) r) }
         ensures keeps { KeepsMemories self.old self.new (F.map facts.now)
             (λ r. has_left self.old (F.map facts.now) r && not (eq_by_cmp row_cmp row.now r)) (has_right self.old (F.map facts.now)) }
+        ensures right { self.new.right ≡ self.old.right }
     {
         let value = self.pattern.row_value(row, facts);
         self.left.take(value.value(), row)
@@ -89,6 +93,7 @@ impl<S: Drop> Memories<S> {
         ensures left { OnOk result ((r : Row) → left_at self.new (F.map facts.now) r ≡ cond (eq_by_cmp row_cmp row r) (Some kept) (left_at self.old (F.map facts.now) r)) }
         ensures keeps { OnOk result (KeepsMemories self.old self.new (F.map facts.now)
             (λ r. has_left self.old (F.map facts.now) r || eq_by_cmp row_cmp row r) (has_right self.old (F.map facts.now))) }
+        ensures right { OnOk result (self.new.right ≡ self.old.right) }
     {
         let value = self.pattern.row_value(&row, facts).into_value(alloc)?;
         let before = self.left.put(value, row, kept)?;
@@ -101,6 +106,7 @@ impl<S: Drop> Memories<S> {
         ensures before { IfOk result (λ before. left_at self.old (F.map facts.now) row.now ≡ Some before) }
         ensures left { OnOk result ((r : Row) → left_at self.new (F.map facts.now) r ≡ cond (eq_by_cmp row_cmp row.now r) (Some kept) (left_at self.old (F.map facts.now) r)) }
         ensures keeps { OnOk result (KeepsMemories self.old self.new (F.map facts.now) (has_left self.old (F.map facts.now)) (has_right self.old (F.map facts.now))) }
+        ensures right { self.new.right ≡ self.old.right }
         ensures absent { OnErr result (left_at self.old (F.map facts.now) row.now ≡ None) }
         ensures back { IfErr result (λ given. given ≡ kept) }
     {
@@ -141,6 +147,38 @@ impl<S: Drop> Memories<S> {
         let value = sight.own().copy(alloc)?;
         let came = self.right.put(value, who, ())?.is_none();
         Ok(came.then_some(sight))
+    }
+
+    /// Exchanges the candidates with shared ones: the node has those, and its own wait in their place. Takes no memory.
+    pub fn exchange_right(&mut self, shared: &mut Candidates)
+        ensures memories { self.new ≡ sharing self.old shared.old }
+        ensures pattern { shared.new.pattern ≡ shared.old.pattern }
+        ensures names { shared.new.names ≡ self.old.right }
+    {
+        shared.exchange_names(&mut self.right);
+    }
+
+    /// The sight of a candidate, whether it is kept or not. It takes no memory, and costs what the join value of a candidate costs its
+    /// pattern, and where there is a range of time, a hash for each slot.
+    pub fn sight<'a, F: Facts>(&self, who: Named, facts: &'a F) -> Sight<'a>
+        ensures { SeesRows self.now.pattern (F.map facts.now) who result }
+    {
+        self.pattern.sight(who, facts)
+    }
+
+    /// The value under which a left row is kept. It takes no memory, and costs what the join value of a row costs its pattern.
+    pub fn row_value<'a, F: Facts>(&self, row: &Row, facts: &'a F) -> JoinValue<'a>
+        ensures { shown result ≡ row_value self.now.pattern (F.map facts.now) row.now }
+    {
+        self.pattern.row_value(row, facts)
+    }
+
+    /// Whether a left row is kept under a value. It takes no memory, and costs a hash.
+    pub fn has_rows_under(&self, value: &Value) -> bool
+        ensures bucket { result ≡ is_some (bucket_at same_value self.now.left value.now) }
+        ensures none { result ≡ false → (row : Row) → at same_value row_cmp self.now.left value.now row ≡ None }
+    {
+        self.left.bucket(value).is_some()
     }
 
     /// The rows that a candidate of this sight makes with the left rows that are kept, whether it is kept or not. It costs a test of
@@ -203,9 +241,39 @@ impl<S: Drop> Memories<S> {
         ensures names { IfOk result (λ found. (who : Named) → has_name found.items who ≡ (has_right self.now (F.map facts.now) who && joins self.now.pattern (F.map facts.now) row.now who)) }
         ensures in_order { IfOk result (λ found. IsStrictlySortedBy name_cmp found.items) }
     {
+        self.passing_over(alloc, None, row, facts)
+    }
+
+    /// The same of shared candidates in place of its own, where some are given.
+    pub fn passing_over<F: Facts>(
+        &self,
+        alloc: Global,
+        shared: Option<&Candidates>,
+        row: &Row,
+        facts: &F,
+    ) -> Result<Vec<Named>, NoMemory>
+        ensures names { IfOk result (λ found. (who : Named) → has_name found.items who
+            ≡ (has_right (over self.now (option_map (λ c. c.now) shared.entry)) (F.map facts.now) who && joins self.now.pattern (F.map facts.now) row.now who)) }
+        ensures in_order { IfOk result (λ found. IsStrictlySortedBy name_cmp found.items) }
+    {
+        let names = self.names(shared);
         match self.pattern.candidates_sought(row, facts) {
-            Sought::One(value) => self.passing_under(alloc, value.value(), None, row, facts),
-            Sought::Two(first, second) => self.passing_of_both(alloc, &first, &second, row, facts),
+            Sought::One(value) => {
+                passing_under(alloc, names, &self.pattern, value.value(), None, row, facts)
+            }
+            Sought::Two(first, second) => {
+                passing_of_both(alloc, names, &self.pattern, &first, &second, row, facts)
+            }
+        }
+    }
+
+    // The index of shared candidates, or of its own where none are given. Takes no memory.
+    fn names<'a>(&'a self, shared: Option<&'a Candidates>) -> &'a JoinIndex<Value, Named, ()>
+        ensures { result.now ≡ (over self.now (option_map (λ c. c.now) shared.entry)).right }
+    {
+        match shared {
+            Some(shared) => shared.names(),
+            None => &self.right,
         }
     }
 
@@ -249,47 +317,5 @@ impl<S: Drop> Memories<S> {
         let rows = self.partners_under(alloc, first, Some(first), who, facts)?;
         let more = self.partners_under(alloc, second, Some(second), who, facts)?;
         merged(alloc, rows, more)
-    }
-
-    /// The candidates that stand under a value and pass for a row, in order, of which those are taken that have the join value
-    /// that is asked for.
-    fn passing_under<F: Facts>(
-        &self,
-        alloc: Global,
-        value: &Value,
-        under: Option<&Value>,
-        row: &Row,
-        facts: &F,
-    ) -> Result<Vec<Named>, NoMemory>
-        ensures names { IfOk result (λ found. (who : Named) → has_name found.items who
-            ≡ (stands_in name_cmp (bucket_at same_value self.now.right value.now) who
-            && name_joins self.now.pattern (F.map facts.now) (option_map (λ v. v.now) under.entry) row.now who)) }
-        ensures in_order { IfOk result (λ found. IsStrictlySortedBy name_cmp found.items) }
-    {
-        match self.right.bucket(value) {
-            Some(bucket) => names_passed(alloc, bucket, &self.pattern, row, facts, under),
-            None => Ok(Vec::new(alloc)),
-        }
-    }
-
-    /// The same for two values, each of which its candidates have for their join value.
-    fn passing_of_both<F: Facts>(
-        &self,
-        alloc: Global,
-        first: &Value,
-        second: &Value,
-        row: &Row,
-        facts: &F,
-    ) -> Result<Vec<Named>, NoMemory>
-        ensures names { IfOk result (λ found. (who : Named) → has_name found.items who
-            ≡ ((stands_in name_cmp (bucket_at same_value self.now.right first.now) who
-            && name_joins self.now.pattern (F.map facts.now) (Some first.now) row.now who)
-            || (stands_in name_cmp (bucket_at same_value self.now.right second.now) who
-            && name_joins self.now.pattern (F.map facts.now) (Some second.now) row.now who))) }
-        ensures in_order { IfOk result (λ found. IsStrictlySortedBy name_cmp found.items) }
-    {
-        let names = self.passing_under(alloc, first, Some(first), row, facts)?;
-        let more = self.passing_under(alloc, second, Some(second), row, facts)?;
-        merged(alloc, names, more)
     }
 }

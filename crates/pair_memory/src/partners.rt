@@ -1,4 +1,4 @@
-ghost use Rattle.std.specs.Prelude.{◌≡◌, ◌&&◌, ◌||◌, ◌++◌, [], ◌∷◌, cond, option_map, IfOk, OnOk};
+ghost use Rattle.std.specs.Prelude.{◌≡◌, ◌&&◌, ◌||◌, ◌++◌, [], ◌∷◌, Some, cond, option_map, IfOk, OnOk};
 ghost use Rattle.std.specs.Option.{is_some};
 ghost use Rattle.std.specs.Ordering.{eq_by_cmp};
 ghost use Rattle.row_delta.specs.declared.row.Row.{Row};
@@ -6,12 +6,15 @@ ghost use Rattle.row_delta.specs.declared.row.Named.{Named};
 ghost use Rattle.row_delta.specs.Rows.{has, row_cmp};
 ghost use Rattle.row_delta.specs.NameOrder.{name_cmp};
 ghost use Rattle.alpha_memory.specs.Bucket.{found};
+ghost use Rattle.alpha_memory.specs.JoinIndex.{bucket_at};
 ghost use Rattle.join_tests.specs.Kept.{row_value, candidate_value};
 ghost use Rattle.pair_memory.specs.Joined.{with_name, joined, has_name};
-ghost use Rattle.pair_memory.specs.Under.{is_under, row_joins, name_joins};
+ghost use Rattle.pair_memory.specs.Under.{is_under, row_joins, name_joins, stands_in};
+ghost use Rattle.fx_base.specs.Values.{same_value};
 ghost use Rattle.std.specs.List.Sorted.{IsStrictlySortedBy};
 
-use alpha_memory::Bucket;
+use crate::merge::merged;
+use alpha_memory::{Bucket, JoinIndex};
 use fx_base::{Copies, Facts, NoMemory, Seq, Value};
 use join_tests::KeyedPattern;
 use row_delta::{Named, Row};
@@ -239,4 +242,45 @@ pub(crate) fn names_passed<F: Facts>(
         }
     }
     Ok(names)
+}
+
+/// The candidates that stand under a value in an index and pass for a row, in order, of which those are taken that have the join
+/// value that is asked for.
+pub(crate) fn passing_under<F: Facts>(
+    alloc: Global,
+    names: &JoinIndex<Value, Named, ()>,
+    pattern: &KeyedPattern,
+    value: &Value,
+    under: Option<&Value>,
+    row: &Row,
+    facts: &F,
+) -> Result<Vec<Named>, NoMemory>
+    ensures names { IfOk result (λ found. (who : Named) → has_name found.items who
+        ≡ (stands_in name_cmp (bucket_at same_value names.now value.now) who && name_joins pattern.now (F.map facts.now) (option_map (λ v. v.now) under.entry) row.now who)) }
+    ensures in_order { IfOk result (λ found. IsStrictlySortedBy name_cmp found.items) }
+{
+    match names.bucket(value) {
+        Some(bucket) => names_passed(alloc, bucket, pattern, row, facts, under),
+        None => Ok(Vec::new(alloc)),
+    }
+}
+
+/// The same for two values, each of which its candidates have for their join value.
+pub(crate) fn passing_of_both<F: Facts>(
+    alloc: Global,
+    names: &JoinIndex<Value, Named, ()>,
+    pattern: &KeyedPattern,
+    first: &Value,
+    second: &Value,
+    row: &Row,
+    facts: &F,
+) -> Result<Vec<Named>, NoMemory>
+    ensures names { IfOk result (λ found. (who : Named) → has_name found.items who
+        ≡ ((stands_in name_cmp (bucket_at same_value names.now first.now) who && name_joins pattern.now (F.map facts.now) (Some first.now) row.now who)
+        || (stands_in name_cmp (bucket_at same_value names.now second.now) who && name_joins pattern.now (F.map facts.now) (Some second.now) row.now who))) }
+    ensures in_order { IfOk result (λ found. IsStrictlySortedBy name_cmp found.items) }
+{
+    let found = passing_under(alloc, names, pattern, first, Some(first), row, facts)?;
+    let more = passing_under(alloc, names, pattern, second, Some(second), row, facts)?;
+    merged(alloc, found, more)
 }

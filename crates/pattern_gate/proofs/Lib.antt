@@ -4,3 +4,4 @@ pub mod Arriving
 pub mod Inside
 pub mod Moving
 pub mod Fronts
+pub mod Alike

@@ -2,3 +2,4 @@ pub mod Moves
 pub mod Gates
 pub mod Turns
 pub mod Fronts
+pub mod Alike

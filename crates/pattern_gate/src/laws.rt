@@ -11,6 +11,7 @@ ghost use Rattle.rule_model.specs.declared.program.Program.{Program};
 ghost use Rattle.pair_memory.specs.Inputs.{row_naming};
 ghost use Rattle.condition_rows.specs.Sets.{candidates_of};
 ghost use Rattle.window_gate.specs.Windows.{rows_inside};
+ghost use Rattle.pattern_gate.specs.Alike.{SameCandidatesLaw, SameGateLaw, SameMeantLaw, SameWindowLaw};
 ghost use Rattle.pattern_gate.specs.Fronts.{HasInFront};
 ghost use Rattle.pattern_gate.specs.Gates.{GateStands, arrivals, window_kind_of};
 ghost use Rattle.pattern_gate.specs.Moves.{IsOrderly};
@@ -27,4 +28,12 @@ pub fn what_is_inside_is_of_the_candidates()
 pub fn a_gate_needs_what_its_window_does_not_let_be()
     ensures { (p : Program) (q : Pattern) (gate : PatternGate) (s : Snapshot) (t : Snapshot) → IsOrderly p s → IsOrderly p t → HasInFront p q s t
         → GateStands p q gate t → GateStands p q gate s }
+{}
+
+/// Patterns that take alike have the same candidates in each snapshot, and one gate stands for both of them.
+pub fn patterns_that_take_alike_have_one_gate()
+    ensures candidates { SameCandidatesLaw }
+    ensures gate { SameGateLaw }
+    ensures meant { SameMeantLaw }
+    ensures window { SameWindowLaw }
 {}

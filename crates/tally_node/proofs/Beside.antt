@@ -2,6 +2,9 @@
 use Rattle.tally_node.proofs.Common.{◌≡◌, ◌∙◌, sym, ap, refl, subst, ℕ, zero, suc, ◌<◌, arith, List, [], ◌∷◌, length, Bool, false, ◌||◌, Some, ℤ, fun_ext}
 use Rattle.tally_node.proofs.Common.{is_some, RuleId, Extra, Named, Row, has, InOrder, Look, joins, Memories, has_name, left_at, has_left, has_right, Agrees}
 use Rattle.tally_node.proofs.Common.{either, TellsBeside, AreApart, IsBeyond, CountsOthers, AreExtrasOf, SeeAlike, passing, and_first}
+use Rattle.tally_node.proofs.Common.{Option, None}
+use Rattle.pair_memory.specs.declared.candidates.Candidates.{Candidates}
+use Rattle.pair_memory.specs.Shared.{over}
 use Rattle.tally_node.proofs.Searching.{AreListed, listed_in_order, listed_own, listed_for}
 
 -- where none is counted, the set has none
@@ -15,6 +18,16 @@ none_beyond gathered world set n values is e who = sym (is.all who) ∙ by is.na
 pub positive : (n : ℕ) → (n ≡ 0 → ⊥) → 0 < n
 positive zero h = absurd (h refl)
 positive (suc n) h = omega arith
+
+-- ---- shared candidates in place of its own
+
+pub pattern_over : {T : Type 0} (m : Memories T) (shared : Option Candidates) → (over m shared).pattern ≡ m.pattern
+pattern_over m None = refl
+pattern_over m (Some s) = refl
+
+pub left_over : {T : Type 0} (m : Memories T) (shared : Option Candidates) (look : Look) (row : Row) → left_at (over m shared) look row ≡ left_at m look row
+left_over m None look row = refl
+left_over m (Some s) look row = refl
 
 module _ {T : Type 0} (holds : T → Look → (Named → Bool) → Type 0) (gathered : Look → List Named → List ℤ) (m : Memories T) (look world : Look) (others : Row → Named → Bool) (counts : CountsOthers holds m look world others)
     (row : Row) (kept part : T) (there : left_at m look row ≡ Some kept) (names : List Named) (named : (who : Named) → has_name names who ≡ passing m.pattern look (has_right m look) row who)

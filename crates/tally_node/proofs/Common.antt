@@ -26,7 +26,7 @@ pub use Rattle.pair_memory.proofs.Joining.{name_decides, row_decides}
 pub use Rattle.pair_memory.proofs.Turning.{any_name, keeps_then, less_more, more_more, name_absent, name_present, row_present}
 pub use Rattle.pair_memory.proofs.Valued.{from_unvalued, row_valued, unvalued_with}
 pub use Rattle.pair_memory.specs.Inputs.{IsNameDifference, IsStepped, row_naming}
-pub use Rattle.pair_memory.specs.Joined.{has_name}
+pub use Rattle.pair_memory.specs.Joined.{has_name, AreDistinct}
 pub use Rattle.pair_memory.specs.Memories.{Agrees, KeepsMemories, has_left, has_right, left_at}
 pub use Rattle.pair_memory.specs.Standing.{PassesAlike, StandsFor, clean, cleaned, either, no_names, remembered}
 pub use Rattle.pair_memory.specs.Valued.{shows_value, splits_value, unvalued, with_row_value, without_value}
@@ -43,14 +43,14 @@ pub use Rattle.row_delta.specs.declared.row.Row.{Row}
 pub use Rattle.rule_model.specs.declared.condition.Accumulate.{Accumulate}
 pub use Rattle.rule_model.specs.declared.condition.Pattern.{Pattern}
 pub use Rattle.tally_node.specs.Beside.{IsExtraBesideRow, TellsBeside, one_or_none}
-pub use Rattle.tally_node.specs.Counts.{AreDistinct, IsNumber, counts_blockers, counts_witnesses, where_unblocked, where_witnessed, zero_where}
+pub use Rattle.tally_node.specs.Counts.{IsNumber, counts_blockers, counts_witnesses, where_unblocked, where_witnessed, zero_where}
 pub use Rattle.tally_node.specs.Extras.{AreApart, AreExtrasOf, CountsOthers, IsBeyond, IsTallyLaden, arguments_gathered, blockers_laden, counts_more, extra_for}
 pub use Rattle.tally_node.specs.Extras.{gathered_laden, nothing_gathered, rows_of_extras, witnesses_laden}
 pub use Rattle.tally_node.specs.Gathers.{Gathers, argument_given, argument_of, gathers, is_result, result_for, tested}
 pub use Rattle.tally_node.specs.Laws.{EmptyTallyLaw, ForgottenStay, GatheredLaw, LadenLaw, LoadLaw, OthersLaw, ResumeLaw, ShownLaw, StandsCounted, TallyDropLaw}
 pub use Rattle.tally_node.specs.Laws.{TallyForgetLaw, TallyLaw, TallyMoveLaw, all_passing, lost_passing}
 pub use Rattle.tally_node.specs.Origins.{is_from, itself, shows_any}
-pub use Rattle.tally_node.specs.Parts.{AllArrive, AllDropped, AllFollow, AllLoaded, AllStay, AllTurned, PartStep}
+pub use Rattle.tally_node.specs.Parts.{AllArrive, AllDropped, AllFollow, AllFollowMoved, AllLoaded, AllStay, AllTurned, PartStep}
 pub use Rattle.tally_node.specs.Tallies.{Arrives, FollowsCandidates, SeeAlike, StepsTally, TallyStep, TurnedIf, TurnedTally, changed_at, counted, less_one}
 pub use Rattle.tally_node.specs.Tallies.{offers, output_from, output_some, passing, shown, with_one}
 pub use Rattle.tally_node.specs.declared.count.Blockers.{Blockers}

@@ -3,6 +3,7 @@ pub mod Turning
 pub mod Following
 pub mod Parts
 pub mod Stepping
+pub mod Handing
 pub mod Counting
 pub mod Gathering
 pub mod Lawful

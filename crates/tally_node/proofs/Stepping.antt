@@ -5,17 +5,17 @@ use Rattle.tally_node.proofs.Common.{Arrives, passing, TallyStep, are_none, chan
 use Rattle.tally_node.proofs.Following.{follow_then}
 
 module _ {T : Type 0} (holds : T → Look → (Named → Bool) → Type 0) (world look : Look) where
-  arrives_kept : (b : Bool) (set : Named → Bool) (o after : Option T) (x : T) → o ≡ Some x → Arrives b holds look set o after → after ≡ Some x
+  pub arrives_kept : (b : Bool) (set : Named → Bool) (o after : Option T) (x : T) → o ≡ Some x → Arrives b holds look set o after → after ≡ Some x
   arrives_kept true set None after x e q = let f : None ≡ Some x = e in cc
   arrives_kept true set (Some t) after x e q = q ∙ e
   arrives_kept false set o after x e q = q ∙ e
 
-  arrives_new : (b : Bool) (set : Named → Bool) (o after : Option T) → b ≡ true → o ≡ None → Arrives b holds world set o after → (t : T) × (after ≡ Some t) × holds t world set
+  pub arrives_new : (b : Bool) (set : Named → Bool) (o after : Option T) → b ≡ true → o ≡ None → Arrives b holds world set o after → (t : T) × (after ≡ Some t) × holds t world set
   arrives_new true set None after e n q = q
   arrives_new true set (Some t) after e n q = let f : Some t ≡ None = n in cc
   arrives_new false set o after e n q = let f : false ≡ true = e in cc
 
-  none_stays : (R : T → T → Type 0) (o after : Option T) → o ≡ None → StepsTally R o after → after ≡ None
+  pub none_stays : (R : T → T → Type 0) (o after : Option T) → o ≡ None → StepsTally R o after → after ≡ None
   none_stays R None after e q = q
   none_stays R (Some t) after e q = let f : Some t ≡ None = e in cc
 

@@ -3,14 +3,9 @@ use Rattle.std.specs.Prelude.{◌≡◌, ◌==◌, ℕ, Bool, false, not, List, 
 use Rattle.row_delta.specs.declared.row.Named.{Named}
 use Rattle.row_delta.specs.declared.row.Row.{Row}
 use Rattle.join_tests.specs.Joins.{Look}
-use Rattle.pair_memory.specs.Joined.{has_name}
+use Rattle.pair_memory.specs.Joined.{has_name, AreDistinct}
 use Rattle.tally_node.specs.declared.count.Blockers.{Blockers}
 use Rattle.tally_node.specs.declared.count.Witnesses.{Witnesses}
-
--- each stands once
-abbrev pub AreDistinct : List Named → Type 0
-AreDistinct [] = Unit {0}
-AreDistinct (x ∷ xs) = (has_name xs x ≡ false) × AreDistinct xs
 
 -- there is a list of the candidates of the set, each once, with this length
 pub record IsNumber (set : Named → Bool) (n : ℕ) : Type 0 where

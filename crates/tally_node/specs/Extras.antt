@@ -13,12 +13,12 @@ use Rattle.row_delta.specs.Rows.{row_cmp, InOrder}
 use Rattle.rule_model.specs.declared.condition.Accumulate.{Accumulate}
 use Rattle.join_tests.specs.Joins.{Look}
 use Rattle.pair_memory.specs.declared.memories.Memories.{Memories}
-use Rattle.pair_memory.specs.Joined.{has_name}
+use Rattle.pair_memory.specs.Joined.{has_name, AreDistinct}
 use Rattle.pair_memory.specs.Memories.{left_at, has_left, has_right, Agrees}
 use Rattle.pair_memory.specs.Standing.{either}
 use Rattle.tally_node.specs.declared.count.Blockers.{Blockers}
 use Rattle.tally_node.specs.declared.count.Witnesses.{Witnesses}
-use Rattle.tally_node.specs.Counts.{AreDistinct, IsNumber}
+use Rattle.tally_node.specs.Counts.{IsNumber}
 use Rattle.tally_node.specs.Gathers.{argument_of}
 use Rattle.tally_node.specs.Tallies.{SeeAlike, passing}
 

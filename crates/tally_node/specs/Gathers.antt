@@ -13,8 +13,7 @@ use Rattle.rule_model.specs.Rows.{argument}
 use Rattle.rule_model.specs.Tests.{results_hold}
 use Rattle.rule_model.specs.Tuples.{Bindings}
 use Rattle.join_tests.specs.Joins.{Look}
-use Rattle.pair_memory.specs.Joined.{has_name}
-use Rattle.tally_node.specs.Counts.{AreDistinct}
+use Rattle.pair_memory.specs.Joined.{has_name, AreDistinct}
 
 -- ---- candidates
 

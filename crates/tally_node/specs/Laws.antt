@@ -16,12 +16,11 @@ use Rattle.rule_model.specs.Rows.{result_of}
 use Rattle.rule_model.specs.Tuples.{name_of}
 use Rattle.join_tests.specs.Joins.{Look}
 use Rattle.pair_memory.specs.declared.memories.Memories.{Memories}
-use Rattle.pair_memory.specs.Joined.{has_name}
+use Rattle.pair_memory.specs.Joined.{has_name, AreDistinct}
 use Rattle.pair_memory.specs.Memories.{left_at, has_left, has_right, KeepsMemories}
 use Rattle.pair_memory.specs.Standing.{clean, cleaned, either, remembered, no_rows, no_names, PassesAlike, StandsFor, LooksAlike}
 use Rattle.pair_memory.specs.Inputs.{IsNameDifference, IsStepped}
 use Rattle.pair_memory.specs.Valued.{without_value, shows_value, valued}
-use Rattle.tally_node.specs.Counts.{AreDistinct}
 use Rattle.tally_node.specs.Extras.{AreApart, IsExtraFor, IsTallyLaden, extra_for, rows_of_extras, AllLaden, CountsOthers}
 use Rattle.tally_node.specs.Gathers.{gathers, tested, result_for, is_result}
 use Rattle.tally_node.specs.Origins.{itself, shows_any}

@@ -1,5 +1,5 @@
 -- What a part of a step does to a node: to what it keeps, to its tallies and to what has changed so far.
-use Rattle.std.specs.Prelude.{◌≡◌, cond, Bool, true, Option, None}
+use Rattle.std.specs.Prelude.{◌≡◌, cond, Bool, true, List, Option, None}
 use Rattle.row_delta.specs.declared.extra.Extra.{Extra}
 use Rattle.row_delta.specs.declared.row.Named.{Named}
 use Rattle.row_delta.specs.declared.row.Row.{Row}
@@ -7,6 +7,8 @@ use Rattle.row_change.specs.declared.change.Change.{Change}
 use Rattle.row_change.specs.Changes.{LeadsRows}
 use Rattle.join_tests.specs.Joins.{Look, joins}
 use Rattle.pair_memory.specs.declared.memories.Memories.{Memories}
+use Rattle.pair_memory.specs.Handed.{moved, MayMove}
+use Rattle.pair_memory.specs.Joined.{has_name}
 use Rattle.pair_memory.specs.Memories.{left_at, has_right, KeepsMemories}
 use Rattle.tally_node.specs.Extras.{IsTallyLaden}
 use Rattle.tally_node.specs.Tallies.{TurnedIf, StepsTally, SeeAlike, FollowsCandidates, Arrives, passing}
@@ -29,6 +31,12 @@ AllTurned holds look comes who turning before after = (world : Look) → world w
 abbrev pub AllFollow : {T : Type 0} → (T → Look → (Named → Bool) → Type 0) → Look → (Named → Bool) → Memories T → Memories T → Type 0
 AllFollow holds look moving before after = (world : Look) (scope : Named → Bool) → SeeAlike scope look world → ((c : Named) → moving c ≡ true → scope c ≡ true) → (r : Row)
     → StepsTally (FollowsCandidates holds world scope (has_right before look) (has_right after look) (joins before.pattern look r)) (left_at before look r) (left_at after look r)
+
+-- They follow candidates that are kept elsewhere: some of these come to any set to which they may, or go from one.
+abbrev pub AllFollowMoved : {T : Type 0} → (T → Look → (Named → Bool) → Type 0) → Look → Bool → List Named → List Named → Memories T → Memories T → Type 0
+AllFollowMoved holds look comes names some before after = (set : Named → Bool) → MayMove comes names set
+    → (world : Look) (scope : Named → Bool) → SeeAlike scope look world → ((c : Named) → has_name names c ≡ true → scope c ≡ true) → (r : Row)
+    → StepsTally (FollowsCandidates holds world scope set (moved comes (has_name some) set) (joins before.pattern look r)) (left_at before look r) (left_at after look r)
 
 -- those of these rows are dropped, and the others stay
 abbrev pub AllDropped : {T : Type 0} → Look → (Row → Bool) → Memories T → Memories T → Type 0

@@ -11,10 +11,12 @@ ghost use Rattle.pair_memory.specs.Joined.{has_name};
 ghost use Rattle.pair_memory.specs.Memories.{left_at, has_left, has_right, KeepsMemories};
 ghost use Rattle.pair_memory.specs.Standing.{no_rows, no_names, StandsFor};
 ghost use Rattle.pair_memory.specs.Inputs.{IsStepped};
+ghost use Rattle.tally_node.specs.Doors.{tallied_candidates};
 ghost use Rattle.tally_node.specs.Tallies.{TurnedTally, offers, shown, changed_at, SeeAlike, TallyStep};
 ghost use Rattle.tally_node.specs.Parts.{PartStep, AllTurned, AllFollow, AllDropped, AllArrive, AllStay};
 ghost use Rattle.tally_node.specs.Origins.{is_from};
 
+mod handed;
 mod loading;
 
 use crate::Tally;
@@ -128,8 +130,9 @@ impl<T: Tally> TallyNode<T> {
         who: Named,
         facts: &F,
     ) -> Result<(), NoMemory>
-        ensures { OnOk result (PartStep (shown T.origin T.gives (T.output plan.now)) (AllTurned (T.holds plan.now) (F.map facts.now) comes who (eq_by_cmp row_cmp row.now)) self.old.memories self.new.memories (F.map facts.now)
+        ensures turned { OnOk result (PartStep (shown T.origin T.gives (T.output plan.now)) (AllTurned (T.holds plan.now) (F.map facts.now) comes who (eq_by_cmp row_cmp row.now)) self.old.memories self.new.memories (F.map facts.now)
             (has_left self.old.memories (F.map facts.now)) (has_right self.old.memories (F.map facts.now)) change.old change.new) }
+        ensures right { OnOk result (tallied_candidates self.new ≡ tallied_candidates self.old) }
     {
         if !self.has_left(row, facts) {
             return Ok(());
@@ -160,8 +163,9 @@ impl<T: Tally> TallyNode<T> {
         facts: &F,
     ) -> Result<(), NoMemory>
         requires { IsStrictlySortedBy row_cmp rows.now }
-        ensures { OnOk result (PartStep (shown T.origin T.gives (T.output plan.now)) (AllTurned (T.holds plan.now) (F.map facts.now) comes who (has rows.now)) self.old.memories self.new.memories (F.map facts.now)
+        ensures turned { OnOk result (PartStep (shown T.origin T.gives (T.output plan.now)) (AllTurned (T.holds plan.now) (F.map facts.now) comes who (has rows.now)) self.old.memories self.new.memories (F.map facts.now)
             (has_left self.old.memories (F.map facts.now)) (has_right self.old.memories (F.map facts.now)) change.old change.new) }
+        ensures right { OnOk result (tallied_candidates self.new ≡ tallied_candidates self.old) }
     {
         for row in rows {
             self.turn_at(alloc, plan, change, row, comes, who, facts)?;
@@ -253,8 +257,9 @@ impl<T: Tally> TallyNode<T> {
         row: &Row,
         facts: &F,
     ) -> Result<(), NoMemory>
-        ensures { OnOk result (PartStep (shown T.origin T.gives (T.output plan.now)) (AllDropped (F.map facts.now) (eq_by_cmp row_cmp row.now)) self.old.memories self.new.memories (F.map facts.now)
+        ensures turned { OnOk result (PartStep (shown T.origin T.gives (T.output plan.now)) (AllDropped (F.map facts.now) (eq_by_cmp row_cmp row.now)) self.old.memories self.new.memories (F.map facts.now)
             (λ r. has_left self.old.memories (F.map facts.now) r && not (eq_by_cmp row_cmp row.now r)) (has_right self.old.memories (F.map facts.now)) change.old change.new) }
+        ensures right { OnOk result (tallied_candidates self.new ≡ tallied_candidates self.old) }
     {
         match self.memories.take_left(row, facts) {
             Some(tally) => {
@@ -274,8 +279,9 @@ impl<T: Tally> TallyNode<T> {
         row: &Row,
         facts: &F,
     ) -> Result<(), NoMemory>
-        ensures { OnOk result (PartStep (shown T.origin T.gives (T.output plan.now)) (AllArrive (T.holds plan.now) (F.map facts.now) (eq_by_cmp row_cmp row.now)) self.old.memories self.new.memories (F.map facts.now)
+        ensures turned { OnOk result (PartStep (shown T.origin T.gives (T.output plan.now)) (AllArrive (T.holds plan.now) (F.map facts.now) (eq_by_cmp row_cmp row.now)) self.old.memories self.new.memories (F.map facts.now)
             (λ r. has_left self.old.memories (F.map facts.now) r || eq_by_cmp row_cmp row.now r) (has_right self.old.memories (F.map facts.now)) change.old change.new) }
+        ensures right { OnOk result (tallied_candidates self.new ≡ tallied_candidates self.old) }
     {
         if self.has_left(row, facts) {
             return Ok(());
@@ -297,8 +303,9 @@ impl<T: Tally> TallyNode<T> {
         rows: &[Row],
         facts: &F,
     ) -> Result<(), NoMemory>
-        ensures { OnOk result (PartStep (shown T.origin T.gives (T.output plan.now)) (AllDropped (F.map facts.now) (has rows.now)) self.old.memories self.new.memories (F.map facts.now)
+        ensures turned { OnOk result (PartStep (shown T.origin T.gives (T.output plan.now)) (AllDropped (F.map facts.now) (has rows.now)) self.old.memories self.new.memories (F.map facts.now)
             (λ r. has_left self.old.memories (F.map facts.now) r && not (has rows.now r)) (has_right self.old.memories (F.map facts.now)) change.old change.new) }
+        ensures right { OnOk result (tallied_candidates self.new ≡ tallied_candidates self.old) }
     {
         for row in rows {
             self.row_leaves(alloc, plan, change, row, facts)?;
@@ -314,8 +321,9 @@ impl<T: Tally> TallyNode<T> {
         rows: &[Row],
         facts: &F,
     ) -> Result<(), NoMemory>
-        ensures { OnOk result (PartStep (shown T.origin T.gives (T.output plan.now)) (AllArrive (T.holds plan.now) (F.map facts.now) (has rows.now)) self.old.memories self.new.memories (F.map facts.now)
+        ensures turned { OnOk result (PartStep (shown T.origin T.gives (T.output plan.now)) (AllArrive (T.holds plan.now) (F.map facts.now) (has rows.now)) self.old.memories self.new.memories (F.map facts.now)
             (λ r. has_left self.old.memories (F.map facts.now) r || has rows.now r) (has_right self.old.memories (F.map facts.now)) change.old change.new) }
+        ensures right { OnOk result (tallied_candidates self.new ≡ tallied_candidates self.old) }
     {
         for row in rows {
             self.row_comes(alloc, plan, change, row, facts)?;

@@ -1,4 +1,4 @@
-ghost use Rattle.std.specs.Prelude.{◌≡◌, Bool, [], map, IfOk, OnOk};
+ghost use Rattle.std.specs.Prelude.{◌≡◌, Bool, [], map, option_map, IfOk, OnOk};
 ghost use Rattle.row_delta.specs.declared.row.Named.{Named};
 ghost use Rattle.row_delta.specs.declared.row.Row.{Row};
 ghost use Rattle.row_change.specs.Changes.{IsDifference};
@@ -11,17 +11,19 @@ ghost use Rattle.pair_memory.specs.Inputs.{row_naming};
 ghost use Rattle.pair_memory.specs.Standing.{no_rows, no_names};
 ghost use Rattle.tally_node.specs.Extras.{extra_for};
 ghost use Rattle.condition_rows.specs.Looks.{empty_snapshot, HasAllOf, NameHeld};
+ghost use Rattle.condition_node.specs.Lending.{lent_to};
 ghost use Rattle.condition_node.specs.Loading.{AreExtrasBeside, IsLoad, Laden, node_rows};
 ghost use Rattle.condition_node.specs.Nodes.{condition_of, NodeStands};
 
 use super::{FoldNode, Node};
 use fx_base::{Copies, Facts, NoMemory, RuleId, Seq};
+use pair_memory::Candidates;
 use row_delta::{Delta, Extra, Named, Row};
 use rule_model::{Moment, Program};
 use std::alloc::Global;
 
 /// These rows come.
-fn coming(alloc: Global, rows: &[Row]) -> Result<Delta, NoMemory>
+pub(super) fn coming(alloc: Global, rows: &[Row]) -> Result<Delta, NoMemory>
     ensures gone { IfOk result (λ delta. delta.gone ≡ []) }
     ensures come { IfOk result (λ delta. delta.come ≡ rows.now) }
 {
@@ -109,33 +111,34 @@ impl Node {
     }
 
     /// What is counted or gathered beside each row before the condition beyond the candidates that are kept, where that is something, in
-    /// the order of the rows, each under this rule and condition: what the condition counts of forgotten facts. It costs for each row
-    /// the tally of the candidates that pass.
+    /// the order of the rows, each under this rule and condition: what the condition counts of forgotten facts. The candidates are shared
+    /// ones where some are given, and else its own. It costs for each row the tally of the candidates that pass.
     pub fn extras<F: Facts>(
         &self,
         alloc: Global,
+        shared: Option<&Candidates>,
         rule: RuleId,
         condition: u8,
         facts: &F,
     ) -> Result<Vec<Extra>, NoMemory>
         ensures { IfOk result (λ extras. (p : Program) (s : Snapshot) (rows : Row → Bool) (forgotten : Named → Bool)
-            → HaveDistinctTags s.facts → HasAllOf (F.map facts.now) s forgotten → NameHeld s rows → NodeStands p self.now (F.map facts.now) s rows forgotten
+            → HaveDistinctTags s.facts → HasAllOf (F.map facts.now) s forgotten → NameHeld s rows → NodeStands p (lent_to (option_map (λ c. c.now) shared.entry) self.now) (F.map facts.now) s rows forgotten
             → AreExtrasBeside p (condition_of self.now) s rows forgotten rule condition extras.items) }
     {
         match self {
             Node::Join(_) => Ok(Vec::new(alloc)),
             Node::Not(waiting) => {
-                let extras = waiting.extras(alloc, rule, condition, facts)?;
+                let extras = waiting.extras(alloc, shared, rule, condition, facts)?;
                 Ok(extras)
             }
             Node::Exists(tally) => {
-                let extras = tally.extras(alloc, &(), rule, condition, facts)?;
+                let extras = tally.extras(alloc, &(), shared, rule, condition, facts)?;
                 Ok(extras)
             }
             Node::Fold(fold) => {
                 let extras = fold
                     .tally
-                    .extras(alloc, &fold.accumulate, rule, condition, facts)?;
+                    .extras(alloc, &fold.accumulate, shared, rule, condition, facts)?;
                 Ok(extras)
             }
         }

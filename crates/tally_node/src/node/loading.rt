@@ -10,6 +10,8 @@ ghost use Rattle.join_tests.specs.Joins.{Look};
 ghost use Rattle.row_change.specs.Changes.{IsDifference};
 ghost use Rattle.pair_memory.specs.Joined.{has_name};
 ghost use Rattle.pair_memory.specs.Memories.{has_left, has_right, KeepsMemories};
+ghost use Rattle.pair_memory.specs.Shared.{over};
+ghost use Rattle.tally_node.specs.Doors.{tallied_candidates};
 ghost use Rattle.tally_node.specs.Extras.{extra_for, rows_of_extras, IsTallyLaden, AllLaden, AreExtrasOf};
 ghost use Rattle.tally_node.specs.Parts.{PartStep, AllLoaded};
 ghost use Rattle.tally_node.specs.Beside.{TellsBeside, one_or_none};
@@ -18,6 +20,7 @@ ghost use Rattle.tally_node.specs.Tallies.{shown, SeeAlike};
 use super::{TallyNode, note, tally_of};
 use crate::Tally;
 use fx_base::{Copies, Facts, NoMemory, RuleId};
+use pair_memory::Candidates;
 use row_change::Change;
 use row_delta::{Delta, Extra, Named, Row};
 use std::alloc::Global;
@@ -94,6 +97,28 @@ impl<T: Tally> TallyNode<T> {
         Ok(delta)
     }
 
+    /// Takes rows of the conditions before this one and extras, as `load` does, into a node that keeps no rows, and whose candidates
+    /// are loaded already; and answers the rows that the node has then.
+    pub fn load_turned<F: Facts>(
+        &mut self,
+        alloc: Global,
+        plan: &T::Plan,
+        left: &[Row],
+        extras: &[Extra],
+        facts: &F,
+    ) -> Result<Delta, NoMemory>
+        ensures right { OnOk result (tallied_candidates self.new ≡ tallied_candidates self.old) }
+        ensures kept { OnOk result (KeepsMemories self.old.memories self.new.memories (F.map facts.now)
+            (λ r. has_left self.old.memories (F.map facts.now) r || has left.now r) (has_right self.old.memories (F.map facts.now))) }
+        ensures laden { OnOk result (AllLaden (T.holds plan.now) (T.laden plan.now) (F.map facts.now) extras.now (has left.now) self.old.memories self.new.memories) }
+        ensures difference { IfOk result (λ delta. IsDifference (shown T.origin T.gives (T.output plan.now) self.old.memories (F.map facts.now)) (shown T.origin T.gives (T.output plan.now) self.new.memories (F.map facts.now)) delta) }
+    {
+        let mut change = Change::none(alloc);
+        self.rows_load(alloc, plan, &mut change, left, extras, facts)?;
+        let delta = change.delta(alloc)?;
+        Ok(delta)
+    }
+
     fn rows_load<F: Facts>(
         &mut self,
         alloc: Global,
@@ -103,8 +128,9 @@ impl<T: Tally> TallyNode<T> {
         extras: &[Extra],
         facts: &F,
     ) -> Result<(), NoMemory>
-        ensures { OnOk result (PartStep (shown T.origin T.gives (T.output plan.now)) (λ m n. InOrder (rows_of_extras extras.now) → AllLoaded (T.holds plan.now) (T.laden plan.now) (F.map facts.now) (extra_for extras.now) (has rows.now) m n) self.old.memories self.new.memories (F.map facts.now)
+        ensures turned { OnOk result (PartStep (shown T.origin T.gives (T.output plan.now)) (λ m n. InOrder (rows_of_extras extras.now) → AllLoaded (T.holds plan.now) (T.laden plan.now) (F.map facts.now) (extra_for extras.now) (has rows.now) m n) self.old.memories self.new.memories (F.map facts.now)
             (λ r. has_left self.old.memories (F.map facts.now) r || has rows.now r) (has_right self.old.memories (F.map facts.now)) change.old change.new) }
+        ensures right { OnOk result (tallied_candidates self.new ≡ tallied_candidates self.old) }
     {
         for row in rows {
             let extra = extra_of(extras, row);
@@ -122,8 +148,9 @@ impl<T: Tally> TallyNode<T> {
         extra: Option<&Extra>,
         facts: &F,
     ) -> Result<(), NoMemory>
-        ensures { OnOk result (PartStep (shown T.origin T.gives (T.output plan.now)) (AllLoaded (T.holds plan.now) (T.laden plan.now) (F.map facts.now) (λ r. option_map (λ e. e.now) extra.entry) (eq_by_cmp row_cmp row.now)) self.old.memories self.new.memories (F.map facts.now)
+        ensures turned { OnOk result (PartStep (shown T.origin T.gives (T.output plan.now)) (AllLoaded (T.holds plan.now) (T.laden plan.now) (F.map facts.now) (λ r. option_map (λ e. e.now) extra.entry) (eq_by_cmp row_cmp row.now)) self.old.memories self.new.memories (F.map facts.now)
             (λ r. has_left self.old.memories (F.map facts.now) r || eq_by_cmp row_cmp row.now r) (has_right self.old.memories (F.map facts.now)) change.old change.new) }
+        ensures right { OnOk result (tallied_candidates self.new ≡ tallied_candidates self.old) }
     {
         if self.has_left(row, facts) {
             return Ok(());
@@ -138,21 +165,23 @@ impl<T: Tally> TallyNode<T> {
     }
 
     /// What is counted beside each left row beyond the candidates that are kept and pass there, where that is something, in the
-    /// order of the rows, each under this rule and condition. It costs for each left row the tally of the candidates that pass.
+    /// order of the rows, each under this rule and condition. The candidates are shared ones where some are given, and else its own. It
+    /// costs for each left row the tally of the candidates that pass.
     pub fn extras<F: Facts>(
         &self,
         alloc: Global,
         plan: &T::Plan,
+        shared: Option<&Candidates>,
         rule: RuleId,
         condition: u8,
         facts: &F,
     ) -> Result<Vec<Extra>, NoMemory>
-        ensures { IfOk result (λ extras. AreExtrasOf (T.holds plan.now) (T.gathered plan.now) self.now.memories (F.map facts.now) rule condition extras.items) }
+        ensures { IfOk result (λ extras. AreExtrasOf (T.holds plan.now) (T.gathered plan.now) (over self.now.memories (option_map (λ c. c.now) shared.entry)) (F.map facts.now) rule condition extras.items) }
     {
         let rows = self.memories.left_rows(alloc)?;
         let mut extras = Vec::new(alloc);
         for row in &rows {
-            let found = self.extra_beside(alloc, plan, rule, condition, row, facts)?;
+            let found = self.extra_beside(alloc, plan, shared, rule, condition, row, facts)?;
             add_extra(&mut extras, found)?;
         }
         Ok(extras)
@@ -163,16 +192,17 @@ impl<T: Tally> TallyNode<T> {
         &self,
         alloc: Global,
         plan: &T::Plan,
+        shared: Option<&Candidates>,
         rule: RuleId,
         condition: u8,
         row: &Row,
         facts: &F,
     ) -> Result<Option<Extra>, NoMemory>
-        ensures { IfOk result (λ found. TellsBeside (T.holds plan.now) (T.gathered plan.now) self.now.memories (F.map facts.now) rule condition row.now found) }
+        ensures { IfOk result (λ found. TellsBeside (T.holds plan.now) (T.gathered plan.now) (over self.now.memories (option_map (λ c. c.now) shared.entry)) (F.map facts.now) rule condition row.now found) }
     {
         match self.memories.kept_for(row, facts) {
             Some(tally) => {
-                let names = self.memories.passing(alloc, row, facts)?;
+                let names = self.memories.passing_over(alloc, shared, row, facts)?;
                 let part: T = tally_of(alloc, plan, names.as_slice(), facts)?;
                 let more = tally.beyond(alloc, plan, &part)?;
                 if more.count == 0 {

@@ -1,4 +1,4 @@
-use Rattle.pair_memory.proofs.Common.{◌≡◌, ◌∙◌, sym, ap, [], ◌∷◌, IfOk-weaker, Option, Value, option_map}
+use Rattle.pair_memory.proofs.Common.{◌∙◌, sym, ap, ◌∷◌, IfOk-weaker, Option, Value, option_map}
 use Rattle.std.proofs.Common.{Bor}
 use Rattle.join_tests.specs.Kept.{one_or_none}
 use Rattle.pair_memory.proofs.Found.{rows_alone, rows_both}

@@ -2,6 +2,8 @@ use Rattle.condition_node.proofs.Common.{◌≡◌, sym, subst, SFits, to_z-of_z
 use Rattle.condition_node.proofs.Still.{Stays, TellsNothing, TellsOne, join_still, join_tells_nothing, exists_still, exists_tells_nothing, fold_still}
 use Rattle.condition_node.proofs.Still.{fold_tells_nothing, not_still, not_tells_nothing, not_tells_one}
 use Rattle.condition_node.proofs.Turning.{floor_told}
+use Rattle.condition_node.proofs.Untouched.{StaysUntouched, TellsUntouched, join_untouched, join_tells_untouched, exists_untouched, exists_tells_untouched}
+use Rattle.condition_node.proofs.Untouched.{fold_untouched, fold_tells_untouched, not_untouched, not_tells_untouched}
 use Rattle.condition_node.proofs.node.Node.is_still.Goals as goal
 
 -- the floor that is told is that of each snapshot of the moment
@@ -44,3 +46,33 @@ returns-in-Fold-clause-stands c told = subst (Stays c.args.program.now c.args.mo
 
 pub returns-in-Fold-clause-rows : goal.returns-in-Fold-clause-rows
 returns-in-Fold-clause-rows c told = subst (TellsNothing c.args.program.now c.args.moment.now) (sym c.in-Fold.is) (fold_tells_nothing c.args.program.now c.args.moment.now c.in-Fold.field-0)
+
+pub returns-in-Not-clause-untouched : goal.returns-in-Not-clause-untouched
+returns-in-Not-clause-untouched c told =
+    let fits : SFits w128 c.floor-floor.result = search in
+    let quiet = simp to_z-of_z at c.is_still.ensures.quiet in
+    subst (StaysUntouched c.args.program.now c.args.moment.now) (sym c.in-Not.is) (not_untouched c.args.program.now c.args.moment.now c.in-Not.waiting c.floor-floor.result (told_is c) (quiet told))
+
+pub returns-in-Not-clause-untouched_rows : goal.returns-in-Not-clause-untouched_rows
+returns-in-Not-clause-untouched_rows c told =
+    let fits : SFits w128 c.floor-floor.result = search in
+    let quiet = simp to_z-of_z at c.is_still.ensures.quiet in
+    subst (TellsUntouched c.args.program.now c.args.moment.now) (sym c.in-Not.is) (not_tells_untouched c.args.program.now c.args.moment.now c.in-Not.waiting c.floor-floor.result (told_is c) (quiet told))
+
+pub returns-in-Join-clause-untouched : goal.returns-in-Join-clause-untouched
+returns-in-Join-clause-untouched c told = subst (StaysUntouched c.args.program.now c.args.moment.now) (sym c.in-Join.is) (join_untouched c.args.program.now c.args.moment.now c.in-Join.field-0)
+
+pub returns-in-Join-clause-untouched_rows : goal.returns-in-Join-clause-untouched_rows
+returns-in-Join-clause-untouched_rows c told = subst (TellsUntouched c.args.program.now c.args.moment.now) (sym c.in-Join.is) (join_tells_untouched c.args.program.now c.args.moment.now c.in-Join.field-0)
+
+pub returns-in-Exists-clause-untouched : goal.returns-in-Exists-clause-untouched
+returns-in-Exists-clause-untouched c told = subst (StaysUntouched c.args.program.now c.args.moment.now) (sym c.in-Exists.is) (exists_untouched c.args.program.now c.args.moment.now c.in-Exists.field-0)
+
+pub returns-in-Exists-clause-untouched_rows : goal.returns-in-Exists-clause-untouched_rows
+returns-in-Exists-clause-untouched_rows c told = subst (TellsUntouched c.args.program.now c.args.moment.now) (sym c.in-Exists.is) (exists_tells_untouched c.args.program.now c.args.moment.now c.in-Exists.field-0)
+
+pub returns-in-Fold-clause-untouched : goal.returns-in-Fold-clause-untouched
+returns-in-Fold-clause-untouched c told = subst (StaysUntouched c.args.program.now c.args.moment.now) (sym c.in-Fold.is) (fold_untouched c.args.program.now c.args.moment.now c.in-Fold.field-0)
+
+pub returns-in-Fold-clause-untouched_rows : goal.returns-in-Fold-clause-untouched_rows
+returns-in-Fold-clause-untouched_rows c told = subst (TellsUntouched c.args.program.now c.args.moment.now) (sym c.in-Fold.is) (fold_tells_untouched c.args.program.now c.args.moment.now c.in-Fold.field-0)

@@ -1,10 +1,15 @@
-use Rattle.pair_memory.proofs.Common.{◌∙◌, sym, ap, not, ◌&&◌, ◌||◌, Option, Some, is_some, eq_by_cmp, Value, same_value, at, name_cmp, beside, SeesRows}
-use Rattle.pair_memory.proofs.Keeping.{right_keeps, some_put, some_if, if_some, none_if}
+use Rattle.pair_memory.proofs.Common.{◌∙◌, ap, not, ◌&&◌, ◌||◌, Option, Some, is_some, eq_by_cmp, Value, same_value, at, name_cmp, beside, SeesRows}
+use Rattle.pair_memory.proofs.Keeping.{right_keeps, names_keep, some_put, some_if, if_some, none_if}
 use Rattle.pair_memory.proofs.candidates.Candidates.put.Goals as goal
 
 pub returns-clause-keeps : goal.returns-clause-keeps
 returns-clause-keeps g c left =
     right_keeps (beside left c.args.self.now) (g.F.Facts.map c.args.facts.now) c.args.who c.in_ok-value.value (c.in_ok-value.ensures ∙ c.own.ensures ∙ c.sight-sight.ensures.own) (Some tt) c.put.new.self c.in_ok-put.ensures.kept
+    _ (λ n. some_put (eq_by_cmp name_cmp c.args.who n) tt _)
+
+pub returns-clause-names : goal.returns-clause-names
+returns-clause-names g c =
+    names_keep c.args.self.now (g.F.Facts.map c.args.facts.now) c.args.who c.in_ok-value.value (c.in_ok-value.ensures ∙ c.own.ensures ∙ c.sight-sight.ensures.own) (Some tt) c.put.new.self c.in_ok-put.ensures.kept
     _ (λ n. some_put (eq_by_cmp name_cmp c.args.who n) tt _)
 
 pub returns-clause-under : goal.returns-clause-under

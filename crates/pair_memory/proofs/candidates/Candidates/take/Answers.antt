@@ -1,10 +1,15 @@
-use Rattle.pair_memory.proofs.Common.{◌≡◌, ◌∙◌, sym, ap, subst, true, Option, None, is_some, eq_by_cmp, Value, same_value, at, name_cmp, beside, SeesRows}
-use Rattle.pair_memory.proofs.Keeping.{before_taken, right_keeps, some_taken, some_if, if_some}
+use Rattle.pair_memory.proofs.Common.{◌≡◌, ◌∙◌, ap, subst, true, Option, None, is_some, eq_by_cmp, Value, same_value, at, name_cmp, beside, SeesRows}
+use Rattle.pair_memory.proofs.Keeping.{before_taken, right_keeps, names_keep, some_taken, some_if, if_some}
 use Rattle.pair_memory.proofs.candidates.Candidates.take.Goals as goal
 
 pub returns-clause-keeps : goal.returns-clause-keeps
 returns-clause-keeps g c left =
     right_keeps (beside left c.args.self.now) (g.F.Facts.map c.args.facts.now) c.args.who c.own.result.now (c.own.ensures ∙ c.sight-sight.ensures.own) None c.take.new.self c.take.ensures.kept
+    _ (λ n. some_taken (eq_by_cmp name_cmp c.args.who n) _)
+
+pub returns-clause-names : goal.returns-clause-names
+returns-clause-names g c =
+    names_keep c.args.self.now (g.F.Facts.map c.args.facts.now) c.args.who c.own.result.now (c.own.ensures ∙ c.sight-sight.ensures.own) None c.take.new.self c.take.ensures.kept
     _ (λ n. some_taken (eq_by_cmp name_cmp c.args.who n) _)
 
 pub returns-clause-under : goal.returns-clause-under

@@ -1,6 +1,7 @@
-use Rattle.tally_node.proofs.Common.{take, TellsBeside}
+use Rattle.tally_node.proofs.Common.{take, TellsBeside, option_map}
+use Rattle.pair_memory.specs.Shared.{over}
 use Rattle.tally_node.proofs.Searching.{AreListed}
 use Rattle.tally_node.proofs.node.TallyNode.extras.Given as goal
 
 abbrev pub invariant-loop-row : goal.invariant-loop-row
-invariant-loop-row g l = AreListed (TellsBeside (g.T.Tally.holds l.plan) (g.T.Tally.gathered l.plan) l.self.memories (g.F.Facts.map l.facts) l.rule l.condition) (take l.row-index l.row-items) l.extras.items
+invariant-loop-row g l = AreListed (TellsBeside (g.T.Tally.holds l.plan) (g.T.Tally.gathered l.plan) (over l.self.memories (option_map (λ s. s.now) l.shared)) (g.F.Facts.map l.facts) l.rule l.condition) (take l.row-index l.row-items) l.extras.items

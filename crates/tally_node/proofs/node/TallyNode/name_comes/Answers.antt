@@ -26,7 +26,7 @@ returns-in_ok-turn_all-in-Some g c =
     let seen = seen_after m.pattern n.pattern look c.args.who c.in_ok-sight.field-0 c.in-Some.sight c.in_ok-sight.ensures.sight c.in-Some.is keeps.pattern in
     part_then _ _ _ m n z look _ _ _ _ _ _ _ _ _
     (unmoved g.T.Tally.origin g.T.Tally.gives (g.T.Tally.output c.args.plan.now) (AllStay look) m n look _ _ c.args.change.now keeps c.in_ok-sight.ensures.left c.in_ok-sight.ensures.left)
-    c.in_ok-turn_all-in-Some.ensures keeps.rows keeps.names
+    c.in_ok-turn_all-in-Some.ensures.turned keeps.rows keeps.names
     (λ stay turned.
-    come_all (g.T.Tally.holds c.args.plan.now) look m n z c.args.who (has c.as_slice.result.now) (λ r. ap (λ (rows : List Row). has rows r) c.as_slice.ensures.value ∙ c.in_ok-rows-in-Some.ensures.rows seen r) stay c.in_ok-turn_all-in-Some.ensures.keeps.names
+    come_all (g.T.Tally.holds c.args.plan.now) look m n z c.args.who (has c.as_slice.result.now) (λ r. ap (λ (rows : List Row). has rows r) c.as_slice.ensures.value ∙ c.in_ok-rows-in-Some.ensures.rows seen r) stay c.in_ok-turn_all-in-Some.ensures.turned.keeps.names
     keeps (if_not _ _ (sym c.in_ok-sight.ensures.came ∙ ap is_some c.in-Some.is)) turned)

@@ -3,16 +3,16 @@ use Rattle.tally_node.proofs.Parts.{unmoved}
 use Rattle.tally_node.proofs.Turning.{shown_from, gone_shown, untouched}
 use Rattle.tally_node.proofs.node.TallyNode.row_leaves.Goals as goal
 
-pub returns-in-None : goal.returns-in-None
-returns-in-None g c =
+pub returns-in-None-clause-turned : goal.returns-in-None-clause-turned
+returns-in-None-clause-turned g c =
     let look = g.F.Facts.map c.args.facts.now in
     let m = c.args.self.now.memories in
     let n = c.take_left.new.self in
     unmoved g.T.Tally.origin g.T.Tally.gives (g.T.Tally.output c.args.plan.now) (AllDropped look (eq_by_cmp row_cmp c.args.row.now)) m n look _ _ c.args.change.now c.take_left.ensures.keeps
     (untouched m n look c.args.row.now (sym c.take_left.ensures.taken ∙ c.in-None.is) c.take_left.ensures.left) c.take_left.ensures.left
 
-pub returns-in_ok-note-in-Some : goal.returns-in_ok-note-in-Some
-returns-in_ok-note-in-Some g c =
+pub returns-in_ok-note-in-Some-clause-turned : goal.returns-in_ok-note-in-Some-clause-turned
+returns-in_ok-note-in-Some-clause-turned g c =
     let look = g.F.Facts.map c.args.facts.now in
     let m = c.args.self.now.memories in
     let row = c.args.row.now in

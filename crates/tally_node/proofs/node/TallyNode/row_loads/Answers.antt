@@ -7,8 +7,8 @@ use Rattle.tally_node.proofs.Parts.{unmoved}
 use Rattle.tally_node.proofs.Turning.{put_shown, shown_from, none_output}
 use Rattle.tally_node.proofs.node.TallyNode.row_loads.Goals as goal
 
-pub returns-then-has_left : goal.returns-then-has_left
-returns-then-has_left g c =
+pub returns-then-has_left-clause-turned : goal.returns-then-has_left-clause-turned
+returns-then-has_left-clause-turned g c =
     let look = g.F.Facts.map c.args.facts.now in
     let m = c.args.self.now.memories in
     let row = c.args.row.now in
@@ -20,8 +20,8 @@ returns-then-has_left g c =
     (record { pattern = refl; rows = row_present (has_left m look) row there; names = λ n. refl; agrees = λ before. before }) (λ r. refl)
     (λ world alike r. arrives_there (λ t world set. IsTallyLaden holds laden t world set o) world (eq_by_cmp row_cmp row r) _ (left_at m look r) (λ e. ap (has_left m look) (sym ((row_decides row r).0 e)) ∙ there))
 
-pub returns : goal.returns
-returns g c =
+pub returns-clause-turned : goal.returns-clause-turned
+returns-clause-turned g c =
     let look = g.F.Facts.map c.args.facts.now in
     let m = c.args.self.now.memories in
     let n = c.put_left.new.self in

@@ -1,4 +1,4 @@
-use Rattle.tally_node.proofs.Common.{◌+◌, take, eq_by_cmp, has, row_cmp, same_equiv, has_left, less_more}
+use Rattle.tally_node.proofs.Common.{◌∙◌, ◌+◌, take, eq_by_cmp, has, row_cmp, same_equiv, has_left, less_more}
 use Rattle.tally_node.proofs.Following.{rows_more}
 use Rattle.tally_node.proofs.Parts.{part_then, dropped_then}
 use Rattle.tally_node.proofs.node.TallyNode.rows_leave.Goals as goal
@@ -12,7 +12,10 @@ loop-row-preserved g c =
     let rows = c.args.rows.now in
     let i = c.loop-row.row-index in
     let row = c.row-item.result in
-    part_then _ _ _ m n z look _ _ _ _ _ _ _ _ _ c.loop-row.invariant c.in_ok-row_leaves.ensures
-    (λ r. less_more (eq_by_cmp row_cmp) same_equiv.symm rows i c.loop-row-test.true row row c.row-item.is r (has_left m look r) (has_left n look r) (c.loop-row.invariant.keeps.rows r))
-    c.loop-row.invariant.keeps.names
-    (dropped_then (g.T.Tally.holds c.args.plan.now) look m n z (has (take i rows)) (eq_by_cmp row_cmp row) (has (take (i + 1) rows)) (rows_more rows i row c.loop-row-test.true c.row-item.is))
+    record {
+      turned = part_then _ _ _ m n z look _ _ _ _ _ _ _ _ _ c.loop-row.invariant.turned c.in_ok-row_leaves.ensures.turned
+          (λ r. less_more (eq_by_cmp row_cmp) same_equiv.symm rows i c.loop-row-test.true row row c.row-item.is r (has_left m look r) (has_left n look r) (c.loop-row.invariant.turned.keeps.rows r))
+          c.loop-row.invariant.turned.keeps.names
+          (dropped_then (g.T.Tally.holds c.args.plan.now) look m n z (has (take i rows)) (eq_by_cmp row_cmp row) (has (take (i + 1) rows)) (rows_more rows i row c.loop-row-test.true c.row-item.is));
+      right = c.in_ok-row_leaves.ensures.right ∙ c.loop-row.invariant.right;
+    }

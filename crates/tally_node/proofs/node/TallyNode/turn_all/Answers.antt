@@ -1,4 +1,4 @@
-use Rattle.tally_node.proofs.Common.{◌+◌, subst, take, eq_by_cmp, has, row_cmp, has_left, has_right, shown, PartStep, AllTurned}
+use Rattle.tally_node.proofs.Common.{◌∙◌, ◌+◌, subst, take, eq_by_cmp, has, row_cmp, has_left, has_right, shown, PartStep, AllTurned}
 use Rattle.tally_node.proofs.Following.{take_all, rows_more, rows_apart}
 use Rattle.tally_node.proofs.Parts.{part_then, turned_then}
 use Rattle.tally_node.proofs.node.TallyNode.turn_all.Goals as goal
@@ -12,14 +12,17 @@ loop-row-preserved g c =
     let rows = c.args.rows.now in
     let i = c.loop-row.row-index in
     let row = c.row-item.result in
-    part_then _ _ _ m n z look _ _ _ _ _ _ _ _ _ c.loop-row.invariant c.in_ok-turn_at.ensures c.loop-row.invariant.keeps.rows c.loop-row.invariant.keeps.names
-    (turned_then (g.T.Tally.holds c.args.plan.now) look m n z c.args.comes c.args.who (has (take i rows)) (eq_by_cmp row_cmp row) (has (take (i + 1) rows))
-    (rows_apart rows i row c.loop-row-test.true c.row-item.is c.requires) (rows_more rows i row c.loop-row-test.true c.row-item.is))
+    record {
+      turned = part_then _ _ _ m n z look _ _ _ _ _ _ _ _ _ c.loop-row.invariant.turned c.in_ok-turn_at.ensures.turned c.loop-row.invariant.turned.keeps.rows c.loop-row.invariant.turned.keeps.names
+          (turned_then (g.T.Tally.holds c.args.plan.now) look m n z c.args.comes c.args.who (has (take i rows)) (eq_by_cmp row_cmp row) (has (take (i + 1) rows))
+          (rows_apart rows i row c.loop-row-test.true c.row-item.is c.requires) (rows_more rows i row c.loop-row-test.true c.row-item.is));
+      right = c.in_ok-turn_at.ensures.right ∙ c.loop-row.invariant.right;
+    }
 
-pub returns : goal.returns
-returns g c =
+pub returns-clause-turned : goal.returns-clause-turned
+returns-clause-turned g c =
     let look = g.F.Facts.map c.args.facts.now in
     let m = c.args.self.now.memories in
     subst (λ rows. PartStep (shown g.T.Tally.origin g.T.Tally.gives (g.T.Tally.output c.args.plan.now)) (AllTurned (g.T.Tally.holds c.args.plan.now) look c.args.comes c.args.who (has rows)) m c.loop-row.self.memories look
     (has_left m look) (has_right m look) c.args.change.now c.loop-row.change)
-    (take_all c.args.rows.now c.loop-row.row-index c.loop-row-test.false) c.loop-row.invariant
+    (take_all c.args.rows.now c.loop-row.row-index c.loop-row-test.false) c.loop-row.invariant.turned

@@ -5,8 +5,8 @@ use Rattle.tally_node.proofs.Parts.{unmoved}
 use Rattle.tally_node.proofs.Turning.{shown_from, steps_one, steps_absent, absent, exchanged, was_there, exchanged_shown}
 use Rattle.tally_node.proofs.node.TallyNode.turn_at.Goals as goal
 
-pub returns-then-not-has_left : goal.returns-then-not-has_left
-returns-then-not-has_left g c =
+pub returns-then-not-has_left-clause-turned : goal.returns-then-not-has_left-clause-turned
+returns-then-not-has_left-clause-turned g c =
     let look = g.F.Facts.map c.args.facts.now in
     let m = c.args.self.now.memories in
     let holds = g.T.Tally.holds c.args.plan.now in
@@ -15,8 +15,8 @@ returns-then-not-has_left g c =
     (record { pattern = refl; rows = λ r. refl; names = λ x. refl; agrees = λ before. before }) (λ r. refl)
     (λ world alike r. steps_absent holds world c.args.comes c.args.who (turning r) (left_at m look r) (absent m look c.args.row.now (sym c.has_left.ensures ∙ c.if-not-has_left.true) r))
 
-pub returns-in-Ok-exchange_left : goal.returns-in-Ok-exchange_left
-returns-in-Ok-exchange_left g c =
+pub returns-in-Ok-exchange_left-clause-turned : goal.returns-in-Ok-exchange_left-clause-turned
+returns-in-Ok-exchange_left-clause-turned g c =
     let look = g.F.Facts.map c.args.facts.now in
     let m = c.args.self.now.memories in
     let next = c.exchange_left.new.self in

@@ -1,0 +1,5 @@
+pub mod Handed
+pub mod Reached
+pub mod Turns
+pub mod Lending
+pub mod Doors
