@@ -98,7 +98,7 @@ class Words(Case):
         words = {0: "before its script", 5: "a read", 6: "could not write", 7: "memory", 9: "image", 11: "before"}
         for status, word in words.items():
             self.act(f"exit {status}")
-            found, _, said = self.keep(b"")
+            found, _, said = self.keep(b"x\n")
             self.assertEqual(found, status or 2)
             self.assertRegex(said, f"\\Akeeper: the program ended with status {status}: [^\n]*{word}[^\n]*\n\\Z")
 
