@@ -16,7 +16,8 @@ use Rattle.rule_lives.specs.Keeping.{AreLives, IsSafeTable}
 use Rattle.laden_rows.specs.Extras.{IsFirstWith, extra_cmp}
 use Rattle.laden_rows.specs.Laden.{AreOwners}
 use Rattle.image_laws.specs.Images.{AreMoments, IsImageOf, fired_cmp, has_fired, match_fired}
-use Rattle.image_laws.specs.Fitting.{IsLadenMatch}
+use Rattle.image_laws.specs.Fitting.{Fits, IsLadenMatch, IsNextNumber}
+use Rattle.laden_rows.specs.Placed.{IsSmall}
 use Rattle.rule_change.specs.Changed.{changed, carried, entry_in, is_marked, moment_or_zero, moved_condition, moved_fact}
 use Rattle.rule_change.specs.Refused.{IsVerdict, NonePending}
 use Rattle.rule_change.specs.Alike.{AreOver}
@@ -49,7 +50,7 @@ pub record IsChangedImage (p q : Program) (from : ℕ → Option ℕ) (image mad
   pub extras_in_order : IsStrictlySortedBy extra_cmp made.extras
   pub extras : (e : Extra) → In e made.extras ↔ IsMovedExtra p q image e
 
--- ---- what is to hold; none of it is proved yet
+-- ---- what holds
 
 -- of each lawful world of which the image is, the changed one is the image of the world under the new rules, with the carried lives
 abbrev pub ChangedIsImage : Type 0
@@ -63,3 +64,17 @@ abbrev pub PendingIsTold : Type 0
 PendingIsTold = (p : Program) (from : ℕ → Option ℕ) (table : LifeTable) (owners : ℕ → ℕ → ℕ) (w : World) (image : Image)
     → IsLawful p w → IsSafeTable p table → AreOwners p owners → IsImageOf p table w image
     → NonePending p from w ↔ ((m : Match) → IsLadenMatch p image owners m.rule.0 m.row → (has_fired image m ≡ true → ⊥) → (new : ℕ) × (from new ≡ Some m.rule.0))
+
+-- an image is changed in one way, but for what it says of the run
+abbrev pub ChangedIsOne : Type 0
+ChangedIsOne = (p q : Program) (from : ℕ → Option ℕ) (image a b : Image) → IsChangedImage p q from image a → IsChangedImage p q from image b
+    → a.run ≡ b.run → a ≡ b
+
+-- The changed image of a world fits the new rules, with the carried lives, where its next numbers are from 1 on, and they, its lines and its firings are
+-- small.
+abbrev pub ChangedFits : Type 0
+ChangedFits = (p q : Program) (from : ℕ → Option ℕ) (table own : LifeTable) (w : World) (image made : Image) → AreOver p q from
+    → IsLawful p w → IsSafeTable p table → AreLives q own → AreShort own → IsVerdict p q from table own w None
+    → IsImageOf p table w image → IsChangedImage p q from image made
+    → IsNextNumber image.next_id → IsNextNumber image.next_tag → IsSmall made.run.lines → IsSmall made.run.firings
+    → Fits q (carried p q table own) made

@@ -1,7 +1,7 @@
 -- The lives by which a world goes on are safe for the new rules.
-use Rattle.rule_change.proofs.Common.{◌≡◌, ℕ, zero, suc, Bool, true, false, List, [], ◌∷◌, Option, Some, None, refl, sym, ◌∙◌, ap, subst, arith}
-use Rattle.rule_change.proofs.Common.{option_and_then, length, slice_get, is_event_type, expiry_in, Program, TypeInfo, carried, carried_life, life_or, IsLonger}
-use Rattle.rule_change.proofs.Common.{is_longer, AreOver, some_is}
+use Rattle.rule_change.proofs.Common.{◌≡◌, ℕ, zero, suc, Bool, true, false, List, [], ◌∷◌, Option, Some, None, refl, sym, ◌∙◌, ap, ap₂, ◌<◌, subst, arith}
+use Rattle.rule_change.proofs.Common.{option_and_then, length, slice_get, get-below, slice_get_within, is_event_type, expiry_in, Program, TypeInfo, carried}
+use Rattle.rule_change.proofs.Common.{carried_life, life_or, IsLonger, is_longer, AreOver, some_is}
 use Rattle.fx_base.proofs.Orders.{int_lt-false}
 use Rattle.rule_lives.proofs.Safe.{safe_life}
 use Rattle.rule_lives.specs.Keeping.{AreLives, IsLifeOf, IsSafeLife, IsSafeTable}
@@ -13,7 +13,9 @@ use Rattle.rule_model.specs.declared.life.LifeTable.{LifeTable}
 use Rattle.change_read.specs.Changes.{type_named}
 use Rattle.rule_change.specs.Changed.{carried_lives}
 use Rattle.rule_change.specs.Lives.{CarriedIsSafe}
-use Rattle.rule_change.proofs.Places.{type_found}
+use Rattle.rule_change.specs.Changed.{new_type}
+use Rattle.rule_change.proofs.Matching.{over_moves}
+use Rattle.rule_change.proofs.Places.{type_back, type_found}
 
 -- ---- the carried table
 
@@ -40,6 +42,31 @@ carried_at old table (ty ∷ types) (one ∷ own) zero life e = record { ty = ty
 carried_at old table (ty ∷ types) (one ∷ own) (suc place) life e =
     let r = carried_at old table types own place life e in
     record { ty = r.ty; stands = r.stands; life_own = r.life_own; has = r.has; is = r.is }
+
+-- what is carried to a place
+carried_there : (old : List TypeInfo) (table : LifeTable) (types : List TypeInfo) (own : List Life) (place : ℕ) (ty : TypeInfo) (life : Life)
+    → slice_get types place ≡ Some ty → slice_get own place ≡ Some life
+    → slice_get (carried_lives old table types own) place ≡ Some (carried_life table life (type_named ty.name old 0))
+unfolding carried_lives
+carried_there old table [] own place ty life e h = absurd cc
+carried_there old table (x ∷ types) [] place ty life e h = absurd cc
+carried_there old table (x ∷ types) (one ∷ own) zero ty life e h =
+    ap₂ (λ (z : TypeInfo) (l : Life). Some (carried_life table l (type_named z.name old 0))) (some_is e) (some_is h)
+carried_there old table (x ∷ types) (one ∷ own) (suc place) ty life e h = carried_there old table types own place ty life e h
+
+-- the life of a type that was there stays
+pub life_stays : (p q : Program) (from : ℕ → Option ℕ) (table own : LifeTable) → AreOver p q from → length table.lives ≡ length p.types → length own.lives ≡ length q.types
+    → (ty : ℕ) → ty < length p.types → slice_get (carried p q table own).lives (new_type p q ty) ≡ slice_get table.lives ty
+life_stays p q from table own over many others ty lt =
+    let t = get-below p.types ty lt in
+    let u = (over_moves p q from over).type_is ty t.0 t.1 in
+    let below = slice_get_within q.types (new_type p q ty) u.0 u.1 in
+    let needs = get-below own.lives (new_type p q ty) (omega (arith, below, others)) in
+    let life = get-below table.lives ty (omega (arith, lt, many)) in
+    carried_there p.types table q.types own.lives (new_type p q ty) u.0 needs.0 u.1 needs.1
+    ∙ ap (λ (name : List ℕ). Some (carried_life table needs.0 (type_named name p.types 0))) (sym u.2.name)
+    ∙ ap (λ (named : Option (ℕ × TypeInfo)). Some (carried_life table needs.0 named)) (type_back p over.names ty t.0 t.1)
+    ∙ ap (λ (o : Option Life). Some (life_or needs.0 o)) life.1 ∙ sym life.1
 
 -- ---- the life of a type that both have
 

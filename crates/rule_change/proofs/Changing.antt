@@ -17,7 +17,8 @@ use Rattle.rule_change.proofs.Places.{Moves, same_event, same_point, entries_apa
 use Rattle.rule_change.proofs.Rows.{HasPlace, AreMoved}
 use Rattle.rule_change.proofs.Matching.{matches_once, same_match, lawful_places, over_moves}
 
-filtered : (test : Match → Bool) (m : Match) (ms : List Match) → has_match (filter test ms) m ≡ (has_match ms m && test m)
+-- whether a match is among those that pass
+pub filtered : (test : Match → Bool) (m : Match) (ms : List Match) → has_match (filter test ms) m ≡ (has_match ms m && test m)
 filtered test m ms = is_member-filter match_equiv test m (λ x e. ap test (tells_apart match_exact m x e)) ms
 
 implied : (a b : Bool) → (b ≡ true → a ≡ true) → (a && b) ≡ b

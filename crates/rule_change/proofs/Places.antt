@@ -1,6 +1,6 @@
 -- Where the types and the entry points of a program stand in another that has them all.
 use Rattle.rule_change.proofs.Common.{◌≡◌, ◌<◌, ◌+◌, ◌==◌, ℕ, zero, suc, Bool, true, false, cond, List, [], ◌∷◌, Option, Some, option_map, refl, sym, ◌∙◌, ap}
-use Rattle.rule_change.proofs.Common.{subst, arith, eq-eqb, eqb-true, option_and_then, length, slice_get, get-below, same_test, Program, TypeInfo}
+use Rattle.rule_change.proofs.Common.{ap₂, subst, arith, eq-eqb, eqb-true, option_and_then, length, slice_get, get-below, same_test, Program, TypeInfo}
 use Rattle.rule_change.proofs.Common.{is_event_type, is_reference_type, is_point_type, expiry_in, lateness_in, entry_in, place_or_zero, IsSameType, HaveTypes}
 use Rattle.rule_change.proofs.Common.{HaveEntries, HaveNames, some_is}
 use Rattle.std.proofs.lemmas.Slice.Eq.{bytes_eq-Decides}
@@ -33,6 +33,33 @@ type_found name types found e =
     let k = f.1 in
     let same : found.0 ≡ f.0 = omega arith in
     (ap (slice_get types) same ∙ f.2, f.3)
+
+-- a type whose name stands once is found
+type_once : (types : List TypeInfo) (before k : ℕ) (ty : TypeInfo) → slice_get types k ≡ Some ty
+    → ((j : ℕ) (other : TypeInfo) → slice_get types j ≡ Some other → ty.name ≡ other.name → k ≡ j)
+    → type_named ty.name types before ≡ Some (before + k, ty)
+unfolding type_named
+type_once [] before k ty e once = absurd cc
+type_once (x ∷ types) before zero ty e once =
+    let same : x ≡ ty = some_is e in
+    let here : before ≡ before + 0 = omega arith in
+    ap (λ (b : Bool). cond b (Some (before, x)) (type_named ty.name types (before + 1))) ((bytes_eq-Decides x.name ty.name).1 (ap (λ (z : TypeInfo). z.name) same))
+    ∙ ap₂ (λ (n : ℕ) (z : TypeInfo). Some (n, z)) here same
+type_once (x ∷ types) before (suc k) ty e once =
+    let there : before + 1 + k ≡ before + suc k = omega arith in
+    by (bytes_eq x.name ty.name) refl
+    (type_once types (before + 1) k ty e (λ j other at same. let n = once (suc j) other at same in omega arith) ∙ ap (λ (n : ℕ). Some (n, ty)) there)
+  where
+    by : (b : Bool) → bytes_eq x.name ty.name ≡ b → type_named ty.name types (before + 1) ≡ Some (before + suc k, ty)
+        → cond b (Some (before, x)) (type_named ty.name types (before + 1)) ≡ Some (before + suc k, ty)
+    by true h later = let n = once 0 x refl (sym ((bytes_eq-Decides x.name ty.name).0 h)) in absurd (omega arith)
+    by false h later = later
+
+-- a type is found by its name
+pub type_back : (p : Program) → HaveNames p → (ty : ℕ) (t : TypeInfo) → slice_get p.types ty ≡ Some t → type_named t.name p.types 0 ≡ Some (ty, t)
+type_back p names ty t e =
+    let none : 0 + ty ≡ ty = omega arith in
+    type_once p.types 0 ty t e (λ j other at same. names.types ty j t other e at same) ∙ ap (λ (n : ℕ). Some (n, t)) none
 
 -- an entry point whose name stands once is found
 entry_found : (entries : List EntryInfo) (before k : ℕ) (entry : EntryInfo) → slice_get entries k ≡ Some entry

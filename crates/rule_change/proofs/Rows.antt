@@ -64,15 +64,18 @@ module _ (p q : Program) (m : Moves p q) where
       (ap₂ (λ (a b : Bool). a && b) (same_types p q m f.ty.0 pattern.ty.0 at.type ty)
       (ap₂ (λ (a b : Bool). a && b) (same_entries p q m f.entry.0 pattern.entry.0 at.entry entry) (alone_same f pattern)))
 
-  passes_same : (pattern : Pattern) (t : Tuple) (f : Fact) → passes (moved_pattern p q pattern) (moved_tuple p q t) (moved_fact p q f) ≡ passes pattern t f
+  pub passes_same : (pattern : Pattern) (t : Tuple) (f : Fact) → passes (moved_pattern p q pattern) (moved_tuple p q t) (moved_fact p q f) ≡ passes pattern t f
   passes_same pattern t f = ap₂ (λ (a b : Bool). a && b) (tests_same p q t f pattern.joined) (times_same p q t f.times pattern.times)
 
-  result_same : (a : Accumulate) (facts : List Fact) → result_of (record a { pattern = moved_pattern p q a.pattern }) (map (moved_fact p q) facts) ≡ result_of a facts
-  result_same a facts = ap (fold_result a.kind) (map-map (argument a.arg) (moved_fact p q) facts ∙ by a.arg)
+  pub arguments_same : (arg : Option ℕ) (facts : List Fact) → map (argument arg) (map (moved_fact p q) facts) ≡ map (argument arg) facts
+  arguments_same arg facts = map-map (argument arg) (moved_fact p q) facts ∙ by arg
     where
       by : (arg : Option ℕ) → map (λ (f : Fact). argument arg (moved_fact p q f)) facts ≡ map (argument arg) facts
       by None = refl
       by (Some field) = refl
+
+  result_same : (a : Accumulate) (facts : List Fact) → result_of (record a { pattern = moved_pattern p q a.pattern }) (map (moved_fact p q) facts) ≡ result_of a facts
+  result_same a facts = ap (fold_result a.kind) (arguments_same a.arg facts)
 
   bound_more : (t : Tuple) (f : Fact) → with_fact (moved_tuple p q t) (moved_fact p q f) ≡ moved_tuple p q (with_fact t f)
   bound_more t f = ap (λ (facts : List Fact). tuple_of facts t.values) (sym (map-append (moved_fact p q) t.facts (f ∷ [])))
@@ -124,7 +127,7 @@ module _ (p q : Program) (m : Moves p q) where
           ap₂ (λ (c : ℤ) (facts : List Fact). fits q there c g && is_inside q there pattern.window c facts g) are.clock are.facts
           ∙ ap₂ (λ (a b : Bool). a && b) (fits_same pattern s.clock f ty entry (are.places f i)) (inside_same pattern.window f)
 
-      candidates_same : candidates q (moved_pattern p q pattern) o ≡ map (moved_fact p q) (candidates p pattern s)
+      pub candidates_same : candidates q (moved_pattern p q pattern) o ≡ map (moved_fact p q) (candidates p pattern s)
       candidates_same =
           ap (filter (is_candidate q (moved_pattern p q pattern) o)) are.facts
           ∙ filter_mapped (moved_fact p q) (is_candidate p pattern s) (is_candidate q (moved_pattern p q pattern) o) s.facts candidate_same

@@ -226,7 +226,7 @@ same_fault p q from w w' over lawful alike observed step of =
 
 pub alike_steps : AlikeSteps
 unfolding stepped
-alike_steps p q from w w' over lawful other alike step of none also =
+alike_steps p q from w w' over lawful alike step of =
     let places = lawful_places p w lawful in
     settled_alike p q from (moved p w step) (moved q w' (moved_step p q step)) over (moved_places p w places step of)
     (moved_alike p q (over_moves p q from over) from w w' places alike step of)

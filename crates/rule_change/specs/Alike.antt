@@ -95,11 +95,10 @@ SameFault = (p q : Program) (from : ℕ → Option ℕ) (w w' : World) → AreOv
     → ((ty : ℕ) → ty < length p.types → is_observed q (new_type p q ty) ≡ is_observed p ty)
     → (step : Step) → IsStepOf p step → step_fault q w' (moved_step p q step) ≡ step_fault p w step
 
--- the same steps lead to worlds that are alike
+-- the same steps lead to worlds that are alike; the old world is lawful, as above
 abbrev pub AlikeSteps : Type 0
-AlikeSteps = (p q : Program) (from : ℕ → Option ℕ) (w w' : World) → AreOver p q from → IsLawful p w → IsLawful q w' → AreAlike p q from w w'
-    → (step : Step) → IsStepOf p step → step_fault p w step ≡ None → step_fault q w' (moved_step p q step) ≡ None
-    → AreAlike p q from (stepped p w step) (stepped q w' (moved_step p q step))
+AlikeSteps = (p q : Program) (from : ℕ → Option ℕ) (w w' : World) → AreOver p q from → IsLawful p w → AreAlike p q from w w'
+    → (step : Step) → IsStepOf p step → AreAlike p q from (stepped p w step) (stepped q w' (moved_step p q step))
 
 -- so does a match of a rule that stays which is marked in both
 abbrev pub AlikeMarked : Type 0

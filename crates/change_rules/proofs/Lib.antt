@@ -1,0 +1,4 @@
+mod Common
+pub mod Finding
+pub mod Carried
+pub mod Longer

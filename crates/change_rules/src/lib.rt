@@ -1,0 +1,16 @@
+//! Which rules stay under other rules, whether these are refused, and the lives that go on. All is as `rule_change` defines it. It takes memory for
+//! the places and the lives that it tells, and for copies of conditions.
+#![tactic(auto)]
+
+mod counted;
+mod expressions;
+mod ground;
+mod judging;
+mod lives;
+mod moved;
+mod places;
+mod staying;
+
+pub use judging::verdict;
+pub use lives::carried_table;
+pub use staying::staying_rules;
