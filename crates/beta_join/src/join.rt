@@ -7,7 +7,8 @@ ghost use Rattle.row_delta.specs.Rows.{has, row_cmp, InOrder};
 ghost use Rattle.row_delta.specs.NameOrder.{name_cmp};
 ghost use Rattle.row_change.specs.Changes.{IsDifference, LeadsRows};
 ghost use Rattle.fx_base.specs.Values.{same_value};
-ghost use Rattle.alpha_memory.specs.JoinIndex.{at};
+ghost use Rattle.std.specs.Option.{is_some};
+ghost use Rattle.alpha_memory.specs.JoinIndex.{at, bucket_at};
 ghost use Rattle.join_tests.specs.JoinValues.{shown};
 ghost use Rattle.join_tests.specs.Joins.{Look, joins};
 ghost use Rattle.join_tests.specs.Kept.{row_value};
@@ -115,6 +116,7 @@ impl BetaJoin {
 
     /// Whether a row of the conditions before this one is kept under a value. It takes no memory, and costs a hash.
     pub fn has_rows_under(&self, value: &Value) -> bool
+        ensures bucket { result ≡ is_some (bucket_at same_value self.now.memories.left value.now) }
         ensures none { result ≡ false → (row : Row) → at same_value row_cmp self.now.memories.left value.now row ≡ None }
     {
         self.memories.has_rows_under(value)

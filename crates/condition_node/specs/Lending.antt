@@ -8,7 +8,7 @@ use Rattle.row_delta.specs.declared.row.Named.{Named}
 use Rattle.row_delta.specs.declared.row.Row.{Row}
 use Rattle.row_delta.specs.Rows.{row_cmp}
 use Rattle.alpha_memory.specs.declared.join_index.JoinIndex.{JoinIndex}
-use Rattle.alpha_memory.specs.JoinIndex.{at}
+use Rattle.alpha_memory.specs.JoinIndex.{at, bucket_at}
 use Rattle.join_tests.specs.Joins.{Look}
 use Rattle.join_tests.specs.Kept.{row_value}
 use Rattle.pair_memory.specs.declared.candidates.Candidates.{Candidates}
@@ -77,6 +77,17 @@ node_value (node.Join join) look row = value_kept join.memories look row
 node_value (node.Not waiting) look row = value_kept (blocker_tallies waiting) look row
 node_value (node.Exists tally) look row = value_kept tally.memories look row
 node_value (node.Fold fold) look row = value_kept fold.tally.memories look row
+
+-- memories have something under the value
+abbrev pub has_under : {S : Type 0} → Memories S → Value → Bool
+has_under m value = is_some (bucket_at same_value m.left value)
+
+-- and the node
+abbrev pub node_has_under : Node → Value → Bool
+node_has_under (node.Join join) value = has_under join.memories value
+node_has_under (node.Not waiting) value = has_under (blocker_tallies waiting) value
+node_has_under (node.Exists tally) value = has_under tally.memories value
+node_has_under (node.Fold fold) value = has_under fold.tally.memories value
 
 -- memories keep the row under the value
 abbrev pub stands_under : {S : Type 0} → Memories S → Value → Row → Bool

@@ -36,8 +36,8 @@ pub trait Store {
         ensures counts { faults self.old ≤ faults self.new }
         ensures cause { IsErrOf result StoreFault.Failed → Rose (faults self.old) (faults self.new) };
 
-    /// Puts the file that was begun with this name in the place of the file of the name, or makes it. With `Ok` it is on the disk under the name. With a
-    /// fault the file is the old one or the new one, and never a part of it.
+    /// Puts the file that was begun with this name in the place of the file of the name, or makes it. With `Ok` it is there under the name, and on
+    /// the disk as far as the files of the store can be. With a fault the file is the old one or the new one, and never a part of it.
     fn put_file(&mut self, name: &str) -> Result<(), StoreFault>
         ensures put { OnOk result ((bytes : List ℕ) → IsDraft (files self.old) (draft self.old) bytes → IsPut (files self.old) (files self.new) name.now bytes) }
         ensures kept { OnErr result ((bytes : List ℕ) → IsDraft (files self.old) (draft self.old) bytes → IsOldOrNew (files self.old) (files self.new) name.now bytes) }

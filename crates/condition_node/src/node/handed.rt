@@ -14,7 +14,7 @@ ghost use Rattle.tally_node.specs.Extras.{extra_for};
 ghost use Rattle.condition_rows.specs.Lines.{line};
 ghost use Rattle.condition_rows.specs.Looks.{empty_snapshot};
 ghost use Rattle.condition_node.specs.Forgetting.{ForgetsIn};
-ghost use Rattle.condition_node.specs.Lending.{with_candidates, candidates_in, NodeTakes, NodeForgoes, NodeHas, node_value, node_keeps_under};
+ghost use Rattle.condition_node.specs.Lending.{with_candidates, candidates_in, NodeTakes, NodeForgoes, NodeHas, node_value, node_has_under, node_keeps_under};
 ghost use Rattle.condition_node.specs.Loading.{IsLoad, Laden, node_rows};
 ghost use Rattle.condition_node.specs.Nodes.{condition_of, NodeStands};
 ghost use Rattle.condition_node.specs.Turns.{IsConditionTurn};
@@ -57,6 +57,7 @@ impl Node {
 
     /// Whether a row of the conditions before this one is kept under a value. It takes no memory, and costs a hash.
     pub fn has_rows_under(&self, value: &Value) -> bool
+        ensures bucket { result ≡ node_has_under self.now value.now }
         ensures none { result ≡ false → (row : Row) → node_keeps_under self.now value.now row ≡ false }
     {
         match self {

@@ -4,7 +4,8 @@ ghost use Rattle.row_delta.specs.declared.row.Row.{Row};
 ghost use Rattle.row_delta.specs.Rows.{has, row_cmp, InOrder};
 ghost use Rattle.row_change.specs.Changes.{IsDifference};
 ghost use Rattle.fx_base.specs.Values.{same_value};
-ghost use Rattle.alpha_memory.specs.JoinIndex.{at};
+ghost use Rattle.std.specs.Option.{is_some};
+ghost use Rattle.alpha_memory.specs.JoinIndex.{at, bucket_at};
 ghost use Rattle.join_tests.specs.JoinValues.{shown};
 ghost use Rattle.join_tests.specs.Kept.{row_value};
 ghost use Rattle.pair_memory.specs.declared.candidates.Candidates.{Candidates};
@@ -45,6 +46,7 @@ impl NotNode {
 
     /// Whether a row of the conditions before this one is kept under a value. It takes no memory, and costs a hash.
     pub fn has_rows_under(&self, value: &Value) -> bool
+        ensures bucket { result ≡ is_some (bucket_at same_value (blocker_tallies self.now).left value.now) }
         ensures none { result ≡ false → (row : Row) → at same_value row_cmp (blocker_tallies self.now).left value.now row ≡ None }
     {
         self.tally.has_rows_under(value)
