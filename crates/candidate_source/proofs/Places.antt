@@ -34,7 +34,7 @@ one_place place k = eq_by_nat_cmp-flip place k ∙ by (eq_by_cmp nat_cmp k place
 
 -- ---- the places of a bucket, one after another
 
-none_above : (x : ℕ) (ys : List ℕ) → AllByRecursion (λ y. nat_cmp x y ≡ Less) ys → has_place ys x ≡ false
+pub none_above : (x : ℕ) (ys : List ℕ) → AllByRecursion (λ y. nat_cmp x y ≡ Less) ys → has_place ys x ≡ false
 none_above x [] above = refl
 none_above x (y ∷ ys) above = rw above.0 (none_above x ys above.1)
 

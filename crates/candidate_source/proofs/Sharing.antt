@@ -2,11 +2,16 @@
 use Rattle.candidate_source.proofs.Common.{◌∙◌, ap, sym, refl, subst, ◌≡◌, ℕ, List, Bool, true, false, not, ◌&&◌, ◌||◌, false≢true, is_some}
 use Rattle.candidate_source.proofs.Common.{Value, same_value, Delta, Named, Row, name_cmp, has, Pattern, at, JoinIndex, Look, joins, rows_sought, row_value}
 use Rattle.candidate_source.proofs.Common.{Candidates, Memories, has_candidate, row_naming, has_name, has_left, has_right, sharing, KeepsAlike, KeepsNames, NamesAgree, TakesOver}
-use Rattle.candidate_source.proofs.Common.{ForgoesOld, Source, gone_at, come_at, is_under_one, IsReached, concerns, AreOnce, TurnLaw, ForgetLaw}
+use Rattle.candidate_source.proofs.Common.{ForgoesOld, BTreeMap, Handed, Source, gone_at, come_at, is_under_one, IsReached, concerns, AreOnce, HasTurned, HaveLeft, TurnLaw, ForgetLaw}
 use Rattle.fx_base.proofs.Tests.{and_first}
 use Rattle.join_tests.proofs.Meeting.{row_sought}
 use Rattle.join_tests.proofs.Naming.{kept_alike, sought_alike}
 use Rattle.join_tests.specs.NameKeys.{name_key}
+use Rattle.rule_model.specs.declared.program.Program.{Program}
+use Rattle.rule_model.specs.Snapshots.{Snapshot}
+use Rattle.candidate_source.specs.Handed.{IsUnhanded}
+use Rattle.candidate_source.specs.Reached.{FindsLeft}
+use Rattle.candidate_source.specs.Sources.{HasTurnedAt, HaveLeftAt, TurnAtLaw, ForgetAtLaw}
 use Rattle.candidate_source.proofs.Places.{under_among}
 
 -- ---- what a difference that is a true one tells
@@ -64,7 +69,7 @@ module _ {S : Type 0} (m : Memories S) (look : Look) where
   agree_alike : (p q : Pattern) (names : JoinIndex Value Named (Unit {0})) → name_key p ≡ name_key q → NamesAgree p names look → NamesAgree q names look
   agree_alike p q names same agree value who kept = subst (λ v. same_value v value ≡ true) (kept_alike p q look who same) (agree value who kept)
 
-  module _ (s : Source) (k : ℕ) (same : KeepsAlike m s.own) (reached : IsReached s.reached k m) where
+  module _ (s : Source) (k : ℕ) (same : KeepsAlike m s.own) (reached : FindsLeft s.reached k m look) where
     -- what concerns it not joins none of its left rows
     nothing_joined : (who : Named) (row : Row) → concerns s look who k ≡ false → has_left m look row ≡ true → joins m.pattern look row who ≡ false
     nothing_joined who row none left = by (joins m.pattern look row who) refl
@@ -73,9 +78,9 @@ module _ {S : Type 0} (m : Memories S) (look : Look) where
         by false e = e
         by true e =
             absurd (false≢true (sym none ∙ ap (λ (values : List Value). is_under_one s.reached values k) (sym (sought_alike m.pattern s.own.pattern look who same))
-            ∙ under_among s.reached k (row_value m.pattern look row) (reached (row_value m.pattern look row) row left) (rows_sought m.pattern look who) (row_sought m.pattern look row who e)))
+            ∙ under_among s.reached k (row_value m.pattern look row) (reached row left) (rows_sought m.pattern look who) (row_sought m.pattern look row who e)))
 
-  module _ (old new : Source) (k : ℕ) (same : KeepsAlike m old.own) (reached : IsReached old.reached k m) (pattern : new.own.pattern ≡ old.own.pattern) where
+  module _ (old new : Source) (k : ℕ) (same : KeepsAlike m old.own) (reached : FindsLeft old.reached k m look) (pattern : new.own.pattern ≡ old.own.pattern) where
     same_now : name_key m.pattern ≡ name_key new.own.pattern
     same_now = same ∙ ap name_key (sym pattern)
 
@@ -124,11 +129,32 @@ module _ {S : Type 0} (m : Memories S) (look : Look) where
           agrees = agree_now kept.agrees;
         }
 
+pub turn_at_law : (S : Type 0) → TurnAtLaw S
+turn_at_law S p s next old new look k leaving coming turned m same reached =
+    taken_over m look old new k same reached turned.kept.pattern turned.right leaving coming (λ who. apart _ _ _ _ (turned.difference.goes who) (turned.difference.comes who)) turned.kept turned.gone turned.come
+
+pub forget_at_law : (S : Type 0) → ForgetAtLaw S
+forget_at_law S old new look names k leaving left m same reached = forgone m look old new k same reached left.kept.pattern names leaving left.kept left.gone
+
+-- what a turn is for the node in a place to which nothing had been handed
+pub turned_at : (p : Program) (s next : Snapshot) (old new : Source) (look : Look) (before after : BTreeMap ℕ Handed) → HasTurned p s next old new look before after → (k : ℕ) → IsUnhanded before k
+    → HasTurnedAt p s next old new look k (gone_at after k) (come_at after k)
+turned_at p s next old new look before after turned k un =
+    record { gate = turned.gate; right = turned.right; difference = turned.difference; kept = turned.kept; gone = turned.gone k un; come = turned.come k un }
+
+pub left_at : (old new : Source) (look : Look) (names : List Named) (before after : BTreeMap ℕ Handed) → HaveLeft old new look names before after → (k : ℕ) → IsUnhanded before k
+    → HaveLeftAt old new look names k (gone_at after k)
+left_at old new look names before after left k un = record { gate = left.gate; kept = left.kept; gone = left.gone k un }
+
+-- found under each value under which it keeps a left row, a node is found under that of each which it has
+found : {S : Type 0} (m : Memories S) (look : Look) (s : Source) (k : ℕ) → IsReached s.reached k m → FindsLeft s.reached k m look
+found m look s k reached row left = reached (row_value m.pattern look row) row left
+
 pub turn_law : (S : Type 0) → TurnLaw S
+unfolding turned_at
 turn_law S p s next old new look before after turned k m un same reached =
-    taken_over m look old new k same reached turned.kept.pattern turned.right (gone_at after k) (come_at after k)
-    (λ who. apart _ _ _ _ (turned.difference.goes who) (turned.difference.comes who)) turned.kept (turned.gone k un) (turned.come k un)
+    turn_at_law S p s next old new look k _ _ (turned_at p s next old new look before after turned k un) m same (found m look old k reached)
 
 pub forget_law : (S : Type 0) → ForgetLaw S
 forget_law S old new look names before after left k m un same reached =
-    (forgone m look old new k same reached left.kept.pattern names (gone_at after k) left.kept (left.gone k un), left.come k ∙ un.1)
+    (forget_at_law S old new look names k _ (left_at old new look names before after left k un) m same (found m look old k reached), left.come k ∙ un.1)

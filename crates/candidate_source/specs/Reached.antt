@@ -10,8 +10,10 @@ use Rattle.row_delta.specs.Rows.{row_cmp}
 use Rattle.alpha_memory.specs.declared.join_index.JoinIndex.{JoinIndex}
 use Rattle.alpha_memory.specs.JoinIndex.{at}
 use Rattle.join_tests.specs.declared.sought.Sight.{Sight}
-use Rattle.join_tests.specs.Kept.{values_seen}
+use Rattle.join_tests.specs.Joins.{Look}
+use Rattle.join_tests.specs.Kept.{row_value, values_seen}
 use Rattle.pair_memory.specs.declared.memories.Memories.{Memories}
+use Rattle.pair_memory.specs.Memories.{has_left}
 
 -- whether a place is in a list
 abbrev pub has_place : List ℕ → ℕ → Bool
@@ -38,6 +40,10 @@ is_sought reached (Some sight) k = is_under_one reached (values_seen sight) k
 -- it is found under each value under which it keeps a left row
 abbrev pub IsReached : {S : Type 0} → JoinIndex Value ℕ (Unit {0}) → ℕ → Memories S → Type 0
 IsReached reached k m = (value : Value) (row : Row) → is_some (at same_value row_cmp m.left value row) ≡ true → is_under reached value k ≡ true
+
+-- it is found under the value of each left row that it has by these facts
+abbrev pub FindsLeft : {S : Type 0} → JoinIndex Value ℕ (Unit {0}) → ℕ → Memories S → Look → Type 0
+FindsLeft reached k m look = (row : Row) → has_left m look row ≡ true → is_under reached (row_value m.pattern look row) k ≡ true
 
 -- under no value
 abbrev pub IsUnreached : JoinIndex Value ℕ (Unit {0}) → ℕ → Type 0

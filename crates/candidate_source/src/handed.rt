@@ -24,7 +24,7 @@ pub(crate) enum Turned {
 
 impl Handed {
     /// Nothing. Takes no memory.
-    fn none(alloc: Global) -> Handed
+    pub(crate) fn none(alloc: Global) -> Handed
         ensures gone { result.gone.items ≡ [] }
         ensures come { result.come.items ≡ [] }
     {

@@ -7,6 +7,8 @@ mod handed;
 mod handing;
 pub mod laws;
 mod source;
+mod sources;
 
 pub use handed::Handed;
 pub use source::Source;
+pub use sources::Sources;

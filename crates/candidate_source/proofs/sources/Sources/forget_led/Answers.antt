@@ -1,0 +1,24 @@
+use Rattle.candidate_source.proofs.Common.{subst, nat_cmp, HaveLeft}
+use Rattle.std.proofs.lemmas.Map.Keys.{sorted_tail}
+use Rattle.std.specs.List.Sorted.{IsStrictlySortedBy}
+use Rattle.candidate_source.proofs.Moving.{laid_then, more_moved, none_move, reached_then, still_apart}
+use Rattle.candidate_source.proofs.sources.Sources.forget_led.Goals as goal
+
+pub loop-place-preserved : goal.loop-place-preserved
+loop-place-preserved g c =
+    let was = c.loop-place.self in
+    let is = c.forget_if_led.new.self in
+    let now = c.in_ok-forget_if_led.ensures in
+    let sorted = subst (IsStrictlySortedBy nat_cmp) c.in-Some.ensures.steps c.loop-place.invariant.sorted in
+    record {
+      sorted = sorted_tail nat_cmp c.in-Some.place.now c.next.new.self sorted;
+      laid = laid_then c.args.self.now was is c.loop-place.invariant.laid now.laid;
+      reached = reached_then c.args.self.now was is c.loop-place.invariant.laid c.loop-place.invariant.reached now.reached;
+      moved = λ apart after rest.
+          c.loop-place.invariant.moved apart after
+          (more_moved _ c.loop-place.place-iterator c.in-Some.place.now c.next.new.self was is after now.laid c.in-Some.ensures.steps sorted
+          (now.moved (still_apart c.args.self.now was c.loop-place.invariant.laid c.loop-place.invariant.reached apart)) rest);
+    }
+
+pub returns-clause-moved : goal.returns-clause-moved
+returns-clause-moved g c apart = c.loop-place.invariant.moved apart c.loop-place.self (none_move (λ a b. HaveLeft a b (g.F.Facts.map c.args.facts.now) c.args.old.now) c.loop-place.place-iterator c.loop-place.self c.in-None.ensures.steps.0)
