@@ -7,3 +7,4 @@ pub mod Marking
 pub mod Changing
 pub mod Stepping
 pub mod Carrying
+pub mod Telling

@@ -1,11 +1,13 @@
 -- What is told of the rules before the first line.
-use Rattle.std.specs.Prelude.{◌&&◌, ◌+◌, ◌==◌, ◌++◌, ℕ, Bool, true, false, List, [], ◌∷◌, Option, Some, None, if◌then◌else◌}
+use Rattle.std.specs.Prelude.{◌≡◌, ◌↔◌, ◌&&◌, ◌+◌, ◌==◌, ◌++◌, ℕ, Bool, true, false, List, [], ◌∷◌, Option, Some, None, if◌then◌else◌, slice_get}
 use Rattle.std.specs.List.{list_any}
 use Rattle.std.specs.Str.{bytes_eq}
+use Rattle.fx_base.specs.Lists.{EachOnce, In}
 use Rattle.rule_model.specs.declared.program.Program.{Program}
 use Rattle.rule_model.specs.declared.program.Rule.{Rule}
 use Rattle.rule_change.specs.declared.code.RuleStatus.{RuleStatus}
 use Rattle.rule_change.specs.declared.code.RuleStatus.TheVariants.{Stays, New, Gone}
+use Rattle.rule_change.specs.Changed.{AreFrom}
 
 -- a rule by its name, and what becomes of it
 abbrev pub ToldRule : Type 0
@@ -52,3 +54,19 @@ each_once before (told ∷ more) = if list_any (is_same_told told) before then e
 -- The new rules in their order, then the old ones that are gone, in theirs. The ways of a rule have its name, and are told once.
 unfoldable pub rules_told : Program → Program → (ℕ → Option ℕ) → List ToldRule
 rules_told p q from = each_once [] (new_told from q.rules 0 ++ gone_told (places_from from q.rules 0) p.rules 0)
+
+-- ---- what holds
+
+-- A rule of this name is told so: a new one that stays, or is new, and an old one that is gone.
+abbrev pub IsTold : Program → Program → (ℕ → Option ℕ) → List ℕ → RuleStatus → Type 0
+IsTold p q from name Stays = (new : ℕ) × (rule : Rule) × (slice_get q.rules new ≡ Some rule) × (rule.name ≡ name) × (old : ℕ) × (from new ≡ Some old)
+IsTold p q from name New = (new : ℕ) × (rule : Rule) × (slice_get q.rules new ≡ Some rule) × (rule.name ≡ name) × (from new ≡ None)
+IsTold p q from name Gone = (old : ℕ) × (rule : Rule) × (slice_get p.rules old ≡ Some rule) × (rule.name ≡ name) × ((new : ℕ) → from new ≡ Some old → ⊥)
+
+-- all this is told, and nothing else
+abbrev pub ToldIsExact : Type 0
+ToldIsExact = (p q : Program) (from : ℕ → Option ℕ) → AreFrom p q from → (told : ToldRule) → In told (rules_told p q from) ↔ IsTold p q from told.0 told.1
+
+-- and it is told once
+abbrev pub ToldOnce : Type 0
+ToldOnce = (p q : Program) (from : ℕ → Option ℕ) → EachOnce (rules_told p q from)

@@ -1,6 +1,7 @@
 //! Laws of other rules over a running state, each the contract of a function that does nothing.
 ghost use Rattle.rule_change.specs.Alike.{SamePending, AlikeAtChange, AlikeMarked, AlikeWithout, SameFault, AlikeSteps};
 ghost use Rattle.rule_change.specs.Lives.{CarriedIsSafe};
+ghost use Rattle.rule_change.specs.Told.{ToldIsExact, ToldOnce};
 
 /// In worlds that are alike the rules that stay have the same pending matches.
 pub fn same_pending()
@@ -29,4 +30,10 @@ pub fn alike_with_steps()
 /// The lives by which a world goes on are safe for the new rules.
 pub fn carried_lives_are_safe()
     ensures { CarriedIsSafe }
+{}
+
+/// Of the rules is told which of the new ones stay and which are new, and which of the old ones are gone, each once.
+pub fn rules_are_told()
+    ensures exact { ToldIsExact }
+    ensures once { ToldOnce }
 {}
