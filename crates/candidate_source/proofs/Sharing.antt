@@ -63,10 +63,10 @@ not_old false named c e f = absurd (false≢true e)
 
 module _ {S : Type 0} (m : Memories S) (look : Look) where
   -- it has the shared candidates, as they are kept
-  there : (c : Candidates) → name_key m.pattern ≡ name_key c.pattern → (who : Named) → has_right (sharing m c) look who ≡ has_candidate c look who
+  pub there : (c : Candidates) → name_key m.pattern ≡ name_key c.pattern → (who : Named) → has_right (sharing m c) look who ≡ has_candidate c look who
   there c same who = ap (λ (value : Value). is_some (at same_value name_cmp c.names value who)) (kept_alike m.pattern c.pattern look who same)
 
-  agree_alike : (p q : Pattern) (names : JoinIndex Value Named (Unit {0})) → name_key p ≡ name_key q → NamesAgree p names look → NamesAgree q names look
+  pub agree_alike : (p q : Pattern) (names : JoinIndex Value Named (Unit {0})) → name_key p ≡ name_key q → NamesAgree p names look → NamesAgree q names look
   agree_alike p q names same agree value who kept = subst (λ v. same_value v value ≡ true) (kept_alike p q look who same) (agree value who kept)
 
   module _ (s : Source) (k : ℕ) (same : KeepsAlike m s.own) (reached : FindsLeft s.reached k m look) where

@@ -35,6 +35,8 @@ mod ranges;
 #[cfg(test)]
 mod rows;
 #[cfg(test)]
+mod sources;
+#[cfg(test)]
 mod texts;
 #[cfg(test)]
 mod timers;

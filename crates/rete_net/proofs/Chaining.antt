@@ -3,8 +3,9 @@
 use Rattle.rete_net.proofs.Common.{◌≡◌, ◌∙◌, sym, refl, subst, ℕ, zero, suc, ◌<◌, List, [], ◌∷◌, ◌++◌, take, get_or, length, arith, Bool, true, Option, Some}
 use Rattle.rete_net.proofs.Common.{None, slice_get, get_or-take, slice_get_within, slice_get-get_or, Fact, Delta, Named, Row, LeadsRows, IsDifference}
 use Rattle.rete_net.proofs.Common.{Condition, Program, Rule, pattern_of, Snapshot, Look, cleaned, no_names, line, HasAllOf, NameHeld, candidates_of}
-use Rattle.rete_net.proofs.Common.{has_good_window, MovesSnapshot, condition_of, CountedStay, NetNode, NetNodeStands, before, IsShaped, EndsRule, delta_at}
-use Rattle.rete_net.proofs.Common.{left_delta, IsNodeTurn, NodeStep, SteppedBelow, Moment, IsAt}
+use Rattle.rete_net.proofs.Common.{has_good_window, MovesSnapshot, condition_of, CountedStay, NetNode, StandsIn, before, IsShaped, EndsRule, delta_at}
+use Rattle.rete_net.proofs.Common.{left_delta, IsNodeTurn, TurnStep, SteppedBelow, Moment, IsAt}
+use Rattle.candidate_source.specs.declared.source.Source.{Source}
 
 -- the rows of conditions in a snapshot, as the lines make them, name versions of the snapshot alone
 pub record AreMade (p : Program) (s : Snapshot) (sets : List Condition → Row → Bool) : Type 0 where
@@ -21,11 +22,11 @@ pub record IsGiven (p : Program) (look : Look) (s next : Snapshot) (gone : List 
   pub known : HasAllOf world s no_names
   pub known_now : HasAllOf world next no_names
 
--- nodes that stand for these rows of the conditions before them
-pub record AreStanding (p : Program) (s : Snapshot) (sets : List Condition → Row → Bool) (forgotten : Named → Bool) (nodes : List NetNode) (conditions : ℕ → List Condition) : Type 0 where
+-- nodes that stand for these rows of the conditions before them, each in its place by its source
+pub record AreStanding (p : Program) (s : Snapshot) (sets : List Condition → Row → Bool) (forgotten : Named → Bool) (of : ℕ → Option Source) (nodes : List NetNode) (conditions : ℕ → List Condition) : Type 0 where
   pub shaped : IsShaped nodes conditions
   pub windows : (k : ℕ) (n : NetNode) → slice_get nodes k ≡ Some n → has_good_window p (pattern_of (condition_of n.node)) ≡ true
-  pub stand : (k : ℕ) (n : NetNode) → slice_get nodes k ≡ Some n → NetNodeStands p n s (sets (before conditions n.parent)) forgotten
+  pub stand : (k : ℕ) (n : NetNode) → slice_get nodes k ≡ Some n → StandsIn p (of k) k n s (sets (before conditions n.parent)) forgotten
 
 -- of forgotten facts nothing changes for a node: they are candidates as they were, and what its condition counts of them stays
 pub record StaysBeside (p : Program) (world : Look) (s next : Snapshot) (condition : Condition) (rows rows_now : Row → Bool) (forgotten : Named → Bool) : Type 0 where
@@ -33,11 +34,11 @@ pub record StaysBeside (p : Program) (world : Look) (s next : Snapshot) (conditi
   pub stay : (left : Delta) → LeadsRows (cleaned rows forgotten) (cleaned rows_now forgotten) left.gone left.come → CountedStay condition p world s next rows rows_now forgotten left
 
 module _ (p : Program) (look : Look) (s next : Snapshot) (gone : List Fact) (come : Option Fact) (moment : Moment) (forgotten : Named → Bool) (first : Delta) (was is : List Condition → Row → Bool)
-    (nodes nodes_now : List NetNode) (conditions : ℕ → List Condition) (deltas : List Delta)
+    (of of_now : ℕ → Option Source) (nodes nodes_now : List NetNode) (conditions : ℕ → List Condition) (deltas : List Delta)
     (given : IsGiven p look s next gone come moment forgotten) (made : AreMade p s was) (made_now : AreMade p next is) (leads : LeadsRows (cleaned (was []) forgotten) (cleaned (is []) forgotten) first.gone first.come)
-    (standing : AreStanding p s was forgotten nodes conditions)
+    (standing : AreStanding p s was forgotten of nodes conditions)
     (beside : (k : ℕ) (n : NetNode) → slice_get nodes k ≡ Some n → StaysBeside p given.world s next (condition_of n.node) (was (before conditions n.parent)) (is (before conditions n.parent)) forgotten)
-    (same : length nodes_now ≡ length nodes) (stepped : SteppedBelow p look gone come moment first nodes nodes_now deltas (length nodes)) where
+    (same : length nodes_now ≡ length nodes) (stepped : SteppedBelow p look gone come moment first of of_now nodes nodes_now deltas (length nodes)) where
   -- the node of a place answers the true difference of the rows of its conditions, of those that name no forgotten fact
   abbrev Answers : ℕ → Type 0
   Answers k = IsDifference (cleaned (was (conditions k)) forgotten) (cleaned (is (conditions k)) forgotten) (delta_at first deltas k)
@@ -75,7 +76,7 @@ module _ (p : Program) (look : Look) (s next : Snapshot) (gone : List Fact) (com
       (get_or nodes_now k old, slice_get-get_or nodes_now k old lt)
 
   step_at : (k : ℕ) (old new : NetNode) → slice_get nodes k ≡ Some old → slice_get nodes_now k ≡ Some new
-      → NodeStep p look gone come moment old new (left_delta first (take k deltas) old.parent) (delta_at first deltas k)
+      → TurnStep p look gone come moment (of k) (of_now k) k old new (left_delta first (take k deltas) old.parent) (delta_at first deltas k)
   step_at k old new e f = stepped k (slice_get_within nodes k old e) old new e f
 
   one : (k : ℕ) (old : NetNode) → slice_get nodes k ≡ Some old → ((q : ℕ) → q < k → Answers q) → Answers k
@@ -102,13 +103,13 @@ module _ (p : Program) (look : Look) (s next : Snapshot) (gone : List Fact) (com
       let lt : k < length nodes = omega arith in
       (get_or nodes k new, slice_get-get_or nodes k new lt)
 
-  stands_at : (k : ℕ) (old new : NetNode) → slice_get nodes k ≡ Some old → slice_get nodes_now k ≡ Some new → NetNodeStands p new next (is (before conditions old.parent)) forgotten
+  stands_at : (k : ℕ) (old new : NetNode) → slice_get nodes k ≡ Some old → slice_get nodes_now k ≡ Some new → StandsIn p (of_now k) k new next (is (before conditions old.parent)) forgotten
   stands_at k old new e f =
       let behind = before conditions old.parent in
       (step_at k old new e f).stands s next (was behind) (is behind) forgotten (standing.stand k old e) given.is_at
       (turn k old e (λ q lt. let w : k < length nodes = slice_get_within nodes k old e in all_below (suc q) q old (omega arith) (omega arith)))
 
-  pub standing_now : AreStanding p next is forgotten nodes_now conditions
+  pub standing_now : AreStanding p next is forgotten of_now nodes_now conditions
   standing_now = record {
     shaped = record {
       parents = λ k parent new f at.
@@ -125,7 +126,7 @@ module _ (p : Program) (look : Look) (s next : Snapshot) (gone : List Fact) (com
         subst (λ (c : Condition). has_good_window p (pattern_of c) ≡ true) (sym (step_at k old.0 new old.1 f).condition) (standing.windows k old.0 old.1);
     stand = λ k new f.
         let old = old_at k new f in
-        subst (λ (parent : Option ℕ). NetNodeStands p new next (is (before conditions parent)) forgotten) (sym (step_at k old.0 new old.1 f).parent) (stands_at k old.0 new old.1 f);
+        subst (λ (parent : Option ℕ). StandsIn p (of_now k) k new next (is (before conditions parent)) forgotten) (sym (step_at k old.0 new old.1 f).parent) (stands_at k old.0 new old.1 f);
   }
 
   -- the last node of a rule is where it was, and answered the difference of the rows of the rule

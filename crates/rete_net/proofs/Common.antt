@@ -81,8 +81,9 @@ pub use Rattle.range_index.specs.Ranges.{is_found}
 pub use Rattle.rete_net.specs.Answers.{answer_in, left_given, AreRuled, IsAnswerPut, some_answer, given}
 pub use Rattle.rete_net.specs.Bounds.{AreWithin}
 pub use Rattle.rete_net.specs.Building.{AreGrown, IsParentNode, HaveEnds, AreBuilt, AreDistinctFronts, IsBehindParent, AreFronts}
-pub use Rattle.rete_net.specs.Dropped.{NodeForgets, AreListed, rows_for, IsForgetting, AreDue, ForgotBelow, HasNoOld, dropped_before, AreDropped, AreOld}
+pub use Rattle.rete_net.specs.Dropped.{NodeForgets, TurnForgets, AreListed, rows_for, IsForgetting, AreDue, ForgotBelow, HasNoOld, dropped_before, AreDropped, AreOld}
 pub use Rattle.rete_net.specs.Dropped.{HaveForgotten, dropped_at, with_rows}
+pub use Rattle.rete_net.specs.Sources.{AreSources, IsSourced}
 pub use Rattle.rete_net.specs.Fans.{AreFans, member_at, shown_nodes, Member, showing, AreFanRowsTurned, IsLaidAs, seat_at, IsHalf, IsLeft, half_at, with_fans}
 pub use Rattle.rete_net.specs.Fans.{IsOfSeat, half_of, in_fan, member_of, given_span, half_in, AreNamesTurnedAt, IsFanLike, with_member, AreEmpty, IsHalfTurned}
 pub use Rattle.rete_net.specs.Fans.{IsInSpan, IsSeat, given_seat, shown, AreWoken, AreLoneFound, AreFansBelow}
@@ -98,8 +99,8 @@ pub use Rattle.rete_net.specs.Quiet.{AreQuiet, IsNodeQuiet, StaysAt}
 pub use Rattle.rete_net.specs.Schedules.{AreScheduled, IsScheduled, IsLeftAlone, IsStillAt, IsGateStill, IsUndue, entry_point_of}
 pub use Rattle.rete_net.specs.Seating.{AreGrowing, GrowsTo, IsFanPut, IsNewFan}
 pub use Rattle.rete_net.specs.Shapes.{before, IsNetOf, IsRuleFront, EndsRule, CountsFronts, IsShaped, StandOnce}
-pub use Rattle.rete_net.specs.Standing.{IsFresh, NetNodeStands}
-pub use Rattle.rete_net.specs.Steps.{no_change, NodeStep, delta_at, NetStep, empty_row_comes, changes_from, change_at, IsNodeTurn, left_delta, SteppedBelow}
+pub use Rattle.rete_net.specs.Standing.{IsFresh, NetNodeStands, StandsIn, taking, IsFound}
+pub use Rattle.rete_net.specs.Steps.{no_change, NodeStep, delta_at, NetStep, empty_row_comes, changes_from, change_at, IsNodeTurn, left_delta, SteppedBelow, TurnStep}
 pub use Rattle.rete_net.specs.Timers.{IsSet, IsFrom}
 pub use Rattle.rete_net.specs.Walks.{IsWired, IsReplaced, HasAnswered}
 pub use Rattle.rete_net.specs.declared.answered.Answered.{Answered}

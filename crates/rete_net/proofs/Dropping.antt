@@ -3,9 +3,11 @@ use Rattle.rete_net.proofs.Common.{◌≡◌, ◌∙◌, sym, ap, refl, subst, i
 use Rattle.rete_net.proofs.Common.{length, arith, Option, Some, None, slice_get, get_or-take, slice_get_within, In, Named, Row, has, Condition, Program, Rule}
 use Rattle.rete_net.proofs.Common.{HaveDistinctTags, pattern_of, Snapshot, Look, clean, cleaned, either, empty_row, HasAllOf, candidates_of, rows_of, has_in}
 use Rattle.rete_net.proofs.Common.{has_good_window, at_clock, condition_of, IsBefore, AreFans, shown_nodes, RuleRows, Rete, NetNode, AreOld, IsForgetting}
-use Rattle.rete_net.proofs.Common.{NodeForgets, dropped_at, dropped_before, ForgotBelow, rows_for, AreDropped, Answered, some_answer, answer_in, IsIndexOf}
-use Rattle.rete_net.proofs.Common.{AreNodeOwners, HaveSameFronts, NodesStand, NetStands, NetNodeStands, AreScheduled, before}
+use Rattle.rete_net.proofs.Common.{TurnForgets, dropped_at, dropped_before, ForgotBelow, rows_for, AreDropped, Answered, some_answer, answer_in, IsIndexOf}
+use Rattle.rete_net.proofs.Common.{AreNodeOwners, AreSources, HaveSameFronts, NodesStand, NetStands, StandsIn, AreScheduled, before}
 use Rattle.std.specs.List.Sorted.{IsStrictlySortedBy}
+use Rattle.candidate_source.specs.declared.source.Source.{Source}
+use Rattle.candidate_source.specs.Sources.{source_at}
 use Rattle.rete_net.specs.Answers.{given as kept}
 use Rattle.rete_net.proofs.Advancing.{first_row, rows_made}
 use Rattle.rete_net.proofs.Chaining.{AreMade, AreStanding}
@@ -15,9 +17,9 @@ use Rattle.rete_net.proofs.Seen.{at_hand_at}
 use Rattle.rete_net.proofs.Turning.{rising}
 use Rattle.fx_base.proofs.Sequences.{get-below}
 
-module _ (p : Program) (look : Look) (s : Snapshot) (sets : List Condition → Row → Bool) (forgotten old : Named → Bool) (nodes nodes_now : List NetNode) (conditions : ℕ → List Condition) (dropped : List (List Row))
+module _ (p : Program) (look : Look) (s : Snapshot) (sets : List Condition → Row → Bool) (forgotten old : Named → Bool) (of of_now : ℕ → Option Source) (nodes nodes_now : List NetNode) (conditions : ℕ → List Condition) (dropped : List (List Row))
     (tags : HaveDistinctTags s.facts) (at_hand : HasAllOf look s forgotten) (made : AreMade p s sets) (none : AreOld (cleaned (sets []) forgotten) old [])
-    (standing : AreStanding p s sets forgotten nodes conditions) (same : length nodes_now ≡ length nodes) (forgot : ForgotBelow p look old nodes nodes_now dropped (length nodes)) where
+    (standing : AreStanding p s sets forgotten of nodes conditions) (same : length nodes_now ≡ length nodes) (forgot : ForgotBelow p look old of of_now nodes nodes_now dropped (length nodes)) where
   -- the node of a place drops the rows of its conditions that name an old fact
   abbrev Drops : ℕ → Type 0
   Drops k = AreOld (cleaned (sets (conditions k)) forgotten) old (dropped_at dropped k)
@@ -32,7 +34,7 @@ module _ (p : Program) (look : Look) (s : Snapshot) (sets : List Condition → R
   given : (k : ℕ) (was : NetNode) → slice_get nodes k ≡ Some was → ((q : ℕ) → q < k → Drops q) → IsForgetting look s (sets (before conditions was.parent)) forgotten old (dropped_before (take k dropped) was.parent)
   given k was e drops = record { tags = tags; at_hand = at_hand; named = made.named (before conditions was.parent); rows_old = from_parent k was e drops was.parent refl }
 
-  forgot_at : (k : ℕ) (was is : NetNode) → slice_get nodes k ≡ Some was → slice_get nodes_now k ≡ Some is → NodeForgets p look old was is (dropped_before (take k dropped) was.parent) (dropped_at dropped k)
+  forgot_at : (k : ℕ) (was is : NetNode) → slice_get nodes k ≡ Some was → slice_get nodes_now k ≡ Some is → TurnForgets p look old (of k) (of_now k) k was is (dropped_before (take k dropped) was.parent) (dropped_at dropped k)
   forgot_at k was is e f = forgot k (slice_get_within nodes k was e) was is e f
 
   now_at : (k : ℕ) (was : NetNode) → slice_get nodes k ≡ Some was → (is : NetNode) × (slice_get nodes_now k ≡ Some is)
@@ -59,7 +61,7 @@ module _ (p : Program) (look : Look) (s : Snapshot) (sets : List Condition → R
   pub condition_same : (k : ℕ) (was is : NetNode) → slice_get nodes k ≡ Some was → slice_get nodes_now k ≡ Some is → condition_of is.node ≡ condition_of was.node
   condition_same k was is e f = (forgot_at k was is e f).condition
 
-  pub forgets : AreStanding p s sets (either forgotten old) nodes_now conditions
+  pub forgets : AreStanding p s sets (either forgotten old) of_now nodes_now conditions
   forgets = record {
     shaped = record {
       parents = λ k parent is f at.
@@ -77,7 +79,7 @@ module _ (p : Program) (look : Look) (s : Snapshot) (sets : List Condition → R
     stand = λ k is f.
         let was = was_at k is f in
         let step = forgot_at k was.0 is was.1 f in
-        subst (λ (parent : Option ℕ). NetNodeStands p is s (sets (before conditions parent)) (either forgotten old)) (sym step.parent)
+        subst (λ (parent : Option ℕ). StandsIn p (of_now k) k is s (sets (before conditions parent)) (either forgotten old)) (sym step.parent)
         (step.stands s (sets (before conditions was.0.parent)) forgotten (standing.stand k was.0 was.1) (given k was.0 was.1 (λ q lt. let w : k < length nodes = slice_get_within nodes k was.0 was.1 in all_below (suc q) q was.0 (omega arith) (omega arith))));
   }
 
@@ -104,7 +106,7 @@ none_old p s forgotten old = record {
 
 module _ (p : Program) (look : Look) (s : Snapshot) (forgotten old : Named → Bool) (net new : Rete) (dropped : List (List Row)) (stands : NetStands p net s forgotten) (has_all : HasAllOf look s forgotten)
     (ends : new.ends.items ≡ net.ends.items) (until : new.quiet_until ≡ net.quiet_until) (same : length (shown_nodes new) ≡ length (shown_nodes net))
-    (forgot : ForgotBelow p look old (shown_nodes net) (shown_nodes new) dropped (length (shown_nodes net))) where
+    (forgot : ForgotBelow p look old (source_at net.sources) (source_at new.sources) (shown_nodes net) (shown_nodes new) dropped (length (shown_nodes net))) where
   abbrev was : Snapshot
   was = at_clock s stands.seen
 
@@ -114,16 +116,16 @@ module _ (p : Program) (look : Look) (s : Snapshot) (forgotten old : Named → B
   tags : HaveDistinctTags s.facts
   tags = rising s.facts stands.kept.in_order
 
-  standing : AreStanding p was (rows_of p was) forgotten (shown_nodes net) stands.nodes.shape.conditions
+  standing : AreStanding p was (rows_of p was) forgotten (source_at net.sources) (shown_nodes net) stands.nodes.shape.conditions
   standing = record { shaped = stands.nodes.shape.shaped; windows = stands.nodes.shape.windows; stand = stands.nodes.nodes }
 
-  now : AreStanding p was (rows_of p was) (either forgotten old) (shown_nodes new) stands.nodes.shape.conditions
-  now = forgets p look was (rows_of p was) forgotten old (shown_nodes net) (shown_nodes new) stands.nodes.shape.conditions dropped tags known (rows_made p was tags) (none_old p was forgotten old) standing same forgot
+  now : AreStanding p was (rows_of p was) (either forgotten old) (source_at new.sources) (shown_nodes new) stands.nodes.shape.conditions
+  now = forgets p look was (rows_of p was) forgotten old (source_at net.sources) (source_at new.sources) (shown_nodes net) (shown_nodes new) stands.nodes.shape.conditions dropped tags known (rows_made p was tags) (none_old p was forgotten old) standing same forgot
 
   node_was : (k : ℕ) (is : NetNode) → slice_get (shown_nodes new) k ≡ Some is → (n : NetNode) × (slice_get (shown_nodes net) k ≡ Some n) × (condition_of is.node ≡ condition_of n.node)
   node_was k is f =
-      let n = was_at p look was (rows_of p was) forgotten old (shown_nodes net) (shown_nodes new) stands.nodes.shape.conditions dropped tags known (rows_made p was tags) (none_old p was forgotten old) standing same forgot k is f in
-      (n.0, n.1, condition_same p look was (rows_of p was) forgotten old (shown_nodes net) (shown_nodes new) stands.nodes.shape.conditions dropped tags known (rows_made p was tags) (none_old p was forgotten old) standing same forgot k n.0 is n.1 f)
+      let n = was_at p look was (rows_of p was) forgotten old (source_at net.sources) (source_at new.sources) (shown_nodes net) (shown_nodes new) stands.nodes.shape.conditions dropped tags known (rows_made p was tags) (none_old p was forgotten old) standing same forgot k is f in
+      (n.0, n.1, condition_same p look was (rows_of p was) forgotten old (source_at net.sources) (source_at new.sources) (shown_nodes net) (shown_nodes new) stands.nodes.shape.conditions dropped tags known (rows_made p was tags) (none_old p was forgotten old) standing same forgot k n.0 is n.1 f)
 
   -- what was the same is so where more is forgotten
   still_same : (a b : Snapshot) → HaveSameFronts p (shown_nodes net) stands.nodes.shape.conditions forgotten a b → HaveSameFronts p (shown_nodes new) stands.nodes.shape.conditions (either forgotten old) a b
@@ -136,25 +138,26 @@ module _ (p : Program) (look : Look) (s : Snapshot) (forgotten old : Named → B
         subst (λ (c : Condition). candidates_of p (pattern_of c) a who ≡ candidates_of p (pattern_of c) b who) (sym o.2) (is.same_candidates k o.0 o.1 who);
   }
 
-  abbrev nodes_now : IsIndexOf (shown_nodes new) new.ends.items new.index → AreScheduled p new.nodes.items new.schedule → AreFans new.nodes.items new.fans
+  abbrev nodes_now : IsIndexOf new.sources (shown_nodes new) new.ends.items new.index → AreScheduled p new.sources new.nodes.items new.schedule → AreFans new.nodes.items new.fans → AreSources new.nodes.items new.fans new.sources
       → AreNodeOwners p stands.nodes.shape.conditions (length (shown_nodes new)) new.owners.items → NodesStand p new was (either forgotten old)
-  nodes_now indexed scheduled fans owned = record {
-    shape = net_again p (shown_nodes net) (shown_nodes new) net.ends.items new.ends.items ends (forgetting_nodes p look old (shown_nodes net) (shown_nodes new) dropped same forgot) stands.nodes.shape;
+  nodes_now indexed scheduled fans sources owned = record {
+    shape = net_again p (shown_nodes net) (shown_nodes new) net.ends.items new.ends.items ends (forgetting_nodes p look old (source_at net.sources) (source_at new.sources) (shown_nodes net) (shown_nodes new) dropped same forgot) stands.nodes.shape;
     indexed = indexed;
     scheduled = scheduled;
     fans = fans;
+    sources = sources;
     owned = owned;
     nodes = now.stand;
   }
 
-  pub net_forgets : IsIndexOf (shown_nodes new) new.ends.items new.index → AreScheduled p new.nodes.items new.schedule → AreFans new.nodes.items new.fans
+  pub net_forgets : IsIndexOf new.sources (shown_nodes new) new.ends.items new.index → AreScheduled p new.sources new.nodes.items new.schedule → AreFans new.nodes.items new.fans → AreSources new.nodes.items new.fans new.sources
       → AreNodeOwners p stands.nodes.shape.conditions (length (shown_nodes new)) new.owners.items → NetStands p new s (either forgotten old)
-  net_forgets indexed scheduled fans owned = record {
+  net_forgets indexed scheduled fans sources owned = record {
     seen = stands.seen;
     begun = stands.begun;
     later = stands.later;
     kept = stands.kept;
-    nodes = nodes_now indexed scheduled fans owned;
+    nodes = nodes_now indexed scheduled fans sources owned;
     unchanged = still_same s was stands.unchanged;
     quiet = λ clock later low before kept. still_same (at_clock s clock) was (stands.quiet clock later low (subst (λ (at : Option ℤ). IsBefore at clock) until before) kept);
   }
@@ -164,7 +167,7 @@ module _ (p : Program) (look : Look) (s : Snapshot) (forgotten old : Named → B
       → (end : ℕ) × (slice_get net.ends.items place ≡ Some end) × AreOld (cleaned (rows_of p s rule.conditions) forgotten) old (dropped_at dropped end)
   rule_drops place rule e =
       let end = stands.nodes.shape.lasts place rule e in
-      let d = drops_at p look was (rows_of p was) forgotten old (shown_nodes net) (shown_nodes new) stands.nodes.shape.conditions dropped tags known (rows_made p was tags) (none_old p was forgotten old) standing same forgot end.last end.node end.there in (
+      let d = drops_at p look was (rows_of p was) forgotten old (source_at net.sources) (source_at new.sources) (shown_nodes net) (shown_nodes new) stands.nodes.shape.conditions dropped tags known (rows_made p was tags) (none_old p was forgotten old) standing same forgot end.last end.node end.there in (
         end.last,
         end.found,
         subst (λ (cs : List Condition). AreOld (cleaned (rows_of p s cs) forgotten) old (dropped_at dropped end.last)) end.all
@@ -176,6 +179,6 @@ module _ (p : Program) (look : Look) (s : Snapshot) (forgotten old : Named → B
       → ((place end : ℕ) → slice_get lent_ends place ≡ Some end → rows_for answers place ≡ answer_in a end) → AreDropped p s forgotten old answers
   rules_drop answers a lent_ends none known same_ends told place rule e =
       let drops = rule_drops place rule e in
-      let within = (wired_of p (shown_nodes net) net.ends.items net.index stands.nodes.shape stands.nodes.indexed).lasts place drops.0 drops.1 in
+      let within = (wired_of p net.sources (shown_nodes net) net.ends.items net.index stands.nodes.shape stands.nodes.indexed).lasts place drops.0 drops.1 in
       subst (AreOld (cleaned (rows_of p s rule.conditions) forgotten) old)
       (known drops.0 within ∙ ap (λ rows. kept rows (some_answer a drops.0)) (sym none) ∙ sym (told place drops.0 (ap (λ (places : List ℕ). slice_get places place) same_ends ∙ drops.1))) drops.2

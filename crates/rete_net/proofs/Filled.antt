@@ -89,11 +89,10 @@ and_not : (a b c : Bool) → a ≡ c → b ≡ false → (a && not b) ≡ c
 and_not true b c e f = ap not f ∙ e
 and_not false b c e f = e
 
-module _ (p : Program) (look : Look) (kept : List Fact) (extras : List Extra) (moment : Moment) (old : NetNode) (gate : PatternGate) (node : Node) (rows : List Row) (delta come : Delta) (right : List Named) (theirs : List Fact)
+module _ (p : Program) (look : Look) (kept : List Fact) (extras : List Extra) (moment : Moment) (old : NetNode) (gate : PatternGate) (node : Node) (rows : List Row) (delta : Delta) (right : List Named) (theirs : List Fact)
     (theirs_are : theirs ≡ filter (is_fact_of_type (pattern_of (condition_of old.node)).ty.0) kept)
     (stands : (s : Snapshot) → has_good_window p (pattern_of (condition_of old.node)) ≡ true → IsOrderly p s → s.facts ≡ theirs → s.clock ≡ moment.clock → GateStands p (pattern_of (condition_of old.node)) gate s)
-    (comes : (s : Snapshot) → has_good_window p (pattern_of (condition_of old.node)) ≡ true → IsOrderly p s → s.facts ≡ theirs → s.clock ≡ moment.clock → IsNameDifference no_names (candidates_of p (pattern_of (condition_of old.node)) s) come)
-    (names : (who : Named) → has_name right who ≡ has come.come (row_naming who))
+    (have : (s : Snapshot) → has_good_window p (pattern_of (condition_of old.node)) ≡ true → IsOrderly p s → s.facts ≡ theirs → s.clock ≡ moment.clock → (who : Named) → has_name right who ≡ candidates_of p (pattern_of (condition_of old.node)) s who)
     (same : condition_of node ≡ condition_of old.node)
     (laden : (world : Look) (s : Snapshot) (before : Row → Bool) → NodeStands p old.node look empty_snapshot no_rows no_names → IsAt s moment → IsLoad p (condition_of old.node) look world s before rows right extras
     → Laden p node look world s before (extra_for extras))
@@ -118,8 +117,7 @@ module _ (p : Program) (look : Look) (kept : List Fact) (extras : List Extra) (m
 
     candidates : (who : Named) → has_name right who ≡ candidates_of p q t who
     candidates who =
-        names who ∙ (comes (typed p q t given.orderly) given.window (typed_orderly p q t given.orderly) facts_are given.at.clock).comes who
-        ∙ and_not (candidates_of p q (typed p q t given.orderly) who) false (candidates_of p q t who) (typed_candidates p q t given.orderly who) refl
+        have (typed p q t given.orderly) given.window (typed_orderly p q t given.orderly) facts_are given.at.clock who ∙ typed_candidates p q t given.orderly who
 
     load : (world : Look) → HasAllOf world t no_names → IsLoad p (condition_of old.node) look world t before rows right extras
     load world known = record {
@@ -146,8 +144,8 @@ module _ (p : Program) (look : Look) (kept : List Fact) (extras : List Extra) (m
         (node_laden p look t before (extra_for extras) given.at_hand given.named tags some node (is_laden (held t) (held_known t no_names)) row ∙ ap (λ (c : Condition). laden_line p t (extra_for extras) c before row) same)
         (no_rows_yet given.fresh row)
 
-  pub loads_node : NodeLoad p look kept extras moment old (record { parent = old.parent; gate = gate; node = node }) rows delta
-  loads_node = record {
+  pub loads_with : NodeLoad p look kept extras moment old (record { parent = old.parent; gate = gate; node = node }) rows delta
+  loads_with = record {
     parent = refl;
     condition = same;
     gate = λ t before given. typed_gate p q t given.orderly gate (stands (typed p q t given.orderly) given.window (typed_orderly p q t given.orderly) (facts_are t before given) given.at.clock);
@@ -156,3 +154,17 @@ module _ (p : Program) (look : Look) (kept : List Fact) (extras : List Extra) (m
     none_gone = λ fresh. nothing_there delta.gone (λ row. (differs (nothing fresh)).leads.goes row ∙ ap (λ b. b && not (node_rows p look node row)) (no_rows_yet fresh row));
     in_order = λ fresh. (differs (nothing fresh)).come_in_order;
   }
+
+-- the candidates are those that come by a gate that is loaded
+pub loads_node : (p : Program) (look : Look) (kept : List Fact) (extras : List Extra) (moment : Moment) (old : NetNode) (gate : PatternGate) (node : Node) (rows : List Row) (delta come : Delta) (right : List Named) (theirs : List Fact)
+    → theirs ≡ filter (is_fact_of_type (pattern_of (condition_of old.node)).ty.0) kept
+    → ((s : Snapshot) → has_good_window p (pattern_of (condition_of old.node)) ≡ true → IsOrderly p s → s.facts ≡ theirs → s.clock ≡ moment.clock → GateStands p (pattern_of (condition_of old.node)) gate s)
+    → ((s : Snapshot) → has_good_window p (pattern_of (condition_of old.node)) ≡ true → IsOrderly p s → s.facts ≡ theirs → s.clock ≡ moment.clock → IsNameDifference no_names (candidates_of p (pattern_of (condition_of old.node)) s) come)
+    → ((who : Named) → has_name right who ≡ has come.come (row_naming who)) → condition_of node ≡ condition_of old.node
+    → ((world : Look) (s : Snapshot) (before : Row → Bool) → NodeStands p old.node look empty_snapshot no_rows no_names → IsAt s moment → IsLoad p (condition_of old.node) look world s before rows right extras
+    → Laden p node look world s before (extra_for extras))
+    → (NodeStands p old.node look empty_snapshot no_rows no_names → IsDifference (node_rows p look old.node) (node_rows p look node) delta)
+    → NodeLoad p look kept extras moment old (record { parent = old.parent; gate = gate; node = node }) rows delta
+loads_node p look kept extras moment old gate node rows delta come right theirs theirs_are stands comes names =
+    loads_with p look kept extras moment old gate node rows delta right theirs theirs_are stands
+    (λ s good orderly facts at who. names who ∙ (comes s good orderly facts at).comes who ∙ and_not (candidates_of p (pattern_of (condition_of old.node)) s who) false (candidates_of p (pattern_of (condition_of old.node)) s who) refl refl)

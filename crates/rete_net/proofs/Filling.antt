@@ -2,9 +2,12 @@
 use Rattle.rete_net.proofs.Common.{◌≡◌, ◌∙◌, sym, ap, refl, subst, inl, inr, ℕ, ◌+◌, ◌<◌, ◌≤◌, arith, true, false, List, Result, Ok, Err, Option, Some, None}
 use Rattle.rete_net.proofs.Common.{slice_get, IsErrAnd, IsErrOf, filter, set, length-set, In, Fact, Delta, Extra, Row, has, InOrder, Moment, Program, of_filter}
 use Rattle.rete_net.proofs.Common.{in_filter, passed, Look, Answered, Owner, Index, NetNode, answer_in, left_given, some_answer, AreRuled, IsAnswerPut}
-use Rattle.rete_net.proofs.Common.{is_listed, is_extra_under, AreLoaded, HasRowsOf, IsStuck, NodeLoad, has_place, no_change, IsWired}
+use Rattle.rete_net.proofs.Common.{is_listed, is_extra_under, AreLoaded, HasRowsOf, IsStuck, has_place, no_change, IsWired}
 use Rattle.std.proofs.lemmas.Bool.{false_from_ne_true}
+use Rattle.candidate_source.specs.declared.sources.Sources.{Sources}
+use Rattle.candidate_source.specs.Sources.{source_at}
 use Rattle.rete_net.specs.Answers.{given as kept_or}
+use Rattle.rete_net.specs.Loads.{TurnLoads}
 use Rattle.rete_net.proofs.Walking.{equal_or_not}
 use Rattle.fx_base.proofs.Orders.{below_or_last}
 use Rattle.fx_base.proofs.Sequences.{get-set_other, get-set_same, one_value}
@@ -14,12 +17,12 @@ pub same_fault : {T E : Type 0} (r : Result T E) (e x : E) → IsErrOf r x → I
 same_fault (Ok y) e x is told = absurd told
 same_fault (Err y) e x is told = let same : y ≡ x = cc in sym told ∙ same
 
-module _ (p : Program) (look : Look) (kept : List Fact) (extras : List Extra) (moment : Moment) (first : Delta) (before : List NetNode) (owners : List Owner) (ends : List ℕ) where
-  abbrev pub Way : List NetNode → Answered Delta → ℕ → Type 0
-  Way now a n = AreLoaded p look kept extras moment first before now owners ends a n
+module _ (p : Program) (look : Look) (kept : List Fact) (extras : List Extra) (moment : Moment) (first : Delta) (sources : Sources) (before : List NetNode) (owners : List Owner) (ends : List ℕ) where
+  abbrev pub Way : Sources → List NetNode → Answered Delta → ℕ → Type 0
+  Way of now a n = AreLoaded p look kept extras moment first (source_at sources) (source_at of) before now owners ends a n
 
-  pub set_off : (a : Answered Delta) → a.none ≡ no_change → ((k : ℕ) → some_answer a k ≡ None) → Way before a 0
-  set_off a none unanswered = record {
+  pub set_off : (of : Sources) (a : Answered Delta) → a.none ≡ no_change → ((k : ℕ) → some_answer a k ≡ None) → Way of before a 0
+  set_off of a none unanswered = record {
     many = refl;
     none = none;
     ahead = λ k le. unanswered k;
@@ -30,10 +33,11 @@ module _ (p : Program) (look : Look) (kept : List Fact) (extras : List Extra) (m
   }
 
   -- the row of an extra is missing
-  pub stuck_at : (now : List NetNode) (a : Answered Delta) (place : ℕ) → Way now a place → (n : NetNode) → slice_get now place ≡ Some n → (own : List Extra) → ((o : Owner) → slice_get owners place ≡ Some o → own ≡ filter (is_extra_under o) extras)
-      → (rows : List Row) → rows ≡ (left_given first a n.parent).come → (InOrder rows → (e : Extra) × In e own × (has rows e.row ≡ false)) → IsStuck p look kept extras moment first before owners ends
-  stuck_at now a place way n at own own_are rows rows_are missing = record {
+  pub stuck_at : (of : Sources) (now : List NetNode) (a : Answered Delta) (place : ℕ) → Way of now a place → (n : NetNode) → slice_get now place ≡ Some n → (own : List Extra) → ((o : Owner) → slice_get owners place ≡ Some o → own ≡ filter (is_extra_under o) extras)
+      → (rows : List Row) → rows ≡ (left_given first a n.parent).come → (InOrder rows → (e : Extra) × In e own × (has rows e.row ≡ false)) → IsStuck p look kept extras moment first (source_at sources) before owners ends
+  stuck_at of now a place way n at own own_are rows rows_are missing = record {
     now = now;
+    is = source_at of;
     answered = a;
     place = place;
     loaded = way;
@@ -45,10 +49,16 @@ module _ (p : Program) (look : Look) (kept : List Fact) (extras : List Extra) (m
         (it.0, of_filter (is_extra_under o) it.0 extras own_one, passed (is_extra_under o) it.0 extras own_one, ap (λ (rs : List Row). has rs it.0.row) (sym rows_are) ∙ it.2);
   }
 
-  module _ (index : Index) (wired : IsWired before ends index) (now : List NetNode) (a : Answered Delta) (place : ℕ) (way : Way now a place) (n new : NetNode) (at : slice_get now place ≡ Some n)
+  module _ (index : Index) (wired : IsWired sources before ends index) (of then : Sources) (now : List NetNode) (a : Answered Delta) (place : ℕ) (way : Way of now a place)
+      (alike : (k : ℕ) → k < place → (extras : List Extra) (old new : NetNode) (rows : List Row) (delta : Delta) → TurnLoads p look kept extras moment (source_at sources k) (source_at of k) k old new rows delta
+      → TurnLoads p look kept extras moment (source_at sources k) (source_at then k) k old new rows delta)
+      (n new : NetNode) (at : slice_get now place ≡ Some n)
       (own : List Extra) (own_are : (o : Owner) → slice_get owners place ≡ Some o → own ≡ filter (is_extra_under o) extras) (rows : List Row) (rows_are : rows ≡ (left_given first a n.parent).come)
-      (delta : Delta) (load : NodeLoad p look kept own moment n new rows delta) (there : InOrder rows → (e : Extra) → In e own → has rows e.row ≡ true)
+      (delta : Delta) (load : TurnLoads p look kept own moment (source_at sources place) (source_at then place) place n new rows delta) (there : InOrder rows → (e : Extra) → In e own → has rows e.row ≡ true)
       (b : Answered Delta) (put : IsAnswerPut index place delta a b) where
+    abbrev Loads : ℕ → List Extra → NetNode → NetNode → List Row → Delta → Type 0
+    Loads k own old new rows delta = TurnLoads p look kept own moment (source_at sources k) (source_at then k) k old new rows delta
+
     absent : some_answer a place ≡ None
     absent = way.ahead place (omega arith)
 
@@ -80,23 +90,25 @@ module _ (p : Program) (look : Look) (kept : List Fact) (extras : List Extra) (m
         (λ is. put.rules rule (subst (λ (i : ℕ). is_listed index.rules i rule ≡ true) is (wired.indexed.ended rule end e)) out)
 
     loaded_still : (k : ℕ) → k < place → (old it : NetNode) (o : Owner) → slice_get before k ≡ Some old → slice_get (set now place new) k ≡ Some it → slice_get owners k ≡ Some o
-        → NodeLoad p look kept (filter (is_extra_under o) extras) moment old it (left_given first b old.parent).come (answer_in b k)
+        → Loads k (filter (is_extra_under o) extras) old it (left_given first b old.parent).come (answer_in b k)
     loaded_still k lt old it o e f g =
-        subst (λ (d : Delta). NodeLoad p look kept (filter (is_extra_under o) extras) moment old it d.come (answer_in b k)) (sym (left_still k old (omega (arith, lt)) e))
-        (subst (NodeLoad p look kept (filter (is_extra_under o) extras) moment old it (left_given first a old.parent).come) (sym (answer_still k (λ same. absurd (omega (arith, lt, same)))))
-        (way.loaded k lt old it o e (sym (get-set_other now place k new (λ same. absurd (omega (arith, lt, same)))) ∙ f) g))
+        let own = filter (is_extra_under o) extras in
+        subst (λ (d : Delta). Loads k own old it d.come (answer_in b k)) (sym (left_still k old (omega (arith, lt)) e))
+        (subst (Loads k own old it (left_given first a old.parent).come) (sym (answer_still k (λ same. absurd (omega (arith, lt, same)))))
+        (alike k lt own old it (left_given first a old.parent).come (answer_in a k) (way.loaded k lt old it o e (sym (get-set_other now place k new (λ same. absurd (omega (arith, lt, same)))) ∙ f) g)))
 
     loaded_here : (old it : NetNode) (o : Owner) → slice_get before place ≡ Some old → slice_get (set now place new) place ≡ Some it → slice_get owners place ≡ Some o
-        → NodeLoad p look kept (filter (is_extra_under o) extras) moment old it (left_given first b old.parent).come (answer_in b place)
+        → Loads place (filter (is_extra_under o) extras) old it (left_given first b old.parent).come (answer_in b place)
     loaded_here old it o e f g =
         let old_is : n ≡ old = one_value (slice_get before place) n old was e in
         let new_is : new ≡ it = one_value (slice_get (set now place new) place) new it (get-set_same now place new n at) f in
-        subst (λ (d : Delta). NodeLoad p look kept (filter (is_extra_under o) extras) moment old it d.come (answer_in b place)) (sym (left_still place old (omega arith) e))
-        (subst (NodeLoad p look kept (filter (is_extra_under o) extras) moment old it (left_given first a old.parent).come) (sym answer_here)
-        (subst (λ (x : NetNode). NodeLoad p look kept (filter (is_extra_under o) extras) moment old x (left_given first a old.parent).come delta) new_is
-        (subst (λ (x : NetNode). NodeLoad p look kept (filter (is_extra_under o) extras) moment x new (left_given first a x.parent).come delta) old_is
-        (subst (λ (rs : List Row). NodeLoad p look kept (filter (is_extra_under o) extras) moment n new rs delta) rows_are
-        (subst (λ (es : List Extra). NodeLoad p look kept es moment n new rows delta) (own_are o g) load)))))
+        let its = filter (is_extra_under o) extras in
+        subst (λ (d : Delta). Loads place its old it d.come (answer_in b place)) (sym (left_still place old (omega arith) e))
+        (subst (Loads place its old it (left_given first a old.parent).come) (sym answer_here)
+        (subst (λ (x : NetNode). Loads place its old x (left_given first a old.parent).come delta) new_is
+        (subst (λ (x : NetNode). Loads place its x new (left_given first a x.parent).come delta) old_is
+        (subst (λ (rs : List Row). Loads place its n new rs delta) rows_are
+        (subst (λ (es : List Extra). Loads place es n new rows delta) (own_are o g) load)))))
 
     there_here : (old : NetNode) (o : Owner) → slice_get before place ≡ Some old → slice_get owners place ≡ Some o → InOrder (left_given first a old.parent).come → HasRowsOf o extras (left_given first a old.parent).come
     there_here old o e g sorted =
@@ -105,7 +117,7 @@ module _ (p : Program) (look : Look) (kept : List Fact) (extras : List Extra) (m
         subst (HasRowsOf o extras) same (λ x i under.
         there (subst InOrder (sym same) sorted) x (subst (In x) (sym (own_are o g)) (in_filter (is_extra_under o) x extras under i)))
 
-    pub take_one : Way (set now place new) b (place + 1)
+    pub take_one : Way then (set now place new) b (place + 1)
     take_one = record {
       many = length-set now place new ∙ way.many;
       none = put.none ∙ way.none;
@@ -115,7 +127,7 @@ module _ (p : Program) (look : Look) (kept : List Fact) (extras : List Extra) (m
         | inl less ↦ loaded_still k less
         | inr same ↦ subst
             (λ (i : ℕ). (old it : NetNode) (o : Owner) → slice_get before i ≡ Some old → slice_get (set now place new) i ≡ Some it → slice_get owners i ≡ Some o
-            → NodeLoad p look kept (filter (is_extra_under o) extras) moment old it (left_given first b old.parent).come (answer_in b i)) (sym same) loaded_here
+            → Loads i (filter (is_extra_under o) extras) old it (left_given first b old.parent).come (answer_in b i)) (sym same) loaded_here
       ];
       there = λ k lt old o e g. elim (below_or_last k place lt) [
         | inl less ↦

@@ -6,7 +6,7 @@ use Rattle.condition_node.specs.Forgetting.{ForgetsIn}
 use Rattle.rete_net.proofs.Turning.{MoveLaw, held_has}
 use Rattle.fx_base.proofs.Tests.{or_first_false}
 
-exactly : (a g o : Bool) → (a ≡ true → g ≡ o) → (g ≡ true → a ≡ true) → g ≡ (a && o)
+pub exactly : (a g o : Bool) → (a ≡ true → g ≡ o) → (g ≡ true → a ≡ true) → g ≡ (a && o)
 exactly true g o h k = h refl
 exactly false true o h k = sym (k refl)
 exactly false false o h k = refl

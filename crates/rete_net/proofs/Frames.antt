@@ -3,18 +3,21 @@ use Rattle.rete_net.proofs.Common.{◌≡◌, ◌∙◌, sym, ap, subst, ℕ, �
 use Rattle.rete_net.proofs.Common.{Fact, Delta, Named, Row, Condition, Program, pattern_of, Look, has_good_window, condition_of, RuleChange, NetNode}
 use Rattle.rete_net.proofs.Common.{ForgotBelow, before, EndsRule, IsNetOf, NetStep, is_listed, IsAskedWhereMeant, IsNodeFound, IsIndexOf, IsReplaced, IsWired}
 use Rattle.rete_net.proofs.Common.{Index, Moment}
+use Rattle.candidate_source.specs.declared.source.Source.{Source}
+use Rattle.candidate_source.specs.declared.sources.Sources.{Sources}
+use Rattle.candidate_source.specs.Sources.{is_follower}
 use Rattle.fx_base.proofs.Sequences.{get-below, one_value}
 
-pub stepped_nodes : (p : Program) (look : Look) (gone : List Fact) (come : Option Fact) (moment : Moment) (first : Delta) (old new : List NetNode) (ends : List ℕ) (answers : List RuleChange)
-    → NetStep p look gone come moment first old new ends answers → IsReplaced old new
-stepped_nodes p look gone come moment first old new ends answers step = record {
+pub stepped_nodes : (p : Program) (look : Look) (gone : List Fact) (come : Option Fact) (moment : Moment) (first : Delta) (was is : ℕ → Option Source) (old new : List NetNode) (ends : List ℕ) (answers : List RuleChange)
+    → NetStep p look gone come moment first was is old new ends answers → IsReplaced old new
+stepped_nodes p look gone come moment first was is old new ends answers step = record {
   many = step.nodes;
   parent = λ k a b e f. (step.stepped k (slice_get_within old k a e) a b e f).parent;
   condition = λ k a b e f. (step.stepped k (slice_get_within old k a e) a b e f).condition;
 }
 
-pub forgetting_nodes : (p : Program) (look : Look) (names : Named → Bool) (old new : List NetNode) (dropped : List (List Row)) → length new ≡ length old → ForgotBelow p look names old new dropped (length old) → IsReplaced old new
-forgetting_nodes p look names old new dropped many forgot = record {
+pub forgetting_nodes : (p : Program) (look : Look) (names : Named → Bool) (was is : ℕ → Option Source) (old new : List NetNode) (dropped : List (List Row)) → length new ≡ length old → ForgotBelow p look names was is old new dropped (length old) → IsReplaced old new
+forgetting_nodes p look names was is old new dropped many forgot = record {
   many = many;
   parent = λ k a b e f. (forgot k (slice_get_within old k a e) a b e f).parent;
   condition = λ k a b e f. (forgot k (slice_get_within old k a e) a b e f).condition;
@@ -62,29 +65,32 @@ module _ (p : Program) (old new : List NetNode) (ends ends_now : List ℕ) (same
 
 -- ---- the index
 
-found_again : (index : Index) (k : ℕ) (old new : NetNode) → new.parent ≡ old.parent → condition_of new.node ≡ condition_of old.node → IsNodeFound index k old → IsNodeFound index k new
-found_again index k old new parent condition was = record {
+found_again : (index : Index) (k : ℕ) (old new : NetNode) → condition_of new.node ≡ condition_of old.node → IsNodeFound index k old → IsNodeFound index k new
+found_again index k old new condition was = record {
   typed = ap (λ (c : Condition). is_listed index.by_type (pattern_of c).ty.0 k) condition ∙ was.typed;
   asked = subst (λ (c : Condition). IsAskedWhereMeant index.alpha (pattern_of c) k) (sym condition) was.asked;
-  first = λ e. was.first (sym parent ∙ e);
 }
 
 -- the index finds the nodes still
-pub index_again : (old new : List NetNode) (ends ends_now : List ℕ) (index index_now : Index) → IsReplaced old new → ends_now ≡ ends → index_now ≡ index → IsIndexOf old ends index → IsIndexOf new ends_now index_now
-index_again old new ends ends_now index index_now replaced same same_index indexed =
-    subst (λ (i : Index). IsIndexOf new ends_now i) (sym same_index)
-    (subst (λ (es : List ℕ). IsIndexOf new es index) (sym same) (record {
-      found = λ k n e.
-          let many = replaced.many in
-          let within : k < length new = slice_get_within new k n e in
-          let o = get-below old k (omega arith) in
-          found_again index k o.0 n (replaced.parent k o.0 n o.1 e) (replaced.condition k o.0 n o.1 e) (indexed.found k o.0 o.1);
+pub index_again : (sources sources_now : Sources) (old new : List NetNode) (ends ends_now : List ℕ) (index index_now : Index) → ((k : ℕ) → is_follower sources_now k ≡ is_follower sources k) → IsReplaced old new → ends_now ≡ ends → index_now ≡ index
+    → IsIndexOf sources old ends index → IsIndexOf sources_now new ends_now index_now
+index_again sources sources_now old new ends ends_now index index_now follows replaced same same_index indexed =
+    subst (λ (i : Index). IsIndexOf sources_now new ends_now i) (sym same_index)
+    (subst (λ (es : List ℕ). IsIndexOf sources_now new es index) (sym same) (record {
+      found = λ k n e leads. found_again index k (there k n e).0 n (replaced.condition k (there k n e).0 n (there k n e).1 e) (indexed.found k (there k n e).0 (there k n e).1 (sym (follows k) ∙ leads));
+      firsts = λ k n e none. indexed.firsts k (there k n e).0 (there k n e).1 (sym (replaced.parent k (there k n e).0 n (there k n e).1 e) ∙ none);
       ended = indexed.ended;
     }))
+  where
+    there : (k : ℕ) (n : NetNode) → slice_get new k ≡ Some n → (o : NetNode) × (slice_get old k ≡ Some o)
+    there k n e =
+        let many = replaced.many in
+        let within : k < length new = slice_get_within new k n e in
+        get-below old k (omega arith)
 
 -- a program's network with its index
-pub wired_of : (p : Program) (nodes : List NetNode) (ends : List ℕ) (index : Index) → IsNetOf p nodes ends → IsIndexOf nodes ends index → IsWired nodes ends index
-wired_of p nodes ends index net indexed = record {
+pub wired_of : (p : Program) (sources : Sources) (nodes : List NetNode) (ends : List ℕ) (index : Index) → IsNetOf p nodes ends → IsIndexOf sources nodes ends index → IsWired sources nodes ends index
+wired_of p sources nodes ends index net indexed = record {
   indexed = indexed;
   parents = net.shaped.parents;
   lasts = λ rule end e.

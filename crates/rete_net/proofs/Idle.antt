@@ -2,7 +2,7 @@
 use Rattle.rete_net.proofs.Common.{◌≡◌, ◌∙◌, sym, ap, refl, subst, ◌&&◌, not, Bool, true, false, List, [], Option, Some, Fact, Delta, Named, Row, has}
 use Rattle.rete_net.proofs.Common.{Plain, Pattern, Moment, Program, pattern_of, Snapshot, Look, Candidates, beside, has_left, has_right, candidates_of, NetNode}
 use Rattle.rete_net.proofs.Common.{HasNoOld, NodeForgets, Fan, Seat, member_of, showing, IsHalf, IsHalfTurned, IsOfSeat, Member, no_change, NodeStep}
-use Rattle.rete_net.proofs.Common.{condition_of, is_negated, IsLeftAlone, node_moves}
+use Rattle.rete_net.proofs.Common.{condition_of, is_negated, node_moves}
 use Rattle.std.proofs.Math.Bool.{or-false}
 use Rattle.pair_memory.specs.declared.left_rows.LeftRows.{LeftRows}
 use Rattle.pair_memory.specs.Memories.{KeepsMemories}
@@ -10,14 +10,14 @@ use Rattle.condition_node.specs.Forgetting.{ForgetsIn}
 use Rattle.condition_node.specs.declared.node.Node.TheVariants as node
 use Rattle.condition_node.proofs.Forgetting.{join_forgot}
 use Rattle.rete_net.proofs.Forgets.{node_forgets}
-use Rattle.rete_net.proofs.Lone.{alone_gate}
+use Rattle.rete_net.proofs.Lone.{alone_gate, IsAlone}
 use Rattle.rete_net.proofs.Siblings.{as_node, own_join, shown_is, still_steps, whole_half}
 use Rattle.rete_net.proofs.Sparing.{none_old}
 use Rattle.fx_base.proofs.Tests.{and_not_excluded}
 
 -- in a step
 pub idle_steps : (p : Program) (look : Look) (gone : List Fact) (come : Option Fact) (moment : Moment) (first : Delta) (n : NetNode) (was : Option Member) (fans : List Fan) (seat : Seat) (left : Delta)
-    → IsLeftAlone p n first gone come moment → IsOfSeat n fans (Some seat) → IsHalf look left.gone left.come was (member_of fans (Some seat)) no_change
+    → IsAlone p n first gone come moment → IsOfSeat n fans (Some seat) → IsHalf look left.gone left.come was (member_of fans (Some seat)) no_change
     → NodeStep p look gone come moment (showing was n) (showing (member_of fans (Some seat)) n) left no_change
 idle_steps p look gone come moment first n was fans seat left alone of halved =
     let gate = alone_gate p gone come moment first n alone (ap is_negated of.2) in

@@ -48,3 +48,17 @@ mod Resumed
 mod Filled
 mod Filling
 mod Grouped
+mod Lent
+mod Reached
+pub mod Lending
+pub mod Passing
+mod Alone
+mod Stocked
+mod Sourced
+mod Turned
+mod Rescheduled
+pub mod Stillness
+mod Forgone
+mod Spared
+pub mod Kinship
+pub mod Fresh

@@ -4,6 +4,8 @@ use Rattle.rete_net.proofs.Common.{take, Option, Some, None, slice_get, fun_ext,
 use Rattle.rete_net.proofs.Common.{row_cmp, InOrder, Condition, Moment, Program, Rule, Snapshot, of_filter, Look, extra_for, empty_row, is_empty_row}
 use Rattle.rete_net.proofs.Common.{condition_of, IsFirstWith, extra_at, laden_line, laden_with, Answered, Owner, NetNode, answer_in, left_given, IsLoadable}
 use Rattle.rete_net.proofs.Common.{is_extra_under, AreLoaded, IsNodeLoad, IsOwned, before, IsNetOf, IsFresh, empty_row_comes}
+use Rattle.rete_net.proofs.Common.{taking, has_good_window, pattern_of}
+use Rattle.candidate_source.specs.declared.source.Source.{Source}
 use Rattle.std.specs.List.Sorted.{IsStrictlySortedBy}
 use Rattle.laden_rows.specs.Laden.{AreOwners, laden}
 use Rattle.laden_rows.proofs.Naming.{laden_named}
@@ -11,6 +13,7 @@ use Rattle.rete_net.specs.Owners.{AreNodeOwners as HaveOwners}
 use Rattle.rete_net.proofs.Counting.{longer}
 use Rattle.rete_net.proofs.Growing.{parted}
 use Rattle.rete_net.proofs.Searched.{extra_of_owner, rows_in_order}
+use Rattle.rete_net.proofs.Stillness.{condition_taking}
 use Rattle.fx_base.proofs.Sequences.{get-below}
 
 -- rules that are the first ones with the same first conditions are the same
@@ -60,8 +63,8 @@ module _ (p : Program) (owners : ℕ → ℕ → ℕ) (own : AreOwners p owners)
 
 module _ (p : Program) (look : Look) (t : Snapshot) (kept : List Fact) (extras : List Extra) (moment : Moment) (can : IsLoadable p t kept extras moment look) (owners : ℕ → ℕ → ℕ) (own : AreOwners p owners)
     (nodes : List NetNode) (ends : List ℕ) (net : IsNetOf p nodes ends) (held_by : List Owner) (owned : HaveOwners p net.conditions (length nodes) held_by)
-    (fresh : (k : ℕ) (n : NetNode) → slice_get nodes k ≡ Some n → IsFresh p n)
-    (now : List NetNode) (a : Answered Delta) (bound : ℕ) (within : bound ≤ length nodes) (loaded : AreLoaded p look kept extras moment empty_row_comes nodes now held_by ends a bound) where
+    (was_of : ℕ → Option Source) (fresh : (k : ℕ) (n : NetNode) → slice_get nodes k ≡ Some n → IsFresh p (taking (was_of k) n))
+    (is_of : ℕ → Option Source) (now : List NetNode) (a : Answered Delta) (bound : ℕ) (within : bound ≤ length nodes) (loaded : AreLoaded p look kept extras moment empty_row_comes was_of is_of nodes now held_by ends a bound) where
   -- these are the rows of the first conditions of a rule, so many
   abbrev pub AreRows : (Row → Bool) → List Condition → Type 0
   AreRows set cs = (place m : ℕ) (rule : Rule) → slice_get p.rules place ≡ Some rule → m ≤ length rule.conditions → cs ≡ take m rule.conditions → (row : Row) → set row ≡ laden p t extras (owners place) rule.conditions m row
@@ -93,10 +96,10 @@ module _ (p : Program) (look : Look) (t : Snapshot) (kept : List Fact) (extras :
 
     -- what is given to it
     pub load_at : (o : Owner) → slice_get held_by k ≡ Some o → ((q : ℕ) → q < k → Answers q)
-        → IsNodeLoad p look kept moment t (laden p t extras (owners place) rule.conditions m) old (left_given empty_row_comes a old.parent).come (filter (is_extra_under o) extras)
+        → IsNodeLoad p look kept moment t (laden p t extras (owners place) rule.conditions m) (taking (was_of k) old) (left_given empty_row_comes a old.parent).come (filter (is_extra_under o) extras)
     load_at o f rest = record {
       fresh = fresh k old e;
-      window = net.windows k old e;
+      window = ap (λ (c : Condition). has_good_window p (pattern_of c)) (condition_taking (was_of k) old) ∙ net.windows k old e;
       orderly = can.orderly;
       facts = can.facts;
       at = can.at;
@@ -119,7 +122,8 @@ module _ (p : Program) (look : Look) (t : Snapshot) (kept : List Fact) (extras :
         → (row : Row) → has (answer_in a k).come row ≡ laden p t extras (owners place) rule.conditions (suc m) row
     unfolding laden
     answer_rows new g o f lt rest row =
-        (loaded.loaded k lt old new o e g f).answer t (laden p t extras (owners place) rule.conditions m) (load_at o f rest) row
+        (loaded.loaded k lt old new o e g f).loads.answer t (laden p t extras (owners place) rule.conditions m) (load_at o f rest) row
+        ∙ ap (λ (c : Condition). laden_line p t (extra_for (filter (is_extra_under o) extras)) c (laden p t extras (owners place) rule.conditions m) row) (condition_taking (was_of k) old)
         ∙ ap (λ beyond. laden_line p t beyond (condition_of old.node) (laden p t extras (owners place) rule.conditions m) row) (extras_at o f)
         ∙ ap (λ c. laden_with p t (extra_at extras (owners place m) m) c (laden p t extras (owners place) rule.conditions m) row) (sym parts.1)
 
@@ -164,7 +168,7 @@ module _ (p : Program) (look : Look) (t : Snapshot) (kept : List Fact) (extras :
           let up = get-below nodes q (omega (arith, low, within)) in
           let new = now_at q low in
           let o = owner_there q low in
-          (loaded.loaded q low up.0 new.0 o.0 up.1 new.1 o.1).in_order (fresh q up.0 up.1)
+          (loaded.loaded q low up.0 new.0 o.0 up.1 new.1 o.1).loads.in_order (fresh q up.0 up.1)
 
   -- nothing goes
   pub none_gone : (k : ℕ) → k < bound → (answer_in a k).gone ≡ []
@@ -172,4 +176,4 @@ module _ (p : Program) (look : Look) (t : Snapshot) (kept : List Fact) (extras :
       let old = get-below nodes k (omega (arith, lt, within)) in
       let new = now_at k lt in
       let o = owner_there k lt in
-      (loaded.loaded k lt old.0 new.0 o.0 old.1 new.1 o.1).none_gone (fresh k old.0 old.1)
+      (loaded.loaded k lt old.0 new.0 o.0 old.1 new.1 o.1).loads.none_gone (fresh k old.0 old.1)

@@ -1,10 +1,11 @@
 -- A node that a step does not reach stays as it is, and nothing changes in the rows of its condition.
-use Rattle.rete_net.proofs.Common.{◌≡◌, ◌∙◌, sym, ap, refl, subst, ◌||◌, not, Bool, true, false, ℤ, List, map, Option, Fact, Delta, Row, has, changes_nothing}
+use Rattle.rete_net.proofs.Common.{◌≡◌, ◌∙◌, sym, ap, refl, subst, ◌||◌, not, Bool, true, false, ℤ, List, map, Option, None, Fact, Delta, Row, has}
+use Rattle.rete_net.proofs.Common.{changes_nothing}
 use Rattle.rete_net.proofs.Common.{Program, Moment, IsAt, snapshot_at, pattern_of, Snapshot, floor, is_whole, Pattern, WindowTag, Whole, Time, Length, Look}
 use Rattle.rete_net.proofs.Common.{KeepsWindow, window_kept, window_of, Arrival, rows_inside, named_of, single, Kept, inside_whole, arrivals, window_kind_of}
 use Rattle.rete_net.proofs.Common.{is_one_meant, PatternGate, same_arrivals, stands_still, same_candidates, Node, condition_of, is_negated, Stays, TellsNothing}
 use Rattle.rete_net.proofs.Common.{join_still, join_tells_nothing, exists_still, exists_tells_nothing, fold_still, fold_tells_nothing, not_still}
-use Rattle.rete_net.proofs.Common.{not_tells_nothing, NetNode, is_changed_by_clock, IsLeftAlone, IsStillAt, IsUndue, no_change, NodeStep}
+use Rattle.rete_net.proofs.Common.{not_tells_nothing, NetNode, is_changed_by_clock, IsGateStill, IsStillAt, no_change, NodeStep}
 use Rattle.rete_net.proofs.Common.{blocking_pattern, Gate}
 use Rattle.not_node.specs.Doors.{awaited_entry}
 use Rattle.not_node.specs.declared.node.NotNode.{NotNode}
@@ -46,7 +47,7 @@ pub inside_still : (q : Pattern) (gate : PatternGate) → is_whole q.window ≡ 
 inside_still q gate whole window was now list row =
     ap (λ (rows : List Row). has rows row) (subst (λ (k : WindowKind). rows_inside k now list ≡ rows_inside k was list) (sym window) (rows_whole q.window whole now was list))
 
-gate_stays : (p : Program) (q : Pattern) (gate : PatternGate) (gone : List Fact) (come : Option Fact) (clock : ℤ) → is_whole q.window ≡ true → is_one_meant q gone come ≡ false → GateStays p q gate gone come clock
+pub gate_stays : (p : Program) (q : Pattern) (gate : PatternGate) (gone : List Fact) (come : Option Fact) (clock : ℤ) → is_whole q.window ≡ true → is_one_meant q gone come ≡ false → GateStays p q gate gone come clock
 gate_stays p q gate gone come clock whole none = record {
   stands = λ s next stands moves at. stands_still p q s next moves.before moves.after (same_arrivals p q s next gone come moves none) gate stands (record {
     tags = stands.stands.tags;
@@ -74,7 +75,7 @@ module _ (p : Program) (moment : Moment) where
 -- ---- nodes of any kind by a floor
 
 module _ (p : Program) (moment : Moment) where
-  abbrev told : Node → ℤ
+  abbrev pub told : Node → ℤ
   told n = floor p (snapshot_at moment) (pattern_of (condition_of n)).entry.0
 
   told_is : (waiting : NotNode) (next : Snapshot) → IsAt next moment → told (node.Not waiting) ≡ floor p next (awaited_entry waiting)
@@ -92,29 +93,40 @@ module _ (p : Program) (moment : Moment) where
   tells_nothing_at (node.Exists tally) still = exists_tells_nothing p moment tally
   tells_nothing_at (node.Fold fold) still = fold_tells_nothing p moment fold
 
+-- nothing is due in a node and its own gate
+pub record IsNotDue (p : Program) (n : NetNode) (moment : Moment) : Type 0 where
+  pub gate : IsGateStill n.gate moment.clock
+  pub node : IsStillAt n.node (told p moment n.node)
+
+-- a step does not reach a node with a gate of its own but by what changes in the rows of its parent
+pub record IsAlone (p : Program) (n : NetNode) (first : Delta) (gone : List Fact) (come : Option Fact) (moment : Moment) : Type 0 where
+  pub unmeant : is_one_meant (pattern_of (condition_of n.node)) gone come ≡ false
+  pub begun : n.parent ≡ None → changes_nothing first ≡ true
+  pub undue : is_changed_by_clock n ≡ true → IsNotDue p n moment
+
 -- the gate of a node that is no `not` stays as it is
-pub alone_gate : (p : Program) (gone : List Fact) (come : Option Fact) (moment : Moment) (first : Delta) (n : NetNode) → IsLeftAlone p n first gone come moment → is_negated (condition_of n.node) ≡ false
+pub alone_gate : (p : Program) (gone : List Fact) (come : Option Fact) (moment : Moment) (first : Delta) (n : NetNode) → IsAlone p n first gone come moment → is_negated (condition_of n.node) ≡ false
     → (other : Program) → GateStays other (pattern_of (condition_of n.node)) n.gate gone come moment.clock
 alone_gate p gone come moment first n alone joins other = by (is_whole (pattern_of (condition_of n.node)).window) refl
   where
     by : (w : Bool) → is_whole (pattern_of (condition_of n.node)).window ≡ w → GateStays other (pattern_of (condition_of n.node)) n.gate gone come moment.clock
-    by true whole = gate_stays other (pattern_of (condition_of n.node)) n.gate gone come moment.clock whole alone.unreached.unmeant
+    by true whole = gate_stays other (pattern_of (condition_of n.node)) n.gate gone come moment.clock whole alone.unmeant
     by false part =
         let undue = alone.undue (ap (λ b. b || not (is_whole (pattern_of (condition_of n.node)).window)) joins ∙ ap not part) in
         record {
-          stands = λ s next stands moves at. undue.gate.stands other (pattern_of (condition_of n.node)) s next gone come alone.unreached.unmeant stands moves at;
-          candidates = λ s next stands moves at. undue.gate.candidates other (pattern_of (condition_of n.node)) s next gone come alone.unreached.unmeant stands moves at;
+          stands = λ s next stands moves at. undue.gate.stands other (pattern_of (condition_of n.node)) s next gone come alone.unmeant stands moves at;
+          candidates = λ s next stands moves at. undue.gate.candidates other (pattern_of (condition_of n.node)) s next gone come alone.unmeant stands moves at;
         }
 
-module _ (p : Program) (look : Look) (gone : List Fact) (come : Option Fact) (moment : Moment) (first : Delta) (n : NetNode) (left : Delta) (alone : IsLeftAlone p n first gone come moment) (none : changes_nothing left ≡ true) where
+module _ (p : Program) (look : Look) (gone : List Fact) (come : Option Fact) (moment : Moment) (first : Delta) (n : NetNode) (left : Delta) (alone : IsAlone p n first gone come moment) (none : changes_nothing left ≡ true) where
   abbrev asked : Pattern
   asked = pattern_of (condition_of n.node)
 
-  by_time : IsUndue p n moment → NodeStep p look gone come moment n n left no_change
+  by_time : IsNotDue p n moment → NodeStep p look gone come moment n n left no_change
   by_time undue =
       skipped p look gone come moment n left (record {
-        stands = λ s next stands moves at. undue.gate.stands p asked s next gone come alone.unreached.unmeant stands moves at;
-        candidates = λ s next stands moves at. undue.gate.candidates p asked s next gone come alone.unreached.unmeant stands moves at;
+        stands = λ s next stands moves at. undue.gate.stands p asked s next gone come alone.unmeant stands moves at;
+        candidates = λ s next stands moves at. undue.gate.candidates p asked s next gone come alone.unmeant stands moves at;
       })
       (stays_at p moment n.node undue.node) (tells_nothing_at p moment n.node undue.node) none
 
@@ -122,7 +134,7 @@ module _ (p : Program) (look : Look) (gone : List Fact) (come : Option Fact) (mo
   untimed e =
       let joins : is_negated (condition_of n.node) ≡ false = or_first_false (is_negated (condition_of n.node)) (not (is_whole asked.window)) e in
       let whole : is_whole asked.window ≡ true = neither_right (is_negated (condition_of n.node)) (is_whole asked.window) e in
-      skipped p look gone come moment n left (gate_stays p asked n.gate gone come moment.clock whole alone.unreached.unmeant) (stays p moment n.node joins) (tells_nothing p moment n.node joins) none
+      skipped p look gone come moment n left (gate_stays p asked n.gate gone come moment.clock whole alone.unmeant) (stays p moment n.node joins) (tells_nothing p moment n.node joins) none
 
   pub alone_stays : NodeStep p look gone come moment n n left no_change
   alone_stays = by (is_changed_by_clock n) refl

@@ -6,7 +6,11 @@ use Rattle.rete_net.proofs.Common.{same_floor, in_place, Look, cleaned, no_names
 use Rattle.rete_net.proofs.Common.{rising, IsLost, IsResumed, lost_partners, values_gathered, condition_of, held_known, node_moves, IsFirstWith, count_of}
 use Rattle.rete_net.proofs.Common.{extra_at, laden, extra_values_of, extra_count, extra_values, AreFans, shown_nodes, Answered, Owner, Rete, NetNode}
 use Rattle.rete_net.proofs.Common.{left_given, IsLoadable, IsIndexOf, is_extra_under, AreLoaded, IsNodeLoad, NetStands, IsOwned, AreQuiet, AreScheduled, before}
-use Rattle.rete_net.proofs.Common.{IsNetOf, IsFresh, NetNodeStands, empty_row_comes, IsReplaced}
+use Rattle.rete_net.proofs.Common.{IsNetOf, IsFresh, empty_row_comes, IsReplaced, AreSources, NodeStands, Row, Value, has, StandsIn, IsFound, answer_in, taking}
+use Rattle.candidate_source.specs.declared.source.Source.{Source}
+use Rattle.candidate_source.specs.Doors.{source_candidates, is_reached}
+use Rattle.candidate_source.specs.Sources.{is_other, source_at, AreLaidAs}
+use Rattle.candidate_source.proofs.Moving.{lead_alike}
 use Rattle.std.proofs.lemmas.Bool.{eqb-true}
 use Rattle.rule_model.specs.declared.condition.WindowTag.TheVariants as tag
 use Rattle.condition_rows.specs.Sets.{held}
@@ -17,12 +21,15 @@ use Rattle.laden_rows.proofs.Rows.{laden_rows}
 use Rattle.pattern_gate.specs.Fronts.{IsLetBe, HasInFront}
 use Rattle.pattern_gate.proofs.Fronts.{gate_of_all}
 use Rattle.rete_net.specs.Loading.{IsBehind}
+use Rattle.rete_net.specs.Loads.{IsFoundUnder, TurnLoads}
 use Rattle.rete_net.specs.Owners.{AreNodeOwners as HaveOwners}
 use Rattle.rete_net.proofs.Counted.{fronts_within}
 use Rattle.rete_net.proofs.Counting.{aside_of}
 use Rattle.rete_net.proofs.Frames.{index_again, net_again}
+use Rattle.rete_net.proofs.Lent.{lent_alike, lent_value}
 use Rattle.rete_net.proofs.Owning.{owned_again}
 use Rattle.rete_net.proofs.Quieting.{seen_now}
+use Rattle.rete_net.proofs.Stillness.{condition_taking}
 use Rattle.rete_net.proofs.Loaded.{answered, extras_at, load_at, owner_there, parts}
 use Rattle.fx_base.proofs.Sequences.{get-below, one_value}
 
@@ -117,10 +124,22 @@ held_tag s tag f e = ap tag_numbered (eqb-true f.tag.0 tag.0 (find_passes (λ (g
 
 -- ---- nodes
 
+parent_taking : (o : Option Source) (n : NetNode) → (taking o n).parent ≡ n.parent
+parent_taking None n = refl
+parent_taking (Some s) n = refl
+
+-- a node that is found by the rows that came to it is found by those before it
+found_by : (p : Program) (look : Look) (s : Snapshot) (set : Row → Bool) (forgotten : Named → Bool) (k : ℕ) (n : NetNode) (rows : List Row) (o : Option Source) → IsFoundUnder look o k n rows
+    → ((row : Row) → cleaned set forgotten row ≡ true → has rows row ≡ true) → NodeStands p (taking o n).node look s set forgotten → NodeStands p (taking o n).node (held s) s set forgotten → IsFound o k n s set forgotten
+found_by p look s set forgotten k n rows None found have here there = tt
+found_by p look s set forgotten k n rows (Some source) found have here there = λ row e.
+    subst (λ (v : Value). is_reached source v k ≡ true)
+    (lent_value p s set forgotten (source_candidates source) look n.node here look row ∙ lent_alike p s set forgotten (source_candidates source) look (held s) n.node here there row e) (found row (have row e))
+
 module _ (p : Program) (look : Look) (t : Snapshot) (kept : List Fact) (extras : List Extra) (moment : Moment) (can : IsLoadable p t kept extras moment look) (owners : ℕ → ℕ → ℕ) (own : AreOwners p owners)
     (nodes : List NetNode) (ends : List ℕ) (net : IsNetOf p nodes ends) (held_by : List Owner) (owned : HaveOwners p net.conditions (length nodes) held_by)
-    (fresh : (k : ℕ) (n : NetNode) → slice_get nodes k ≡ Some n → IsFresh p n)
-    (now : List NetNode) (a : Answered Delta) (loaded : AreLoaded p look kept extras moment empty_row_comes nodes now held_by ends a (length nodes))
+    (was_of : ℕ → Option Source) (fresh : (k : ℕ) (n : NetNode) → slice_get nodes k ≡ Some n → IsFresh p (taking (was_of k) n))
+    (is_of : ℕ → Option Source) (now : List NetNode) (a : Answered Delta) (loaded : AreLoaded p look kept extras moment empty_row_comes was_of is_of nodes now held_by ends a (length nodes))
     (s : Snapshot) (forgotten : Named → Bool) (is : IsBehind p s t forgotten extras look) where
   tags : HaveDistinctTags s.facts
   tags = rising s.facts is.orderly.in_order
@@ -134,7 +153,7 @@ module _ (p : Program) (look : Look) (t : Snapshot) (kept : List Fact) (extras :
     lt = slice_get_within nodes k old e
 
     owner : (o : Owner) × (slice_get held_by k ≡ Some o)
-    owner = owner_there p look t kept extras moment can owners own nodes ends net held_by owned fresh now a (length nodes) (omega arith) loaded k lt
+    owner = owner_there p look t kept extras moment can owners own nodes ends net held_by owned was_of fresh is_of now a (length nodes) (omega arith) loaded k lt
 
     theirs : IsOwned p (net.conditions k) owner.0
     theirs = owned.each k owner.0 owner.1
@@ -155,19 +174,19 @@ module _ (p : Program) (look : Look) (t : Snapshot) (kept : List Fact) (extras :
     front = before net.conditions old.parent
 
     two : (front ≡ take m rule.conditions) × (slice_get rule.conditions m ≡ Some (condition_of old.node))
-    two = parts p look t kept extras moment can owners own nodes ends net held_by owned fresh now a (length nodes) (omega arith) loaded k old e place m rule theirs.stands low theirs.own
+    two = parts p look t kept extras moment can owners own nodes ends net held_by owned was_of fresh is_of now a (length nodes) (omega arith) loaded k old e place m rule theirs.stands low theirs.own
 
     in_rules : In rule p.rules
     in_rules = in_place p.rules place rule theirs.stands
 
-    load : IsNodeLoad p look kept moment t (laden p t extras (owners place) rule.conditions m) old (left_given empty_row_comes a old.parent).come (filter (is_extra_under owner.0) extras)
+    load : IsNodeLoad p look kept moment t (laden p t extras (owners place) rule.conditions m) (taking (was_of k) old) (left_given empty_row_comes a old.parent).come (filter (is_extra_under owner.0) extras)
     load =
-        load_at p look t kept extras moment can owners own nodes ends net held_by owned fresh now a (length nodes) (omega arith) loaded k old e place m rule theirs.stands low theirs.own owner.0 owner.1
-        (λ q less. answered p look t kept extras moment can owners own nodes ends net held_by owned fresh now a (length nodes) (omega arith) loaded q (let h = lt in omega (arith, h, less)))
+        load_at p look t kept extras moment can owners own nodes ends net held_by owned was_of fresh is_of now a (length nodes) (omega arith) loaded k old e place m rule theirs.stands low theirs.own owner.0 owner.1
+        (λ q less. answered p look t kept extras moment can owners own nodes ends net held_by owned was_of fresh is_of now a (length nodes) (omega arith) loaded q (let h = lt in omega (arith, h, less)))
 
     its_extras : extra_for (filter (is_extra_under owner.0) extras) ≡ extra_at extras (owners place m) m
     its_extras =
-        extras_at p look t kept extras moment can owners own nodes ends net held_by owned fresh now a (length nodes) (omega arith) loaded k old e place m rule theirs.stands low theirs.own owner.0 owner.1
+        extras_at p look t kept extras moment can owners own nodes ends net held_by owned was_of fresh is_of now a (length nodes) (omega arith) loaded k old e place m rule theirs.stands low theirs.own owner.0 owner.1
 
     -- the gate
     in_front : HasInFront p (pattern_of (condition_of old.node)) s t
@@ -204,18 +223,33 @@ module _ (p : Program) (look : Look) (t : Snapshot) (kept : List Fact) (extras :
           (extra_values p s forgotten extras is.lost owners own place rule theirs.stands m c two.1 (aside_of c aside) row here));
     }
 
-    pub resumed_at : NetNodeStands p new s (rows_of p s (before net.conditions new.parent)) forgotten
+    told : TurnLoads p look kept (filter (is_extra_under owner.0) extras) moment (was_of k) (is_of k) k old new (left_given empty_row_comes a old.parent).come (answer_in a k)
+    told = loaded.loaded k lt old new owner.0 e g owner.1
+
+    same : condition_of (taking (is_of k) new).node ≡ condition_of old.node
+    same = told.loads.condition ∙ condition_taking (was_of k) old
+
+    node : NodeStands p (taking (is_of k) new).node look s (rows_of p s front) forgotten
+    node =
+        resumes_law p (taking (is_of k) new).node look s t (rows_of p s front) (laden p t extras (owners place) rule.conditions m) forgotten (extra_for (filter (is_extra_under owner.0) extras))
+        (subst (λ x. IsResumed p x s t (rows_of p s front) (laden p t extras (owners place) rule.conditions m) forgotten (extra_for (filter (is_extra_under owner.0) extras))) (sym same) resumed)
+        (told.loads.laden (held s) t (laden p t extras (owners place) rule.conditions m) load at_hand_too)
+
+    node_held : NodeStands p (taking (is_of k) new).node (held s) s (rows_of p s front) forgotten
+    node_held = node_moves p look (held s) s (rows_of p s front) forgotten is.at_hand (held_known s forgotten) (rows_named p s tags front) (taking (is_of k) new).node node
+
+    pub resumed_at : StandsIn p (is_of k) k new s (rows_of p s (before net.conditions new.parent)) forgotten
     resumed_at =
-        let told = loaded.loaded k lt old new owner.0 e g owner.1 in
-        let c = told.condition in
-        let node = resumes_law p new.node look s t (rows_of p s front) (laden p t extras (owners place) rule.conditions m) forgotten (extra_for (filter (is_extra_under owner.0) extras))
-        (subst (λ x. IsResumed p x s t (rows_of p s front) (laden p t extras (owners place) rule.conditions m) forgotten (extra_for (filter (is_extra_under owner.0) extras))) (sym c) resumed)
-        (told.laden (held s) t (laden p t extras (owners place) rule.conditions m) load at_hand_too) in
-        subst (λ (parent : Option ℕ). NetNodeStands p new s (rows_of p s (before net.conditions parent)) forgotten) (sym told.parent) (record {
-          gate =
-              subst (λ x. GateStands p (pattern_of x) new.gate s) (sym c)
-              (gate_of_all p (pattern_of (condition_of old.node)) s t is.orderly.in_order can.orderly.in_order in_front new.gate (told.gate t (laden p t extras (owners place) rule.conditions m) load));
-          node = node_moves p look (held s) s (rows_of p s front) forgotten is.at_hand (held_known s forgotten) (rows_named p s tags front) new.node node;
+        subst (λ (parent : Option ℕ). StandsIn p (is_of k) k new s (rows_of p s (before net.conditions parent)) forgotten)
+        (sym (sym (parent_taking (is_of k) new) ∙ told.loads.parent ∙ parent_taking (was_of k) old)) (record {
+          stands = record {
+            gate =
+                subst (λ x. GateStands p (pattern_of x) (taking (is_of k) new).gate s) (sym same)
+                (gate_of_all p (pattern_of (condition_of old.node)) s t is.orderly.in_order can.orderly.in_order in_front (taking (is_of k) new).gate
+                (subst (λ x. GateStands p (pattern_of x) (taking (is_of k) new).gate t) (condition_taking (was_of k) old) (told.loads.gate t (laden p t extras (owners place) rule.conditions m) load)));
+            node = node_held;
+          };
+          found = found_by p look s (rows_of p s front) forgotten k new (left_given empty_row_comes a old.parent).come (is_of k) told.found (λ row there. load.same_rows row ∙ resumed.rows row ∙ there) node node_held;
         })
 
 -- ---- the network
@@ -223,23 +257,27 @@ module _ (p : Program) (look : Look) (t : Snapshot) (kept : List Fact) (extras :
 -- It stands for a snapshot, whose clock is from 0 on, with what is forgotten of it.
 pub loaded_stands : (p : Program) (look : Look) (t : Snapshot) (kept : List Fact) (extras : List Extra) (moment : Moment) (can : IsLoadable p t kept extras moment look) (was now : Rete)
     (net : IsNetOf p (shown_nodes was) was.ends.items) (owned : HaveOwners p net.conditions (length (shown_nodes was)) was.owners.items)
-    (fresh : (k : ℕ) (n : NetNode) → slice_get (shown_nodes was) k ≡ Some n → IsFresh p n)
-    (a : Answered Delta) (loaded : AreLoaded p look kept extras moment empty_row_comes (shown_nodes was) (shown_nodes now) was.owners.items was.ends.items a (length (shown_nodes was)))
-    → IsReplaced (shown_nodes was) (shown_nodes now) → now.ends ≡ was.ends → now.owners ≡ was.owners → now.index ≡ was.index
-    → IsIndexOf (shown_nodes was) was.ends.items was.index → AreScheduled p now.nodes.items now.schedule → AreFans now.nodes.items now.fans → AreQuiet p (shown_nodes now) now.quiet_until
+    (fresh : (k : ℕ) (n : NetNode) → slice_get (shown_nodes was) k ≡ Some n → IsFresh p (taking (source_at was.sources k) n))
+    (a : Answered Delta)
+    (loaded : AreLoaded p look kept extras moment empty_row_comes (source_at was.sources) (source_at now.sources) (shown_nodes was) (shown_nodes now) was.owners.items was.ends.items a (length (shown_nodes was)))
+    → IsReplaced (shown_nodes was) (shown_nodes now) → now.ends ≡ was.ends → now.owners ≡ was.owners → now.index ≡ was.index → AreLaidAs was.sources now.sources
+    → IsIndexOf was.sources (shown_nodes was) was.ends.items was.index → AreScheduled p now.sources now.nodes.items now.schedule → AreFans now.nodes.items now.fans → AreSources now.nodes.items now.fans now.sources
+    → AreQuiet p now.sources (shown_nodes now) now.quiet_until
     → (s : Snapshot) (forgotten : Named → Bool) → IsBehind p s t forgotten extras look → pos 0 ≤ℤ s.clock → NetStands p now s forgotten
-loaded_stands p look t kept extras moment can was now net owned fresh a loaded replaced ends owners index indexed scheduled fans quiet s forgotten is begun =
+loaded_stands p look t kept extras moment can was now net owned fresh a loaded replaced ends owners index laid indexed scheduled fans sources quiet s forgotten is begun =
     let own = are_owners p (shown_nodes was) was.ends.items net was.owners.items owned in
     seen_now p now s forgotten (record {
       shape = net_again p (shown_nodes was) (shown_nodes now) was.ends.items now.ends.items (ap (λ es. es.items) ends) replaced net;
-      indexed = index_again (shown_nodes was) (shown_nodes now) was.ends.items now.ends.items was.index now.index replaced (ap (λ es. es.items) ends) index indexed;
+      indexed =
+          index_again was.sources now.sources (shown_nodes was) (shown_nodes now) was.ends.items now.ends.items was.index now.index (λ k. ap (is_other k) (lead_alike was.sources now.sources laid k)) replaced (ap (λ es. es.items) ends) index indexed;
       scheduled = scheduled;
       fans = fans;
+      sources = sources;
       owned = owned_again p net.conditions (length (shown_nodes was)) (length (shown_nodes now)) was.owners now.owners replaced.many owners owned;
       nodes = λ k n e.
           let many = replaced.many in
           let within : k < length (shown_nodes now) = slice_get_within (shown_nodes now) k n e in
           let old = get-below (shown_nodes was) k (omega (arith, within, many)) in
-          resumed_at p look t kept extras moment can (owners_of p (shown_nodes was) was.ends.items net was.owners.items owned) own (shown_nodes was) was.ends.items net was.owners.items owned fresh (shown_nodes now) a loaded s forgotten is
-          k old.0 n old.1 e;
+          resumed_at p look t kept extras moment can (owners_of p (shown_nodes was) was.ends.items net was.owners.items owned) own (shown_nodes was) was.ends.items net was.owners.items owned
+          (source_at was.sources) fresh (source_at now.sources) (shown_nodes now) a loaded s forgotten is k old.0 n old.1 e;
     }) is.orderly begun quiet

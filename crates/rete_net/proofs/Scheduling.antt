@@ -1,12 +1,36 @@
 -- The schedule of the nodes, as one of them is put anew.
-use Rattle.rete_net.proofs.Common.{◌≡◌, ◌∙◌, sym, ap, refl, subst, ℕ, ℤ, ◌+ℤ◌, pos, List, Option, Some, None, true, slice_get, inl, inr, arith, set, ints, Row}
-use Rattle.rete_net.proofs.Common.{Moment, Program, snapshot_at, floor, IsBefore, NetNode, EntryTimers, Schedule, is_changed_by_clock, IsNodeQuiet}
-use Rattle.rete_net.proofs.Common.{entry_point_of, AreScheduled, IsScheduled, IsUndue, IsFrom, IsSet}
+use Rattle.rete_net.proofs.Common.{◌≡◌, ◌∙◌, sym, ap, refl, subst, Bool, ℕ, ℤ, ◌+ℤ◌, pos, List, Option, Some, None, true, false, slice_get, inl, inr, arith, set}
+use Rattle.rete_net.proofs.Common.{ints, IfSome, Row, Moment, Program, snapshot_at, floor, IsBefore, IsQuiet, Node, NetNode, EntryTimers, Schedule, is_changed_by_clock}
+use Rattle.rete_net.proofs.Common.{entry_point_of, AreScheduled, IsScheduled, IsUndue, IsFrom, IsSet, PatternGate}
+use Rattle.candidate_source.specs.declared.source.Source.{Source}
+use Rattle.candidate_source.specs.declared.sources.Sources.{Sources}
+use Rattle.candidate_source.specs.Doors.{source_gate}
+use Rattle.candidate_source.specs.Sources.{is_lead, source_at}
+use Rattle.rete_net.specs.Schedules.{gate_told, timed_gate}
 use Rattle.not_node.specs.Waiting as waiting
-use Rattle.rete_net.proofs.Quieting.{node_quieter}
 use Rattle.rete_net.proofs.Walking.{equal_or_not}
 use Rattle.fx_base.proofs.Orders.{int_lt-le as at_floor}
 use Rattle.fx_base.proofs.Sequences.{get-set_other, get-set_same, one_value}
+
+pub if_some : {A : Type 0} {P Q : A → Type 0} (o : Option A) → ((x : A) → P x → Q x) → IfSome o P → IfSome o Q
+if_some None weaker is = is
+if_some (Some x) weaker is = weaker x is
+
+-- ---- the gate of which the schedule tells
+
+pub told_own : (sources : Sources) (k : ℕ) (n : NetNode) (P : PatternGate → Type 0) → source_at sources k ≡ None → P n.gate → IfSome (gate_told sources k n) P
+told_own sources k n P none is = subst (λ (o : Option Source). IfSome (timed_gate o (is_lead sources k) n) P) (sym none) is
+
+pub told_lead : (sources : Sources) (k : ℕ) (n : NetNode) (P : PatternGate → Type 0) (s : Source) → source_at sources k ≡ Some s → is_lead sources k ≡ true → P (source_gate s) → IfSome (gate_told sources k n) P
+told_lead sources k n P s of leads is =
+    subst (λ (o : Option Source). IfSome (timed_gate o (is_lead sources k) n) P) (sym of) (subst (λ (leads : Bool). IfSome (timed_gate (Some s) leads n) P) (sym leads) is)
+
+pub told_none : (sources : Sources) (k : ℕ) (n : NetNode) (P : PatternGate → Type 0) (s : Source) → source_at sources k ≡ Some s → is_lead sources k ≡ false → IfSome (gate_told sources k n) P
+told_none sources k n P s of follows = subst (λ (o : Option Source). IfSome (timed_gate o (is_lead sources k) n) P) (sym of) (subst (λ (leads : Bool). IfSome (timed_gate (Some s) leads n) P) (sym follows) tt)
+
+-- a node is quiet until an earlier moment too
+pub quiet_sooner : (p : Program) (n : Node) (until sooner : Option ℤ) → ((clock : ℤ) → IsBefore sooner clock → IsBefore until clock) → IsQuiet p n until → IsQuiet p n sooner
+quiet_sooner p n until sooner weaker quiet look s rows forgotten clock distinct at_hand named stands begun later low before = quiet look s rows forgotten clock distinct at_hand named stands begun later low (weaker clock before)
 
 -- ---- one node of others
 
@@ -25,14 +49,15 @@ kept_beside floors place k was is at same kept line timers e = elim (equal_or_no
 ]
 
 -- so the node stands under its moments still
-pub scheduled_still : (p : Program) (old new : Schedule) (k : ℕ) (n : NetNode) → ((until : Option ℤ) → IsSet old.clock k until → IsSet new.clock k until)
-    → ((line : ℕ) (timers : EntryTimers) → slice_get old.floors.items line ≡ Some timers → IsKept new.floors.items k timers) → IsScheduled p old k n → IsScheduled p new k n
-scheduled_still p old new k n clock lines was =
+pub scheduled_still : (p : Program) (sources : Sources) (old new : Schedule) (k : ℕ) (n : NetNode) → ((until : Option ℤ) → IsSet old.clock k until → IsSet new.clock k until)
+    → ((line : ℕ) (timers : EntryTimers) → slice_get old.floors.items line ≡ Some timers → IsKept new.floors.items k timers) → IsScheduled p sources old k n → IsScheduled p sources new k n
+scheduled_still p sources old new k n clock lines was =
     let line = lines was.line was.timers was.found in
     record {
       until = was.until;
       set = clock was.until was.set;
       quiet = was.quiet;
+      lent = was.lent;
       gate = was.gate;
       line = line.0;
       timers = line.1;
@@ -46,13 +71,14 @@ scheduled_still p old new k n clock lines was =
 -- ---- all nodes
 
 -- where one node is another now, and stands under its moments, all do
-pub scheduled_more : (p : Program) (nodes : List NetNode) (place : ℕ) (n new : NetNode) (was is : Schedule) → slice_get nodes place ≡ Some n → (is_changed_by_clock new ≡ true → IsScheduled p is place new)
-    → ((p : Program) (k : ℕ) (m : NetNode) → (k ≡ place → ⊥) → IsScheduled p was k m → IsScheduled p is k m) → AreScheduled p nodes was → AreScheduled p (set nodes place new) is
-scheduled_more p nodes place n new was is at here others all k m e timed = elim (equal_or_not k place) [
+pub scheduled_more : (p : Program) (sources : Sources) (nodes : List NetNode) (place : ℕ) (n new : NetNode) (was is : Schedule) → slice_get nodes place ≡ Some n
+    → (is_changed_by_clock new ≡ true → IsScheduled p sources is place new)
+    → ((p : Program) (of : Sources) (k : ℕ) (m : NetNode) → (k ≡ place → ⊥) → IsScheduled p of was k m → IsScheduled p of is k m) → AreScheduled p sources nodes was → AreScheduled p sources (set nodes place new) is
+scheduled_more p sources nodes place n new was is at here others all k m e timed = elim (equal_or_not k place) [
   | inl same ↦
       let there : new ≡ m = one_value (slice_get (set nodes place new) place) new m (get-set_same nodes place new n at) (ap (slice_get (set nodes place new)) (sym same) ∙ e) in
-      subst (λ (i : ℕ). IsScheduled p is i m) (sym same) (subst (IsScheduled p is place) there (here (subst (λ (x : NetNode). is_changed_by_clock x ≡ true) (sym there) timed)))
-  | inr other ↦ others p k m other (all k m (sym (get-set_other nodes place k new other) ∙ e) timed)
+      subst (λ (i : ℕ). IsScheduled p sources is i m) (sym same) (subst (IsScheduled p sources is place) there (here (subst (λ (x : NetNode). is_changed_by_clock x ≡ true) (sym there) timed)))
+  | inr other ↦ others p sources k m other (all k m (sym (get-set_other nodes place k new other) ∙ e) timed)
 ]
 
 -- ---- one node at a moment
@@ -62,17 +88,12 @@ before_next None clock h = tt
 before_next (Some at) clock h = omega (arith, ints, h)
 
 -- what no timer is due for stays as it is
-pub undue : (p : Program) (schedule : Schedule) (k : ℕ) (n : NetNode) (moment : Moment) (is : IsScheduled p schedule k n) → IsFrom (moment.clock +ℤ pos 1) is.until → IsFrom (floor p (snapshot_at moment) is.timers.entry.0) is.up_to
-    → IsUndue p n moment
-undue p schedule k n moment is clock at_floor = record {
-  gate = is.gate moment.clock (before_next is.until moment.clock clock);
-  node = is.still (floor p (snapshot_at moment) (entry_point_of n)) (subst (λ (entry : ℕ). IsFrom (floor p (snapshot_at moment) entry) is.up_to) is.entry at_floor);
+pub undue : (p : Program) (sources : Sources) (schedule : Schedule) (k : ℕ) (n : NetNode) (moment : Moment) (is : IsScheduled p sources schedule k n) → IsFrom (moment.clock +ℤ pos 1) is.until
+    → IsFrom (floor p (snapshot_at moment) is.timers.entry.0) is.up_to → IsUndue p sources k n moment
+undue p sources schedule k n moment is clock low = record {
+  gate = if_some (gate_told sources k n) (λ gate still. still moment.clock (before_next is.until moment.clock clock)) is.gate;
+  node = is.still (floor p (snapshot_at moment) (entry_point_of n)) (subst (λ (entry : ℕ). IsFrom (floor p (snapshot_at moment) entry) is.up_to) is.entry low);
 }
-
--- and it is quiet until the first timer
-pub quiet_first : (p : Program) (schedule : Schedule) (k : ℕ) (n : NetNode) (first : Option ℤ) → ((until : Option ℤ) (clock : ℤ) → IsSet schedule.clock k until → IsBefore first clock → IsBefore until clock) → IsScheduled p schedule k n
-    → IsNodeQuiet p n first
-quiet_first p schedule k n first least is = node_quieter p n is.until first (λ clock before. least is.until clock is.set before) is.quiet
 
 -- ---- a `not`
 

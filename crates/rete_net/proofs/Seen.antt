@@ -3,6 +3,7 @@ use Rattle.rete_net.proofs.Common.{◌≡◌, ◌∙◌, sym, ap, refl, subst, �
 use Rattle.rete_net.proofs.Common.{slice_get, SFits, w64, ≤ℤ_refl, ints, slice_get_within, Fact, Named, Row, has, Condition, Program, Rule, rows, Snapshot}
 use Rattle.rete_net.proofs.Common.{floor, Look, cleaned, no_names, HasAllOf, rows_of, IsRunnable, IsOrderly, MovesSnapshot, at_clock, condition_of, IsBefore}
 use Rattle.rete_net.proofs.Common.{AreFans, shown_nodes, RuleChange, Rete, NetNode, AreNotNeeded, IsIndexOf, AreNodeOwners, HaveSameFronts, NodesStand}
+use Rattle.rete_net.proofs.Common.{AreSources}
 use Rattle.rete_net.proofs.Common.{NetStands, clean_rows, AreBetween, AreQuiet, no_change, NetStep, AreScheduled, before, IsRuleFront, Moment, IsAt, floor_on}
 use Rattle.condition_rows.specs.Sets.{held}
 use Rattle.rete_net.proofs.Advancing.{rows_made, same_first, first_stays, stands_now, between_now}
@@ -10,6 +11,7 @@ use Rattle.rete_net.proofs.Answering.{few_ends}
 use Rattle.rete_net.proofs.Beside.{both_held, both_known, both_known_now, stays_beside}
 use Rattle.rete_net.proofs.Chaining.{AreMade, IsGiven, AreStanding, StaysBeside}
 use Rattle.rete_net.proofs.Cleaning.{has_clean}
+use Rattle.candidate_source.specs.Sources.{source_at}
 use Rattle.rete_net.proofs.Quieting.{seen_now}
 use Rattle.rete_net.proofs.Turning.{rising}
 use Rattle.fx_base.proofs.Orders.{≤ℤ_trans}
@@ -37,7 +39,7 @@ rule_rows p net at s other forgotten nodes same place rule e =
 module _ (p : Program) (look : Look) (s next : Snapshot) (gone : List Fact) (come : Option Fact) (moment : Moment) (forgotten : Named → Bool) (old new : Rete) (answers : List RuleChange)
     (moves : MovesSnapshot p s next gone come) (is_at : IsAt next moment) (apart : AreNotNeeded p forgotten s next gone come) (has_before : HasAllOf look s forgotten) (has_now : HasAllOf look next forgotten)
     (stands : NetStands p old s forgotten) (same : new.ends.items ≡ old.ends.items)
-    (step : NetStep p look gone come moment no_change (shown_nodes old) (shown_nodes new) old.ends.items answers) where
+    (step : NetStep p look gone come moment no_change (source_at old.sources) (source_at new.sources) (shown_nodes old) (shown_nodes new) old.ends.items answers) where
   abbrev was : Snapshot
   was = at_clock s stands.seen
 
@@ -73,7 +75,7 @@ module _ (p : Program) (look : Look) (s next : Snapshot) (gone : List Fact) (com
   made_now : AreMade p next (rows_of p next)
   made_now = rows_made p next (rising next.facts moves.after.in_order)
 
-  standing : AreStanding p was (rows_of p was) forgotten (shown_nodes old) stands.nodes.shape.conditions
+  standing : AreStanding p was (rows_of p was) forgotten (source_at old.sources) (shown_nodes old) stands.nodes.shape.conditions
   standing = record { shaped = stands.nodes.shape.shaped; windows = stands.nodes.shape.windows; stand = stands.nodes.nodes }
 
   same_before : (k : ℕ) (n : NetNode) → slice_get (shown_nodes old) k ≡ Some n → (parent : Option ℕ) → n.parent ≡ parent
@@ -95,12 +97,13 @@ module _ (p : Program) (look : Look) (s next : Snapshot) (gone : List Fact) (com
   listed : (place : ℕ) (rule : Rule) → slice_get p.rules place ≡ Some rule → cleaned (rows_of p was rule.conditions) forgotten ≡ has (clean_rows p s forgotten rule)
   listed place rule e = sym (rule_rows p old was s was forgotten stands.nodes stands.unchanged place rule e) ∙ sym (has_clean (rows p s rule.conditions) forgotten)
 
-  pub net_stands : AreQuiet p (shown_nodes new) new.quiet_until → IsIndexOf (shown_nodes new) new.ends.items new.index → AreScheduled p new.nodes.items new.schedule → AreFans new.nodes.items new.fans
+  pub net_stands : AreQuiet p new.sources (shown_nodes new) new.quiet_until → IsIndexOf new.sources (shown_nodes new) new.ends.items new.index → AreScheduled p new.sources new.nodes.items new.schedule → AreFans new.nodes.items new.fans
+      → AreSources new.nodes.items new.fans new.sources
       → AreNodeOwners p stands.nodes.shape.conditions (length (shown_nodes new)) new.owners.items → NetStands p new next forgotten
-  net_stands quiet indexed scheduled fans owned =
+  net_stands quiet indexed scheduled fans sources owned =
       seen_now p new next forgotten
       (stands_now p look was next gone come moment forgotten no_change (rows_of p was) (clean_rows p s forgotten) old new stands.nodes.shape answers from_seen made (first_stays p was next forgotten) standing beside
-      same step listed indexed scheduled fans owned)
+      same step listed indexed scheduled fans sources owned)
       moves.after (≤ℤ_trans (pos 0) stands.seen next.clock stands.begun from_seen.moves.clock) quiet
 
   pub net_between : IsRunnable p → AreBetween p (clean_rows p s forgotten) (clean_rows p next forgotten) answers

@@ -4,7 +4,8 @@ use Rattle.rete_net.proofs.Common.{[], ◌∷◌, ◌++◌, length, length-appen
 use Rattle.rete_net.proofs.Common.{get_or-append_seam, nat_tests, get_or_append_left, take_all, slice_get_within, In, Fact, Delta, Extra, Row, has, are_none}
 use Rattle.rete_net.proofs.Common.{changes_nothing, Condition, Moment, Program, Rule, Snapshot, Look, IsFirstWith, Answered, Owner, RuleChange, NetNode}
 use Rattle.rete_net.proofs.Common.{answer_in, AreRuled, coming, AreLadenRows, IsLoadable, IsThere, AreLoaded, IsStuck, change_of, IsOwned, IsNetOf, IsFresh}
-use Rattle.rete_net.proofs.Common.{changes_from, delta_at, empty_row_comes, no_change}
+use Rattle.rete_net.proofs.Common.{changes_from, delta_at, empty_row_comes, no_change, taking}
+use Rattle.candidate_source.specs.declared.source.Source.{Source}
 use Rattle.std.proofs.lemmas.Bool.{and_parts}
 use Rattle.std.specs.Prelude.{map}
 use Rattle.laden_rows.specs.Laden.{AreOwners}
@@ -48,8 +49,8 @@ some_is d e false is = let same : d ≡ e = cc in same
 
 module _ (p : Program) (look : Look) (t : Snapshot) (kept : List Fact) (extras : List Extra) (moment : Moment) (can : IsLoadable p t kept extras moment look) (owners : ℕ → ℕ → ℕ) (own : AreOwners p owners)
     (nodes : List NetNode) (ends : List ℕ) (net : IsNetOf p nodes ends) (held_by : List Owner) (owned : HaveOwners p net.conditions (length nodes) held_by)
-    (fresh : (k : ℕ) (n : NetNode) → slice_get nodes k ≡ Some n → IsFresh p n) where
-  module _ (now : List NetNode) (a : Answered Delta) (loaded : AreLoaded p look kept extras moment empty_row_comes nodes now held_by ends a (length nodes)) (changes : List RuleChange)
+    (was_of : ℕ → Option Source) (fresh : (k : ℕ) (n : NetNode) → slice_get nodes k ≡ Some n → IsFresh p (taking (was_of k) n)) where
+  module _ (is_of : ℕ → Option Source) (now : List NetNode) (a : Answered Delta) (loaded : AreLoaded p look kept extras moment empty_row_comes was_of is_of nodes now held_by ends a (length nodes)) (changes : List RuleChange)
       (are : length ends < 2 ^ 16 → (first : Delta) (deltas : List Delta) → a.none ≡ no_change → AreRuled a ends → ((rule end : ℕ) → slice_get ends rule ≡ Some end → delta_at first deltas end ≡ answer_in a end)
       → changes ≡ changes_from first deltas 0 ends) where
     abbrev deltas : List Delta
@@ -101,18 +102,18 @@ module _ (p : Program) (look : Look) (t : Snapshot) (kept : List Fact) (extras :
           let end = end_of place delta e in
           let is = some_is (answer_in a end.0) delta (changes_nothing (answer_in a end.0)) (sym (change_is place end.0 end.1) ∙ e) in
           ap (λ (d : Delta). d.gone) (sym is)
-          ∙ none_gone p look t kept extras moment can owners own nodes ends net held_by owned fresh now a (length nodes) (omega arith) loaded end.0 (last_within place end.0 end.1);
+          ∙ none_gone p look t kept extras moment can owners own nodes ends net held_by owned was_of fresh is_of now a (length nodes) (omega arith) loaded end.0 (last_within place end.0 end.1);
       rows = λ place rule e row.
           let last = net.lasts place rule e in
           ap (λ (o : Option Delta). has (coming o) row) (change_is place last.last last.found)
           ∙ come_is (answer_in a last.last) row
-          ∙ answered p look t kept extras moment can owners own nodes ends net held_by owned fresh now a (length nodes) (omega arith) loaded last.last (slice_get_within nodes last.last last.node last.there)
+          ∙ answered p look t kept extras moment can owners own nodes ends net held_by owned was_of fresh is_of now a (length nodes) (omega arith) loaded last.last (slice_get_within nodes last.last last.node last.there)
           place (length rule.conditions) rule e (omega arith) (last.all ∙ sym (take_all (length rule.conditions) rule.conditions (omega arith))) row;
     }
 
   -- ---- the rows of extras
 
-  module _ (now : List NetNode) (a : Answered Delta) (loaded : AreLoaded p look kept extras moment empty_row_comes nodes now held_by ends a (length nodes)) where
+  module _ (is_of : ℕ → Option Source) (now : List NetNode) (a : Answered Delta) (loaded : AreLoaded p look kept extras moment empty_row_comes was_of is_of nodes now held_by ends a (length nodes)) where
     not_begun : (n : ℕ) (cs : List Condition) → n < length cs → take (suc n) cs ≡ [] → ⊥
     not_begun n [] lt e = absurd (omega (arith, lt))
     not_begun n (c ∷ cs) lt e = absurd (let torn : c ∷ take n cs ≡ [] = e in cc)
@@ -139,20 +140,20 @@ module _ (p : Program) (look : Look) (t : Snapshot) (kept : List Fact) (extras :
         one_first p (suc e.condition) theirs.rule.conditions placed.rule.conditions o.0.rule.0 e.rule.0
         (subst (λ k. IsFirstWith p (suc k) theirs.rule.conditions o.0.rule.0) at theirs.first) placed.first
         (ap (λ k. take (suc k) theirs.rule.conditions) (sym at) ∙ sym theirs.own ∙ ap (λ (r : Rule). take (suc e.condition) r.conditions) (sym same)) in
-        let sorted = in_order p look t kept extras moment can owners own nodes ends net held_by owned fresh now a (length nodes) (omega arith) loaded node.0 n.0 n.1 (omega (arith, lt)) in
-        let two = parts p look t kept extras moment can owners own nodes ends net held_by owned fresh now a (length nodes) (omega arith) loaded node.0 n.0 n.1 e.rule.0 e.condition rule stands (omega (arith, low)) is in
-        sym (come_to p look t kept extras moment can owners own nodes ends net held_by owned fresh now a (length nodes) (omega arith) loaded node.0 n.0 n.1 (omega (arith, lt))
+        let sorted = in_order p look t kept extras moment can owners own nodes ends net held_by owned was_of fresh is_of now a (length nodes) (omega arith) loaded node.0 n.0 n.1 (omega (arith, lt)) in
+        let two = parts p look t kept extras moment can owners own nodes ends net held_by owned was_of fresh is_of now a (length nodes) (omega arith) loaded node.0 n.0 n.1 e.rule.0 e.condition rule stands (omega (arith, low)) is in
+        sym (come_to p look t kept extras moment can owners own nodes ends net held_by owned was_of fresh is_of now a (length nodes) (omega arith) loaded node.0 n.0 n.1 (omega (arith, lt))
         e.rule.0 e.condition rule stands (omega (arith, low)) two.0 e.row)
         ∙ loaded.there node.0 lt n.0 o.0 n.1 o.1 sorted e i (are_same e.rule.0 o.0.rule.0 e.condition o.0.condition (sym of) (sym at))
 
   -- where a node cannot be loaded the row of an extra is not there
-  pub extra_missing : IsStuck p look kept extras moment empty_row_comes nodes held_by ends → (e : Extra) × In e extras × IsThere p t extras owners e false
+  pub extra_missing : IsStuck p look kept extras moment empty_row_comes was_of nodes held_by ends → (e : Extra) × In e extras × IsThere p t extras owners e false
   extra_missing stuck =
       let k = stuck.place in
       let inside : k < length nodes = slice_get_within nodes k stuck.node stuck.there in
       let count = owned.count in
       let o = get-below held_by k (omega (arith, count, inside)) in
-      let sorted = in_order p look t kept extras moment can owners own nodes ends net held_by owned fresh stuck.now stuck.answered k (omega (arith, inside)) stuck.loaded k stuck.node stuck.there (omega arith) in
+      let sorted = in_order p look t kept extras moment can owners own nodes ends net held_by owned was_of fresh stuck.is stuck.now stuck.answered k (omega (arith, inside)) stuck.loaded k stuck.node stuck.there (omega arith) in
       let it = stuck.missing o.0 o.1 sorted in (
         it.0,
         it.1,
@@ -165,9 +166,9 @@ module _ (p : Program) (look : Look) (t : Snapshot) (kept : List Fact) (extras :
             let same : theirs.rule ≡ rule = one_value (slice_get p.rules o.0.rule.0) theirs.rule rule theirs.stands (ap (slice_get p.rules) (sym of) ∙ stands) in
             let low : o.0.condition < length rule.conditions = subst (λ (r : Rule). o.0.condition < length r.conditions) same theirs.within in
             let is : net.conditions k ≡ take (suc e.condition) rule.conditions = theirs.own ∙ ap (λ (r : Rule). take (suc o.0.condition) r.conditions) same ∙ ap (λ i. take (suc i) rule.conditions) (sym at) in
-            let front = parts p look t kept extras moment can owners own nodes ends net held_by owned fresh stuck.now stuck.answered k (omega (arith, inside)) stuck.loaded k stuck.node stuck.there
+            let front = parts p look t kept extras moment can owners own nodes ends net held_by owned was_of fresh stuck.is stuck.now stuck.answered k (omega (arith, inside)) stuck.loaded k stuck.node stuck.there
             e.rule.0 e.condition rule stands (omega (arith, low, at)) is in
-            sym (come_to p look t kept extras moment can owners own nodes ends net held_by owned fresh stuck.now stuck.answered k (omega (arith, inside)) stuck.loaded k stuck.node stuck.there (omega arith)
+            sym (come_to p look t kept extras moment can owners own nodes ends net held_by owned was_of fresh stuck.is stuck.now stuck.answered k (omega (arith, inside)) stuck.loaded k stuck.node stuck.there (omega arith)
             e.rule.0 e.condition rule stands (omega (arith, low, at)) front.0 e.row)
             ∙ it.3,
       )

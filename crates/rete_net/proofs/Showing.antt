@@ -3,9 +3,9 @@ use Rattle.rete_net.proofs.Common.{◌≡◌, ◌∙◌, sym, ap, refl, subst, �
 use Rattle.rete_net.proofs.Common.{Some, None, slice_get, ≤ℤ_refl, filter, Fact, Delta, Moment, Program, Condition, snapshot_at, pattern_of, is_whole, Snapshot}
 use Rattle.rete_net.proofs.Common.{floor, floor_on, held, IsOrderly, MovesSnapshot, at_clock, shares_tag, PatternGate, is_one_meant, BetaJoin, Node}
 use Rattle.rete_net.proofs.Common.{condition_of, is_negated, IsBefore, join_quiet, NetNode, Schedule, Member, shown, showing, with_member, is_changed_by_clock}
-use Rattle.rete_net.proofs.Common.{AreQuiet, IsNodeQuiet, AreScheduled, IsGateStill, IsLeftAlone, IsScheduled, IsStillAt, IsReplaced, joined_pattern}
+use Rattle.rete_net.proofs.Common.{AreQuiet, IsNodeQuiet, AreScheduled, IsGateStill, IsScheduled, IsStillAt, IsReplaced, joined_pattern}
 use Rattle.condition_node.specs.declared.node.Node.TheVariants as node
-use Rattle.rete_net.proofs.Quieting.{untimed_quiet}
+use Rattle.rete_net.proofs.Lone.{IsAlone}
 use Rattle.rete_net.proofs.Turning.{held_has, rising}
 use Rattle.fx_base.proofs.Sequences.{one_value}
 
@@ -101,13 +101,11 @@ still_with m (node.Exists tally) at still = tt
 still_with m (node.Fold fold) at still = tt
 
 -- what a step leaves alone it does as a member too
-pub alone_shown : (p : Program) (o : Option Member) (n : NetNode) (first : Delta) (gone : List Fact) (come : Option Fact) (moment : Moment) → IsLeftAlone p n first gone come moment → IsLeftAlone p (showing o n) first gone come moment
+pub alone_shown : (p : Program) (o : Option Member) (n : NetNode) (first : Delta) (gone : List Fact) (come : Option Fact) (moment : Moment) → IsAlone p n first gone come moment → IsAlone p (showing o n) first gone come moment
 alone_shown p None n first gone come moment alone = alone
 alone_shown p (Some m) n first gone come moment alone = record {
-  unreached = record {
-    unmeant = subst (λ (c : Condition). is_one_meant (pattern_of c) gone come ≡ false) (sym same) alone.unreached.unmeant;
-    begun = alone.unreached.begun;
-  };
+  unmeant = subst (λ (c : Condition). is_one_meant (pattern_of c) gone come ≡ false) (sym same) alone.unmeant;
+  begun = alone.begun;
   undue = λ timed.
       let was = alone.undue (sym (ap timed_by same) ∙ timed) in
       record {
@@ -119,62 +117,7 @@ alone_shown p (Some m) n first gone come moment alone = record {
     same : condition_of (with_member m n.node) ≡ condition_of n.node
     same = condition_with m n.node
 
--- where the clock alone moves, nothing goes
-none_go : (facts : List Fact) → facts ≡ filter (λ (f : Fact). not (shares_tag [] f)) facts ++ []
-none_go [] = refl
-none_go (f ∷ facts) = ap (λ (rest : List Fact). f ∷ rest) (none_go facts)
-
-clock_moves : (p : Program) (s : Snapshot) (clock : ℤ) → IsOrderly p s → IsOrderly p (at_clock s clock) → s.clock ≤ℤ clock → MovesSnapshot p s (at_clock s clock) [] None
-clock_moves p s clock before after later = record {
-  before = before;
-  after = after;
-  clock = later;
-  floors = λ entry. floor_on p s (at_clock s clock) entry later (≤ℤ_refl (s.reached.last_start entry)) (≤ℤ_refl (s.reached.promise entry));
-  held = λ f i. absurd i;
-  once = tt;
-  facts = none_go s.facts;
-}
-
--- a node that binds a fact is quiet as long as its gate is, whatever it keeps
-join_still_quiet : (p : Program) (parent : Option ℕ) (gate : PatternGate) (join : BetaJoin) (until : Option ℤ) → ((clock : ℤ) → IsBefore until clock → IsGateStill gate clock)
-    → IsNodeQuiet p (record { parent = parent; gate = gate; node = node.Join join }) until
-join_still_quiet p parent gate join until still s rows forgotten clock stands named kept kept_now begun later low before =
-    let same = (still clock before).candidates p (joined_pattern join) s (at_clock s clock) [] None refl stands.gate (clock_moves p s clock kept kept_now later) refl in
-    record {
-      same_candidates = same;
-      same_line = join_quiet p join until (held s) s rows forgotten clock (rising s.facts kept.in_order) (held_has s forgotten) named stands.node begun later low before same;
-    }
-
-quiet_with : (p : Program) (m : Member) (parent : Option ℕ) (gate : PatternGate) (x : Node) (until : Option ℤ) → ((clock : ℤ) → IsBefore until clock → IsGateStill gate clock)
-    → IsNodeQuiet p (record { parent = parent; gate = gate; node = x }) until → IsNodeQuiet p (record { parent = parent; gate = gate; node = with_member m x }) until
-quiet_with p m parent gate (node.Join join) until still quiet = join_still_quiet p parent gate _ until still
-quiet_with p m parent gate (node.Not waiting) until still quiet = quiet
-quiet_with p m parent gate (node.Exists tally) until still quiet = quiet
-quiet_with p m parent gate (node.Fold fold) until still quiet = quiet
-
-pub scheduled_shown : (p : Program) (o : Option Member) (schedule : Schedule) (k : ℕ) (n : NetNode) → IsScheduled p schedule k n → IsScheduled p schedule k (showing o n)
-scheduled_shown p None schedule k n is = is
-scheduled_shown p (Some m) schedule k n is = record {
-  until = is.until;
-  set = is.set;
-  quiet = quiet_with p m n.parent n.gate n.node is.until is.gate is.quiet;
-  gate = is.gate;
-  line = is.line;
-  timers = is.timers;
-  found = is.found;
-  entry = is.entry ∙ ap (λ (c : Condition). (pattern_of c).entry.0) (sym (condition_with m n.node));
-  up_to = is.up_to;
-  waits = is.waits;
-  still = λ at low. still_with m n.node at (is.still at low);
-}
-
--- until the least moment of the schedule all nodes are quiet, whatever they keep as members
-pub shown_quiet : (p : Program) (members : ℕ → Option Member) (nodes : List NetNode) (schedule : Schedule) (first : Option ℤ) → AreScheduled p nodes schedule
-    → ((k : ℕ) (n : NetNode) → IsScheduled p schedule k n → IsNodeQuiet p n first) → AreQuiet p (shown members nodes) first
-shown_quiet p members nodes schedule first scheduled told k x e =
-    let n = shown_from members nodes k x e in
-    subst (λ y. IsNodeQuiet p y first) n.2 (by n.0 n.1 (is_changed_by_clock n.0) refl)
-  where
-    by : (n : NetNode) → slice_get nodes k ≡ Some n → (t : Bool) → is_changed_by_clock n ≡ t → IsNodeQuiet p (showing (members k) n) first
-    by n there true timed = told k (showing (members k) n) (scheduled_shown p (members k) schedule k n (scheduled k n there timed))
-    by n there false untimed = untimed_quiet p (showing (members k) n) first (ap timed_by (condition_shown (members k) n) ∙ untimed)
+-- what no row waits for it does not as a member either
+pub still_shown : (o : Option Member) (n : NetNode) (at : ℤ) → IsStillAt n.node at → IsStillAt (showing o n).node at
+still_shown None n at still = still
+still_shown (Some m) n at still = still_with m n.node at still

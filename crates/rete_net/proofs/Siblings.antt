@@ -180,7 +180,7 @@ half_of_none look gone come None half is = refl
 half_of_none look gone come (Some was) half is = absurd is
 
 -- a difference without a row is nothing
-nothing_is : (d : Delta) → changes_nothing d ≡ true → d ≡ no_change
+pub nothing_is : (d : Delta) → changes_nothing d ≡ true → d ≡ no_change
 nothing_is d h = by d.gone d.come h
   where
     by : (gone come : List Row) → changes_nothing (record { gone = gone; come = come }) ≡ true → record { gone = gone; come = come } ≡ no_change

@@ -7,6 +7,10 @@ use Rattle.rete_net.proofs.Common.{unvalued, rows_of, empty_row, line, gives, em
 use Rattle.rete_net.proofs.Common.{AreFans, shown_nodes, RuleChange, Rete, NetNode, IsIndexOf, NodesStand, NetStands, AreBetween, CountsNone, AreNodeOwners}
 use Rattle.rete_net.proofs.Common.{AreOwnedSoFar, AreQuiet, AreScheduled, before, EndsRule, IsRuleFront, IsNetOf, StandOnce, empty_row_comes, NetStep}
 use Rattle.rete_net.proofs.Common.{IsParentNode, AreBuilt, HaveEnds, AreFronts, AreDistinctFronts, IsAt, Moment}
+use Rattle.rete_net.proofs.Common.{AreSources, member_at}
+use Rattle.candidate_source.specs.declared.source.Source.{Source}
+use Rattle.candidate_source.specs.Doors.{source_pattern}
+use Rattle.candidate_source.specs.Sources.{source_at, IsNewSource}
 use Rattle.std.proofs.lemmas.Bool.{and_parts}
 use Rattle.std.specs.List.Sorted.{IsStrictlySortedBy}
 use Rattle.pair_memory.specs.Joined.{joined}
@@ -17,6 +21,7 @@ use Rattle.rete_net.proofs.Answering.{few_ends}
 use Rattle.rete_net.proofs.Beside.{stay_of}
 use Rattle.rete_net.proofs.Chaining.{AreMade, IsGiven, AreStanding, StaysBeside}
 use Rattle.rete_net.proofs.Cleaning.{all_clean}
+use Rattle.rete_net.proofs.Fresh.{fresh_standing, no_candidate}
 use Rattle.rete_net.proofs.Quieting.{seen_now}
 use Rattle.fx_base.proofs.Sequences.{get-below}
 
@@ -85,10 +90,6 @@ first_comes p forgotten = record {
 
 -- ---- of no facts none is counted
 
-no_candidate : (p : Program) (q : Pattern) (who : Named) → candidates_of p q empty_snapshot who ≡ false
-unfolding candidates_of held
-no_candidate p q who = refl
-
 counts_none : (p : Program) (forgotten : Named → Bool) (c : Condition) (row : Row) → CountsNone c p empty_snapshot forgotten row
 counts_none p forgotten (Plain q) row = tt
 counts_none p forgotten (Negated q) row = λ who e. ap (λ b. b && joins q (held empty_snapshot) row who) (no_candidate p q who)
@@ -107,7 +108,8 @@ beside p forgotten c behind = record {
 -- ---- what was built
 
 module _ (p : Program) (net : Rete) (all : List (List Condition)) (built : AreBuilt p (shown_nodes net) all)
-    (ends : HaveEnds all net.ends.items p.rules (length p.rules)) (fronts_are : AreFronts p all) (distinct : AreDistinctFronts all) (count : length net.ends.items ≡ length p.rules) where
+    (ends : HaveEnds all net.ends.items p.rules (length p.rules)) (fronts_are : AreFronts p all) (distinct : AreDistinctFronts all) (count : length net.ends.items ≡ length p.rules)
+    (are : AreSources net.nodes.items net.fans net.sources) (new_sources : (k : ℕ) (s : Source) → source_at net.sources k ≡ Some s → IsNewSource (source_pattern s) s) where
   abbrev conditions : ℕ → List Condition
   conditions k = get_or all k []
 
@@ -130,8 +132,12 @@ module _ (p : Program) (net : Rete) (all : List (List Condition)) (built : AreBu
       let is = built.behind k n e in
       get_or_from_slice_get all k (is.before ++ condition_of n.node ∷ []) [] is.own ∙ ap (λ (cs : List Condition). cs ++ condition_of n.node ∷ []) (sym (before_is k is.before n.parent is.parent))
 
-  standing : (forgotten : Named → Bool) → AreStanding p empty_snapshot nothing forgotten (shown_nodes net) conditions
-  standing forgotten = record { shaped = record { parents = earlier; own = own }; windows = built.windows; stand = λ k n e. built.fresh k n e forgotten }
+  standing : (forgotten : Named → Bool) → AreStanding p empty_snapshot nothing forgotten (source_at net.sources) (shown_nodes net) conditions
+  standing forgotten = record {
+    shaped = record { parents = earlier; own = own };
+    windows = built.windows;
+    stand = fresh_standing p (member_at net.fans) net.nodes.items net.fans net.sources are new_sources built.fresh forgotten;
+  }
 
   end_at : (place : ℕ) (rule : Rule) → slice_get p.rules place ≡ Some rule → EndsRule (shown_nodes net) conditions net.ends.items place rule
   end_at place rule e =
@@ -177,22 +183,24 @@ module _ (p : Program) (net : Rete) (all : List (List Condition)) (built : AreBu
   shape_owned rules so = built_owned rules so
 
   module _ (moment : Moment) (is_at : IsAt empty_snapshot moment) (new : Rete) (answers : List RuleChange) (same : new.ends.items ≡ net.ends.items)
-      (step : NetStep p no_facts [] None moment empty_row_comes (shown_nodes net) (shown_nodes new) net.ends.items answers) where
-    nodes_now : IsIndexOf (shown_nodes new) new.ends.items new.index → AreScheduled p new.nodes.items new.schedule → AreFans new.nodes.items new.fans
+      (step : NetStep p no_facts [] None moment empty_row_comes (source_at net.sources) (source_at new.sources) (shown_nodes net) (shown_nodes new) net.ends.items answers) where
+    nodes_now : IsIndexOf new.sources (shown_nodes new) new.ends.items new.index → AreScheduled p new.sources new.nodes.items new.schedule → AreFans new.nodes.items new.fans
+        → AreSources new.nodes.items new.fans new.sources
         → AreNodeOwners p conditions (length (shown_nodes new)) new.owners.items → (forgotten : Named → Bool) → NodesStand p new empty_snapshot forgotten
-    nodes_now indexed scheduled fans owned forgotten =
+    nodes_now indexed scheduled fans sources owned forgotten =
         stands_now p no_facts empty_snapshot empty_snapshot [] None moment forgotten empty_row_comes nothing (λ rule. []) net new shape answers (starts p moment is_at forgotten) (nothing_made p empty_snapshot) (first_comes p forgotten)
-        (standing forgotten) (λ k n e. beside p forgotten (condition_of n.node) (before conditions n.parent)) same step (λ place rule e. refl) indexed scheduled fans owned
+        (standing forgotten) (λ k n e. beside p forgotten (condition_of n.node) (before conditions n.parent)) same step (λ place rule e. refl) indexed scheduled fans sources owned
 
     pub built_net : IsNetOf p (shown_nodes new) new.ends.items
     built_net =
         shape_now p no_facts empty_snapshot empty_snapshot [] None moment no_names empty_row_comes nothing (λ rule. []) net new shape answers (starts p moment is_at no_names) (nothing_made p empty_snapshot) (first_comes p no_names)
         (standing no_names) (λ k n e. beside p no_names (condition_of n.node) (before conditions n.parent)) same step (λ place rule e. refl)
 
-    pub built_stands : AreQuiet p (shown_nodes new) new.quiet_until → IsIndexOf (shown_nodes new) new.ends.items new.index → AreScheduled p new.nodes.items new.schedule → AreFans new.nodes.items new.fans
+    pub built_stands : AreQuiet p new.sources (shown_nodes new) new.quiet_until → IsIndexOf new.sources (shown_nodes new) new.ends.items new.index → AreScheduled p new.sources new.nodes.items new.schedule → AreFans new.nodes.items new.fans
+        → AreSources new.nodes.items new.fans new.sources
         → AreNodeOwners p conditions (length (shown_nodes new)) new.owners.items → (forgotten : Named → Bool) → NetStands p new empty_snapshot forgotten
-    built_stands quiet indexed scheduled fans owned forgotten =
-        seen_now p new empty_snapshot forgotten (nodes_now indexed scheduled fans owned forgotten) (kept p) (≤ℤ_refl (pos 0)) quiet
+    built_stands quiet indexed scheduled fans sources owned forgotten =
+        seen_now p new empty_snapshot forgotten (nodes_now indexed scheduled fans sources owned forgotten) (kept p) (≤ℤ_refl (pos 0)) quiet
 
     pub built_between : IsRunnable p → AreBetween p (λ rule. []) (λ rule. rows p empty_snapshot rule.conditions) answers
     built_between runnable =

@@ -81,7 +81,7 @@ module _ (p : Program) (look : Look) (gone : List Fact) (come : Option Fact) (mo
 
   module _ (s next : Snapshot) (rows rows_now : Row → Bool) (forgotten : Named → Bool) (is : IsNodeTurn p look s next gone come (condition_of old.node) rows rows_now forgotten left)
       (names : IsNameDifference (candidates_of p meant s) (candidates_of p meant next) right) where
-    turn : IsConditionTurn p (condition_of old.node) look is.world s next rows rows_now forgotten left right
+    pub turn : IsConditionTurn p (condition_of old.node) look is.world s next rows rows_now forgotten left right
     turn = record {
       tags = rising s.facts is.moves.before.in_order;
       tags_now = rising next.facts is.moves.after.in_order;

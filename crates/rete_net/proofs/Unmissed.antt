@@ -22,6 +22,14 @@ use Rattle.window_gate.specs.declared.time_window.TimeWindow.{TimeWindow}
 use Rattle.condition_node.specs.declared.node.Node.TheVariants as node
 use Rattle.rete_net.proofs.Beside.{at_end}
 use Rattle.rete_net.proofs.Cleaning.{has_clean}
+use Rattle.rete_net.proofs.Lent.{lent_alike}
+use Rattle.rete_net.proofs.Stillness.{condition_taking}
+use Rattle.rete_net.proofs.Common.{Option, None, StandsIn, IsFound, taking}
+use Rattle.fx_base.specs.declared.value.Value.{Value}
+use Rattle.candidate_source.specs.declared.source.Source.{Source}
+use Rattle.candidate_source.specs.Doors.{is_reached, source_candidates}
+use Rattle.candidate_source.specs.Sources.{source_at}
+use Rattle.condition_node.specs.Lending.{with_candidates}
 use Rattle.rete_net.proofs.Fewer.{IsApart, Unobserved, of_other, of_binding, tag_of, unobserved_of, same_left, no_fit, candidates_apart, candidate_other}
 use Rattle.rete_net.proofs.Fewer.{held_still, less_known, candidates_less, remembered_same, joins_named, front_same}
 use Rattle.fx_base.proofs.Tests.{and_where}
@@ -143,6 +151,14 @@ module _ (p : Program) (s : Snapshot) (f : Fact) (forgotten : Named → Bool) (k
     moved : (n : Node) → NodeStands p n (held s) s rows forgotten → NodeStands p n (held less) s rows forgotten
     moved n stands = node_moves p (held s) (held less) s rows forgotten (held_known s forgotten) (less_known p s f forgotten d d_less there known) named n stands
 
+    -- rows before a node of a source find it still
+    found_less : (o : Option Source) (k : ℕ) (n : NetNode) → NodeStands p (taking o n).node (held s) s rows forgotten → IsFound o k n s rows forgotten → IsFound o k n less rows_less forgotten
+    found_less None k n stands found = tt
+    found_less (Some source) k n stands found = λ row e.
+        let there = ap (λ (set : Row → Bool). set row) (sym same) ∙ e in
+        subst (λ (value : Value). is_reached source value k ≡ true)
+        (lent_alike p s rows forgotten (source_candidates source) (held s) (held less) n.node stands (moved (with_candidates (source_candidates source) n.node) stands) row there) (found row there)
+
     node_less : (n : Node) → Unobserved f (condition_of n) → NodeStands p n (held s) s rows forgotten → NodeStands p n (held less) less rows_less forgotten
     unfolding floor
     node_less (node.Join join) u stands = stands_less (condition_of (node.Join join)) u join.memories (moved (node.Join join) stands)
@@ -215,14 +231,22 @@ module _ (p : Program) (net : Rete) (s : Snapshot) (forgotten : Named → Bool) 
         ∙ sym (stands.unchanged.same_candidates k n e (name_of f))
         ∙ unmissed.outside front.0 front.1 (condition_of n.node) in_rule span at
 
-    node_now : NetNodeStands p n (at_clock (snapshot_without s f) stands.seen) (rows_of p (at_clock (snapshot_without s f) stands.seen) (before stands.nodes.shape.conditions n.parent)) forgotten
+    node_now : StandsIn p (source_at net.sources k) k n (at_clock (snapshot_without s f) stands.seen) (rows_of p (at_clock (snapshot_without s f) stands.seen) (before stands.nodes.shape.conditions n.parent)) forgotten
     node_now =
         let behind = before stands.nodes.shape.conditions n.parent in
+        let now = rows_of p (at_clock (snapshot_without s f) stands.seen) behind in
         let at = stands.nodes.nodes k n e in
-        let u = unseen (condition_of n.node) in_rule in
+        let o = source_at net.sources k in
+        let x = taking o n in
+        let same = sym (condition_taking o n) in
+        let u = subst (Unobserved f) same (unseen (condition_of n.node) in_rule) in
+        let out = subst (λ (c : Condition). (span : ℤ) → (pattern_of c).window ≡ Time span → is_candidate p (pattern_of c) was f ≡ false) same outside in
         record {
-          gate = gate_less p was f forgotten stands.kept unmissed.there unmissed.known (condition_of n.node) u outside n.gate at.gate;
-          node = node_less p was f forgotten stands.kept unmissed.there unmissed.known (rows_of p was behind) (rows_of p (at_clock (snapshot_without s f) stands.seen) behind) (rows_named p was apart behind) rows_before n.node u at.node;
+          stands = record {
+            gate = gate_less p was f forgotten stands.kept unmissed.there unmissed.known (condition_of x.node) u out x.gate at.stands.gate;
+            node = node_less p was f forgotten stands.kept unmissed.there unmissed.known (rows_of p was behind) now (rows_named p was apart behind) rows_before x.node u at.stands.node;
+          };
+          found = found_less p was f forgotten stands.kept unmissed.there unmissed.known (rows_of p was behind) now (rows_named p was apart behind) rows_before o k n at.stands.node at.found;
         }
 
   abbrev nodes_less : NodesStand p net (at_clock (snapshot_without s f) stands.seen) forgotten
@@ -231,6 +255,7 @@ module _ (p : Program) (net : Rete) (s : Snapshot) (forgotten : Named → Bool) 
     indexed = stands.nodes.indexed;
     scheduled = stands.nodes.scheduled;
     fans = stands.nodes.fans;
+    sources = stands.nodes.sources;
     owned = stands.nodes.owned;
     nodes = node_now;
   }

@@ -20,7 +20,8 @@ use Rattle.rete_net.specs.declared.answered.Answered.{Answered}
 use Rattle.rete_net.specs.declared.index.Index.{Index}
 use Rattle.rete_net.specs.Answers.{given, some_answer, AreRuled}
 use Rattle.rete_net.specs.Indexes.{is_listed, type_of}
-use Rattle.rete_net.specs.Standing.{NetNodeStands}
+use Rattle.candidate_source.specs.declared.source.Source.{Source}
+use Rattle.rete_net.specs.Standing.{NetNodeStands, StandsIn}
 use Rattle.fan_join.specs.Reaching.{has_place}
 
 -- these rows, in order, are those of a set that name an old fact
@@ -48,6 +49,15 @@ pub record NodeForgets (p : Program) (look : Look) (old : Named → Bool) (befor
   pub drops : (s : Snapshot) (rows : Row → Bool) (forgotten : Named → Bool) → NetNodeStands p before s rows forgotten → IsForgetting look s rows forgotten old dropped
       → AreOld (cleaned (line p s (condition_of before.node) rows) forgotten) old gone
 
+-- so does the node in a place, whose source was this and is that
+pub record TurnForgets (p : Program) (look : Look) (old : Named → Bool) (was is : Option Source) (k : ℕ) (before after : NetNode) (dropped gone : List Row) : Type 0 where
+  pub parent : after.parent ≡ before.parent
+  pub condition : condition_of after.node ≡ condition_of before.node
+  pub stands : (s : Snapshot) (rows : Row → Bool) (forgotten : Named → Bool) → StandsIn p was k before s rows forgotten → IsForgetting look s rows forgotten old dropped
+      → StandsIn p is k after s rows (either forgotten old)
+  pub drops : (s : Snapshot) (rows : Row → Bool) (forgotten : Named → Bool) → StandsIn p was k before s rows forgotten → IsForgetting look s rows forgotten old dropped
+      → AreOld (cleaned (line p s (condition_of before.node) rows) forgotten) old gone
+
 -- ---- the nodes of a network
 
 -- what the node in a place dropped, or nothing past the end
@@ -59,11 +69,11 @@ abbrev pub dropped_before : List (List Row) → Option ℕ → List Row
 dropped_before dropped None = []
 dropped_before dropped (Some parent) = dropped_at dropped parent
 
--- the nodes before this place forgot, each after those before it
-abbrev pub ForgotBelow : Program → Look → (Named → Bool) → List NetNode → List NetNode → List (List Row) → ℕ → Type 0
-ForgotBelow p look old before after dropped n =
-    (k : ℕ) → k < n → (was is : NetNode) → slice_get before k ≡ Some was → slice_get after k ≡ Some is
-    → NodeForgets p look old was is (dropped_before (take k dropped) was.parent) (dropped_at dropped k)
+-- the nodes before this place forgot, each after those before it, and each by its source before and afterwards
+abbrev pub ForgotBelow : Program → Look → (Named → Bool) → (ℕ → Option Source) → (ℕ → Option Source) → List NetNode → List NetNode → List (List Row) → ℕ → Type 0
+ForgotBelow p look old was is before after dropped n =
+    (k : ℕ) → k < n → (a b : NetNode) → slice_get before k ≡ Some a → slice_get after k ≡ Some b
+    → TurnForgets p look old (was k) (is k) k a b (dropped_before (take k dropped) a.parent) (dropped_at dropped k)
 
 -- no old fact that is at hand is of the type of the node's candidates
 abbrev pub HasNoOld : Look → (Named → Bool) → NetNode → Type 0
@@ -74,10 +84,10 @@ abbrev pub AreDue : Index → List ℕ → List ℕ → Type 0
 AreDue index types due = (ty k : ℕ) → has_place types ty ≡ true → is_listed index.by_type ty k ≡ true → has_place due k ≡ true
 
 -- the nodes of a network forgot, and these are the rows that they dropped, where there are some
-pub record HaveForgotten (p : Program) (look : Look) (old : Named → Bool) (before after : List NetNode) (ends : List ℕ) (a : Answered (List Row)) : Type 0 where
+pub record HaveForgotten (p : Program) (look : Look) (old : Named → Bool) (was is : ℕ → Option Source) (before after : List NetNode) (ends : List ℕ) (a : Answered (List Row)) : Type 0 where
   pub nothing : a.none ≡ []
   pub dropped : List (List Row)
-  pub forgot : ForgotBelow p look old before after dropped (length before)
+  pub forgot : ForgotBelow p look old was is before after dropped (length before)
   pub known : (k : ℕ) → k < length before → dropped_at dropped k ≡ given [] (some_answer a k)
   pub ruled : AreRuled a ends
 

@@ -20,6 +20,8 @@ use Rattle.rete_net.specs.declared.lists.Lists.{Lists}
 use Rattle.rete_net.specs.declared.node.NetNode.{NetNode}
 use Rattle.rete_net.specs.declared.ranges.FieldRanges.{FieldRanges}
 use Rattle.rete_net.specs.declared.ranges.Ranges.{Ranges}
+use Rattle.candidate_source.specs.declared.sources.Sources.{Sources}
+use Rattle.candidate_source.specs.Sources.{is_follower}
 use Rattle.rete_net.specs.Selectors.{list_slot_of}
 
 -- ---- lists of places
@@ -66,18 +68,13 @@ IsLookedUp alpha f k =
 abbrev pub IsAskedWhereMeant : AlphaIndex → Pattern → ℕ → Type 0
 IsAskedWhereMeant alpha pattern k = (f : Fact) → is_meant pattern f ≡ true → IsLookedUp alpha f k
 
--- the node in a place is found by its type, by what its pattern means, and where it has no parent
+-- the node in a place is found by its type, and by what its pattern means
 pub record IsNodeFound (index : Index) (k : ℕ) (n : NetNode) : Type 0 where
   pub typed : is_listed index.by_type (type_of n) k ≡ true
   pub asked : IsAskedWhereMeant index.alpha (pattern_of (condition_of n.node)) k
-  pub first : n.parent ≡ None → is_in index.firsts.items k ≡ true
 
--- all nodes are found, and each rule by its last node
-pub record IsIndexOf (nodes : List NetNode) (ends : List ℕ) (index : Index) : Type 0 where
-  pub found : (k : ℕ) (n : NetNode) → slice_get nodes k ≡ Some n → IsNodeFound index k n
+-- The nodes are found, but for those of a source that follow its first one; each that has no parent, by that; and each rule by its last node.
+pub record IsIndexOf (sources : Sources) (nodes : List NetNode) (ends : List ℕ) (index : Index) : Type 0 where
+  pub found : (k : ℕ) (n : NetNode) → slice_get nodes k ≡ Some n → is_follower sources k ≡ false → IsNodeFound index k n
+  pub firsts : (k : ℕ) (n : NetNode) → slice_get nodes k ≡ Some n → n.parent ≡ None → is_in index.firsts.items k ≡ true
   pub ended : (rule end : ℕ) → slice_get ends rule ≡ Some end → is_listed index.rules end rule ≡ true
-
--- A step does not reach the node by facts: none that goes or comes is meant, and nothing comes to it where it has no parent.
-pub record IsUnreached (n : NetNode) (first : Delta) (gone : List Fact) (come : Option Fact) : Type 0 where
-  pub unmeant : is_one_meant (pattern_of (condition_of n.node)) gone come ≡ false
-  pub begun : n.parent ≡ None → changes_nothing first ≡ true

@@ -13,6 +13,9 @@ pub mod Answers
 pub mod Dropped
 pub mod Steps
 pub mod Fans
+pub mod Sources
+pub mod Sourcing
+pub mod Lending
 pub mod Seating
 pub mod Walks
 pub mod Bounds

@@ -1,5 +1,5 @@
 -- How nodes are loaded, each behind its parent.
-use Rattle.std.specs.Prelude.{◌≡◌, ◌==◌, ◌<◌, ◌≤◌, ◌≤ℤ◌, ◌&&◌, ◌||◌, nat_lt, ℕ, Bool, true, false, List, Option, [], Some, None, length, slice_get}
+use Rattle.std.specs.Prelude.{◌≡◌, ◌==◌, ◌<◌, ◌≤◌, ◌≤ℤ◌, ◌&&◌, ◌||◌, nat_lt, ℕ, ℤ, Bool, true, false, List, Option, [], Some, None, length, slice_get}
 use Rattle.std.specs.Borrow.{Bor}
 use Rattle.std.specs.Global.{Vec}
 use Rattle.std.specs.List.{filter}
@@ -7,8 +7,10 @@ use Rattle.fx_base.specs.Lists.{In}
 use Rattle.fx_base.specs.declared.fact.Fact.{Fact}
 use Rattle.row_delta.specs.declared.delta.Delta.{Delta}
 use Rattle.row_delta.specs.declared.extra.Extra.{Extra}
+use Rattle.row_delta.specs.declared.row.Named.{Named}
 use Rattle.row_delta.specs.declared.row.Row.{Row}
 use Rattle.row_delta.specs.Rows.{has, InOrder}
+use Rattle.rule_model.specs.declared.condition.Pattern.{Pattern}
 use Rattle.rule_model.specs.declared.moment.Moment.{Moment}
 use Rattle.rule_model.specs.declared.program.Program.{Program}
 use Rattle.rule_model.specs.Lent.{lent}
@@ -16,11 +18,17 @@ use Rattle.rule_model.specs.Moments.{IsAt}
 use Rattle.rule_model.specs.Rows.{pattern_of}
 use Rattle.rule_model.specs.Snapshots.{Snapshot, floor}
 use Rattle.join_tests.specs.Joins.{Look}
+use Rattle.join_tests.specs.NameKeys.{name_key}
+use Rattle.pair_memory.specs.Apart.{has_candidate}
+use Rattle.pair_memory.specs.Joined.{has_name}
+use Rattle.pair_memory.specs.Shared.{NamesAgree}
 use Rattle.pair_memory.specs.Standing.{no_names}
 use Rattle.tally_node.specs.Extras.{extra_for, rows_of_extras}
 use Rattle.condition_rows.specs.Looks.{empty_snapshot, HasAllOf, NameHeld}
+use Rattle.condition_rows.specs.Sets.{candidates_of}
 use Rattle.pattern_gate.specs.Gates.{GateStands, has_good_window}
 use Rattle.pattern_gate.specs.Moves.{IsOrderly}
+use Rattle.condition_node.specs.Lending.{node_value}
 use Rattle.condition_node.specs.Loading.{Laden}
 use Rattle.condition_node.specs.Nodes.{condition_of}
 use Rattle.laden_rows.specs.Laden.{laden_line}
@@ -28,7 +36,9 @@ use Rattle.rete_net.specs.declared.answered.Answered.{Answered}
 use Rattle.rete_net.specs.declared.build.Owner.{Owner}
 use Rattle.rete_net.specs.declared.node.NetNode.{NetNode}
 use Rattle.rete_net.specs.Answers.{answer_in, left_given, some_answer, AreRuled}
-use Rattle.rete_net.specs.Standing.{IsFresh}
+use Rattle.candidate_source.specs.declared.source.Source.{Source}
+use Rattle.candidate_source.specs.Doors.{source_candidates, source_gate, source_pattern, is_reached}
+use Rattle.rete_net.specs.Standing.{taking, IsFresh}
 use Rattle.rete_net.specs.Steps.{no_change}
 
 -- a fact is of the type in a place
@@ -81,31 +91,61 @@ pub record NodeLoad (p : Program) (look : Look) (kept : List Fact) (extras : Lis
   pub none_gone : IsFresh p old → delta.gone ≡ []
   pub in_order : IsFresh p old → InOrder delta.come
 
+-- ---- a node of a source
+
+-- The gate and the candidates of a source are those of a pattern over the facts of its type at a clock, and they stand where the pattern
+-- looks them up.
+pub record HasLoaded (kept : List Fact) (clock : ℤ) (look : Look) (source : Source) (q : Pattern) : Type 0 where
+  pub keeps : name_key q ≡ name_key (source_pattern source)
+  pub gate : (p : Program) (s : Snapshot) → has_good_window p q ≡ true → IsOrderly p s → s.facts ≡ filter (is_fact_of_type q.ty.0) kept → s.clock ≡ clock → GateStands p q (source_gate source) s
+  pub names : (p : Program) (s : Snapshot) → has_good_window p q ≡ true → IsOrderly p s → s.facts ≡ filter (is_fact_of_type q.ty.0) kept → s.clock ≡ clock
+      → (who : Named) → has_candidate (source_candidates source) look who ≡ candidates_of p q s who
+  pub listed : (names : List Named) × ((who : Named) → has_candidate (source_candidates source) look who ≡ has_name names who)
+  pub agrees : NamesAgree (source_pattern source) (source_candidates source).names look
+
+-- A node of a pattern may be loaded: its source, which was this, has been loaded for it.
+abbrev pub MayLoad : List Fact → ℤ → Look → Option Source → Option Source → Pattern → Type 0
+MayLoad kept clock look None None q = Unit {0}
+MayLoad kept clock look None (Some is) q = ⊥
+MayLoad kept clock look (Some was) None q = ⊥
+MayLoad kept clock look (Some was) (Some is) q = HasLoaded kept clock look is q
+
+-- the node in a place is found in its source under the values of these rows
+abbrev pub IsFoundUnder : Look → Option Source → ℕ → NetNode → List Row → Type 0
+IsFoundUnder look None k n rows = Unit {0}
+IsFoundUnder look (Some source) k n rows = (row : Row) → has rows row ≡ true → is_reached source (node_value n.node look row) k ≡ true
+
+-- what a load makes of the node in a place, whose source was this and is that, which finds it
+pub record TurnLoads (p : Program) (look : Look) (kept : List Fact) (extras : List Extra) (moment : Moment) (was is : Option Source) (k : ℕ) (old new : NetNode) (rows : List Row) (delta : Delta) : Type 0 where
+  pub loads : NodeLoad p look kept extras moment (taking was old) (taking is new) rows delta
+  pub found : IsFoundUnder look is k new rows
+
 -- ---- all nodes
 
 -- the rows of all extras under an owner are among these rows
 abbrev pub HasRowsOf : Owner → List Extra → List Row → Type 0
 HasRowsOf o extras rows = (e : Extra) → In e extras → is_extra_under o e ≡ true → has rows e.row ≡ true
 
--- The nodes before a place are loaded, each with what its parent answered and with the extras of its owner, whose rows are among those;
--- `first` comes to those without a parent. The others are as they were.
-pub record AreLoaded (p : Program) (look : Look) (kept : List Fact) (extras : List Extra) (moment : Moment) (first : Delta) (before now : List NetNode) (owners : List Owner) (ends : List ℕ) (a : Answered Delta) (n : ℕ) : Type 0 where
+-- The nodes before a place are loaded, each with what its parent answered and with the extras of its owner, whose rows are among those, and
+-- each by its source before and afterwards; `first` comes to those without a parent. The others are as they were.
+pub record AreLoaded (p : Program) (look : Look) (kept : List Fact) (extras : List Extra) (moment : Moment) (first : Delta) (was is : ℕ → Option Source) (before now : List NetNode) (owners : List Owner) (ends : List ℕ) (a : Answered Delta) (n : ℕ) : Type 0 where
   pub many : length now ≡ length before
   pub none : a.none ≡ no_change
   pub ahead : (k : ℕ) → n ≤ k → some_answer a k ≡ None
   pub rest : (k : ℕ) → n ≤ k → slice_get now k ≡ slice_get before k
   pub loaded : (k : ℕ) → k < n → (old new : NetNode) (o : Owner) → slice_get before k ≡ Some old → slice_get now k ≡ Some new → slice_get owners k ≡ Some o
-      → NodeLoad p look kept (filter (is_extra_under o) extras) moment old new (left_given first a old.parent).come (answer_in a k)
+      → TurnLoads p look kept (filter (is_extra_under o) extras) moment (was k) (is k) k old new (left_given first a old.parent).come (answer_in a k)
   pub there : (k : ℕ) → k < n → (old : NetNode) (o : Owner) → slice_get before k ≡ Some old → slice_get owners k ≡ Some o → InOrder (left_given first a old.parent).come
       → HasRowsOf o extras (left_given first a old.parent).come
   pub ruled : AreRuled a ends
 
 -- Of the nodes before a place all are loaded, and the one in it cannot be: the row of an extra of its owner is none of those before it.
-pub record IsStuck (p : Program) (look : Look) (kept : List Fact) (extras : List Extra) (moment : Moment) (first : Delta) (before : List NetNode) (owners : List Owner) (ends : List ℕ) : Type 0 where
+pub record IsStuck (p : Program) (look : Look) (kept : List Fact) (extras : List Extra) (moment : Moment) (first : Delta) (was : ℕ → Option Source) (before : List NetNode) (owners : List Owner) (ends : List ℕ) : Type 0 where
   pub now : List NetNode
+  pub is : ℕ → Option Source
   pub answered : Answered Delta
   pub place : ℕ
-  pub loaded : AreLoaded p look kept extras moment first before now owners ends answered place
+  pub loaded : AreLoaded p look kept extras moment first was is before now owners ends answered place
   pub node : NetNode
   pub there : slice_get before place ≡ Some node
   pub missing : (o : Owner) → slice_get owners place ≡ Some o → InOrder (left_given first answered node.parent).come

@@ -17,6 +17,7 @@ use Rattle.rule_model.specs.Snapshots.{Snapshot}
 use Rattle.pair_memory.specs.Standing.{clean, cleaned}
 use Rattle.condition_rows.specs.Sets.{candidates_of, rows_of}
 use Rattle.pattern_gate.specs.Moves.{IsOrderly, at_clock}
+use Rattle.candidate_source.specs.Sources.{source_at}
 use Rattle.condition_node.specs.Nodes.{condition_of}
 use Rattle.condition_node.specs.Quiet.{IsBefore}
 use Rattle.rete_net.specs.declared.changes.RuleChange.{RuleChange}
@@ -26,18 +27,20 @@ use Rattle.rete_net.specs.Fans.{AreFans, shown_nodes}
 use Rattle.rete_net.specs.Indexes.{IsIndexOf}
 use Rattle.rete_net.specs.Owners.{AreNodeOwners}
 use Rattle.rete_net.specs.Schedules.{AreScheduled}
-use Rattle.rete_net.specs.Standing.{NetNodeStands}
+use Rattle.rete_net.specs.Sources.{AreSources}
+use Rattle.rete_net.specs.Standing.{StandsIn}
 use Rattle.rete_net.specs.Shapes.{before, IsNetOf}
 
--- The nodes of a program's network, which its index and its schedule find, stand for a snapshot: each, with what it keeps of its own or in a fan, for
--- the rows of the conditions before it.
+-- The nodes of a program's network, which its index and its schedule find, stand for a snapshot: each, with what it keeps of its own, in a
+-- fan or in a source, for the rows of the conditions before it.
 pub record NodesStand (p : Program) (net : Rete) (s : Snapshot) (forgotten : Named → Bool) : Type 0 where
   pub shape : IsNetOf p (shown_nodes net) net.ends.items
-  pub indexed : IsIndexOf (shown_nodes net) net.ends.items net.index
-  pub scheduled : AreScheduled p net.nodes.items net.schedule
+  pub indexed : IsIndexOf net.sources (shown_nodes net) net.ends.items net.index
+  pub scheduled : AreScheduled p net.sources net.nodes.items net.schedule
   pub fans : AreFans net.nodes.items net.fans
+  pub sources : AreSources net.nodes.items net.fans net.sources
   pub owned : AreNodeOwners p shape.conditions (length (shown_nodes net)) net.owners.items
-  pub nodes : (k : ℕ) (n : NetNode) → slice_get (shown_nodes net) k ≡ Some n → NetNodeStands p n s (rows_of p s (before shape.conditions n.parent)) forgotten
+  pub nodes : (k : ℕ) (n : NetNode) → slice_get (shown_nodes net) k ≡ Some n → StandsIn p (source_at net.sources k) k n s (rows_of p s (before shape.conditions n.parent)) forgotten
 
 -- The nodes have the same before them in both snapshots: the conditions of each have the same rows that name no forgotten fact, and its
 -- pattern has the same candidates.

@@ -10,10 +10,12 @@ use Rattle.condition_rows.specs.Lines.{line}
 use Rattle.condition_rows.specs.Looks.{NameHeld}
 use Rattle.condition_rows.specs.Sets.{candidates_of}
 use Rattle.pattern_gate.specs.Moves.{IsOrderly, at_clock}
+use Rattle.candidate_source.specs.declared.sources.Sources.{Sources}
+use Rattle.candidate_source.specs.Sources.{source_at}
 use Rattle.condition_node.specs.Nodes.{condition_of}
 use Rattle.condition_node.specs.Quiet.{IsBefore}
 use Rattle.rete_net.specs.declared.node.NetNode.{NetNode}
-use Rattle.rete_net.specs.Standing.{NetNodeStands}
+use Rattle.rete_net.specs.Standing.{taking, NetNodeStands}
 
 -- the clock alone changes nothing in the candidates of a node, nor in what its condition makes of rows before it, of what is not forgotten
 pub record StaysAt (p : Program) (n : NetNode) (s : Snapshot) (rows : Row → Bool) (forgotten : Named → Bool) (clock : ℤ) : Type 0 where
@@ -26,6 +28,6 @@ IsNodeQuiet p n until = (s : Snapshot) (rows : Row → Bool) (forgotten : Named 
     → pos 0 ≤ℤ s.clock → s.clock ≤ℤ clock → clock <ℤ pos (2 ^ 63) → IsBefore until clock
     → StaysAt p n s rows forgotten clock
 
--- the same of each node
-abbrev pub AreQuiet : Program → List NetNode → Option ℤ → Type 0
-AreQuiet p nodes until = (k : ℕ) (n : NetNode) → slice_get nodes k ≡ Some n → IsNodeQuiet p n until
+-- the same of each node, with what it takes from its source
+abbrev pub AreQuiet : Program → Sources → List NetNode → Option ℤ → Type 0
+AreQuiet p sources nodes until = (k : ℕ) (n : NetNode) → slice_get nodes k ≡ Some n → IsNodeQuiet p (taking (source_at sources k) n) until

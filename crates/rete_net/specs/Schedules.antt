@@ -1,5 +1,5 @@
 -- Until when the nodes that time alone may change stay as they are.
-use Rattle.std.specs.Prelude.{◌≡◌, ℕ, ℤ, true, false, List, Option, Some, slice_get}
+use Rattle.std.specs.Prelude.{◌≡◌, ℕ, ℤ, Bool, true, false, List, Option, Some, None, IfSome, slice_get}
 use Rattle.fx_base.specs.declared.fact.Fact.{Fact}
 use Rattle.row_delta.specs.declared.delta.Delta.{Delta}
 use Rattle.row_delta.specs.declared.row.Named.{Named}
@@ -16,15 +16,21 @@ use Rattle.pattern_gate.specs.declared.gate.PatternGate.{PatternGate}
 use Rattle.pattern_gate.specs.Gates.{GateStands}
 use Rattle.pattern_gate.specs.Moves.{MovesSnapshot}
 use Rattle.pattern_gate.specs.Turns.{is_one_meant}
+use Rattle.pair_memory.specs.declared.candidates.Candidates.{Candidates}
+use Rattle.row_change.specs.Changes.{changes_nothing}
+use Rattle.candidate_source.specs.declared.source.Source.{Source}
+use Rattle.candidate_source.specs.declared.sources.Sources.{Sources}
+use Rattle.candidate_source.specs.Doors.{source_gate}
+use Rattle.candidate_source.specs.Sources.{source_at, is_follower, is_lead}
+use Rattle.condition_node.specs.Lending.{with_candidates}
 use Rattle.condition_node.specs.Nodes.{condition_of}
-use Rattle.condition_node.specs.Quiet.{IsBefore}
+use Rattle.condition_node.specs.Quiet.{IsBefore, IsQuiet}
 use Rattle.condition_node.specs.declared.node.Node.{Node}
 use Rattle.condition_node.specs.declared.node.Node.TheVariants as node
 use Rattle.rete_net.specs.declared.node.NetNode.{NetNode}
 use Rattle.rete_net.specs.declared.schedule.EntryTimers.{EntryTimers}
 use Rattle.rete_net.specs.declared.schedule.Schedule.{Schedule}
-use Rattle.rete_net.specs.Indexes.{is_changed_by_clock, IsUnreached}
-use Rattle.rete_net.specs.Quiet.{IsNodeQuiet}
+use Rattle.rete_net.specs.Indexes.{is_changed_by_clock}
 use Rattle.rete_net.specs.Timers.{IsFrom, IsSet}
 
 -- the place of the entry point of a node's candidates
@@ -45,23 +51,34 @@ IsStillAt (node.Not waiting) floor = NoneDue (waiting_rows waiting) floor
 IsStillAt (node.Exists tally) floor = Unit {0}
 IsStillAt (node.Fold fold) floor = Unit {0}
 
--- nothing is due in a node at this moment
-pub record IsUndue (p : Program) (n : NetNode) (moment : Moment) : Type 0 where
-  pub gate : IsGateStill n.gate moment.clock
+-- the gate of which the schedule tells in a place: the node's own, or, at the first node of a source, that of the source
+abbrev pub timed_gate : Option Source → Bool → NetNode → Option PatternGate
+timed_gate None leads n = Some n.gate
+timed_gate (Some s) true n = Some (source_gate s)
+timed_gate (Some s) false n = None
+
+abbrev pub gate_told : Sources → ℕ → NetNode → Option PatternGate
+gate_told sources k n = timed_gate (source_at sources k) (is_lead sources k) n
+
+-- nothing is due in a node at this moment, nor in the gate of which the schedule tells in its place
+pub record IsUndue (p : Program) (sources : Sources) (k : ℕ) (n : NetNode) (moment : Moment) : Type 0 where
+  pub gate : IfSome (gate_told sources k n) (λ gate. IsGateStill gate moment.clock)
   pub node : IsStillAt n.node (floor p (snapshot_at moment) (entry_point_of n))
 
--- a step does not reach the node but by what changes in the rows of its parent
-pub record IsLeftAlone (p : Program) (n : NetNode) (first : Delta) (gone : List Fact) (come : Option Fact) (moment : Moment) : Type 0 where
-  pub unreached : IsUnreached n first gone come
-  pub undue : is_changed_by_clock n ≡ true → IsUndue p n moment
+-- a step does not reach the node but by what changes in the rows of its parent, and by what its source hands to it, if it is of one
+pub record IsLeftAlone (p : Program) (sources : Sources) (k : ℕ) (n : NetNode) (first : Delta) (gone : List Fact) (come : Option Fact) (moment : Moment) : Type 0 where
+  pub unmeant : is_follower sources k ≡ false → is_one_meant (pattern_of (condition_of n.node)) gone come ≡ false
+  pub begun : n.parent ≡ None → changes_nothing first ≡ true
+  pub undue : is_changed_by_clock n ≡ true → IsUndue p sources k n moment
 
--- the node in a place stands under a moment of the clock until which it is quiet, and under one up to which the floor of its entry point
--- lets no row come
-pub record IsScheduled (p : Program) (schedule : Schedule) (k : ℕ) (n : NetNode) : Type 0 where
+-- The node in a place stands under a moment of the clock until which it is quiet, whatever candidates are lent to it, and until which the
+-- gate of which the schedule tells there is still; and under one up to which the floor of its entry point lets no row come.
+pub record IsScheduled (p : Program) (sources : Sources) (schedule : Schedule) (k : ℕ) (n : NetNode) : Type 0 where
   pub until : Option ℤ
   pub set : IsSet schedule.clock k until
-  pub quiet : IsNodeQuiet p n until
-  pub gate : (clock : ℤ) → IsBefore until clock → IsGateStill n.gate clock
+  pub quiet : IsQuiet p n.node until
+  pub lent : (own : Candidates) → IsQuiet p (with_candidates own n.node) until
+  pub gate : IfSome (gate_told sources k n) (λ gate. (clock : ℤ) → IsBefore until clock → IsGateStill gate clock)
   pub line : ℕ
   pub timers : EntryTimers
   pub found : slice_get schedule.floors.items line ≡ Some timers
@@ -71,5 +88,5 @@ pub record IsScheduled (p : Program) (schedule : Schedule) (k : ℕ) (n : NetNod
   pub still : (floor : ℤ) → IsFrom floor up_to → IsStillAt n.node floor
 
 -- so does each node that time alone may change
-abbrev pub AreScheduled : Program → List NetNode → Schedule → Type 0
-AreScheduled p nodes schedule = (k : ℕ) (n : NetNode) → slice_get nodes k ≡ Some n → is_changed_by_clock n ≡ true → IsScheduled p schedule k n
+abbrev pub AreScheduled : Program → Sources → List NetNode → Schedule → Type 0
+AreScheduled p sources nodes schedule = (k : ℕ) (n : NetNode) → slice_get nodes k ≡ Some n → is_changed_by_clock n ≡ true → IsScheduled p sources schedule k n

@@ -20,7 +20,8 @@ use Rattle.condition_node.specs.Nodes.{condition_of}
 use Rattle.condition_node.specs.Turns.{CountedStay}
 use Rattle.rete_net.specs.declared.changes.RuleChange.{RuleChange}
 use Rattle.rete_net.specs.declared.node.NetNode.{NetNode}
-use Rattle.rete_net.specs.Standing.{NetNodeStands}
+use Rattle.candidate_source.specs.declared.source.Source.{Source}
+use Rattle.rete_net.specs.Standing.{NetNodeStands, StandsIn}
 use Rattle.rule_model.specs.Moments.{IsAt}
 use Rattle.rule_model.specs.declared.moment.Moment.{Moment}
 
@@ -66,11 +67,23 @@ pub record NodeStep (p : Program) (look : Look) (gone : List Fact) (come : Optio
       → IsNodeTurn p look s next gone come (condition_of old.node) rows rows_now forgotten left
       → IsDifference (cleaned (line p s (condition_of old.node) rows) forgotten) (cleaned (line p next (condition_of old.node) rows_now) forgotten) delta
 
--- the nodes before this place took their step, each after those before it; what comes to the first nodes is `first`
-abbrev pub SteppedBelow : Program → Look → List Fact → Option Fact → Moment → Delta → List NetNode → List NetNode → List Delta → ℕ → Type 0
-SteppedBelow p look gone come moment first before after deltas n =
+-- A step of the node in a place, whose source was this and is that: where it stood it stands, and the answer is the true difference of the
+-- rows of its condition.
+pub record TurnStep (p : Program) (look : Look) (gone : List Fact) (come : Option Fact) (moment : Moment) (was is : Option Source) (k : ℕ) (old new : NetNode) (left delta : Delta) : Type 0 where
+  pub parent : new.parent ≡ old.parent
+  pub condition : condition_of new.node ≡ condition_of old.node
+  pub stands : (s next : Snapshot) (rows rows_now : Row → Bool) (forgotten : Named → Bool) → StandsIn p was k old s rows forgotten → IsAt next moment
+      → IsNodeTurn p look s next gone come (condition_of old.node) rows rows_now forgotten left → StandsIn p is k new next rows_now forgotten
+  pub difference : (s next : Snapshot) (rows rows_now : Row → Bool) (forgotten : Named → Bool) → StandsIn p was k old s rows forgotten → IsAt next moment
+      → IsNodeTurn p look s next gone come (condition_of old.node) rows rows_now forgotten left
+      → IsDifference (cleaned (line p s (condition_of old.node) rows) forgotten) (cleaned (line p next (condition_of old.node) rows_now) forgotten) delta
+
+-- The nodes before this place took their step, each after those before it, and each by its source before the step and behind it; what comes
+-- to the first nodes is `first`.
+abbrev pub SteppedBelow : Program → Look → List Fact → Option Fact → Moment → Delta → (ℕ → Option Source) → (ℕ → Option Source) → List NetNode → List NetNode → List Delta → ℕ → Type 0
+SteppedBelow p look gone come moment first was is before after deltas n =
     (k : ℕ) → k < n → (old new : NetNode) → slice_get before k ≡ Some old → slice_get after k ≡ Some new
-    → NodeStep p look gone come moment old new (left_delta first (take k deltas) old.parent) (delta_at first deltas k)
+    → TurnStep p look gone come moment (was k) (is k) k old new (left_delta first (take k deltas) old.parent) (delta_at first deltas k)
 
 -- the change of the rule in a place, if the difference has a row
 abbrev pub change_at : ℕ → Delta → List RuleChange
@@ -82,8 +95,8 @@ changes_from none deltas place [] = []
 changes_from none deltas place (end ∷ ends) = change_at place (delta_at none deltas end) ++ changes_from none deltas (place + 1) ends
 
 -- what a step of a network answers: its nodes took their step, and the changes are what the last nodes of the rules answered
-pub record NetStep (p : Program) (look : Look) (gone : List Fact) (come : Option Fact) (moment : Moment) (first : Delta) (before after : List NetNode) (ends : List ℕ) (given : List RuleChange) : Type 0 where
+pub record NetStep (p : Program) (look : Look) (gone : List Fact) (come : Option Fact) (moment : Moment) (first : Delta) (was is : ℕ → Option Source) (before after : List NetNode) (ends : List ℕ) (given : List RuleChange) : Type 0 where
   pub deltas : List Delta
   pub nodes : length after ≡ length before
-  pub stepped : SteppedBelow p look gone come moment first before after deltas (length before)
+  pub stepped : SteppedBelow p look gone come moment first was is before after deltas (length before)
   pub answers : length ends < 2 ^ 16 → given ≡ changes_from first deltas 0 ends

@@ -5,6 +5,8 @@ use Rattle.row_delta.specs.declared.delta.Delta.{Delta}
 use Rattle.rule_model.specs.declared.program.Program.{Program}
 use Rattle.rule_model.specs.declared.moment.Moment.{Moment}
 use Rattle.join_tests.specs.Joins.{Look}
+use Rattle.candidate_source.specs.declared.sources.Sources.{Sources}
+use Rattle.candidate_source.specs.declared.source.Source.{Source}
 use Rattle.rete_net.specs.declared.index.Index.{Index}
 use Rattle.rete_net.specs.declared.node.NetNode.{NetNode}
 use Rattle.rete_net.specs.declared.answered.Answered.{Answered}
@@ -20,15 +22,15 @@ pub record IsReplaced (old new : List NetNode) : Type 0 where
   pub condition : (k : ℕ) (a b : NetNode) → slice_get old k ≡ Some a → slice_get new k ≡ Some b → condition_of b.node ≡ condition_of a.node
 
 -- the index is that of the nodes and of the rules with these last nodes, each node stands behind its parent, and each last node is there
-pub record IsWired (nodes : List NetNode) (ends : List ℕ) (index : Index) : Type 0 where
-  pub indexed : IsIndexOf nodes ends index
+pub record IsWired (sources : Sources) (nodes : List NetNode) (ends : List ℕ) (index : Index) : Type 0 where
+  pub indexed : IsIndexOf sources nodes ends index
   pub parents : (k parent : ℕ) (n : NetNode) → slice_get nodes k ≡ Some n → n.parent ≡ Some parent → parent < k
   pub lasts : (rule end : ℕ) → slice_get ends rule ≡ Some end → end < length nodes
 
 -- all nodes took their step, and these are the answers that have a row
-pub record HasAnswered (p : Program) (look : Look) (gone : List Fact) (come : Option Fact) (moment : Moment) (first : Delta) (before after : List NetNode) (ends : List ℕ) (a : Answered Delta) : Type 0 where
+pub record HasAnswered (p : Program) (look : Look) (gone : List Fact) (come : Option Fact) (moment : Moment) (first : Delta) (was is : ℕ → Option Source) (before after : List NetNode) (ends : List ℕ) (a : Answered Delta) : Type 0 where
   pub none : a.none ≡ no_change
   pub deltas : List Delta
-  pub stepped : SteppedBelow p look gone come moment first before after deltas (length before)
+  pub stepped : SteppedBelow p look gone come moment first was is before after deltas (length before)
   pub known : (k : ℕ) → k < length before → delta_at first deltas k ≡ given no_change (some_answer a k)
   pub ruled : AreRuled a ends

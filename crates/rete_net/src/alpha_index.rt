@@ -109,7 +109,7 @@ impl AlphaIndex {
 }
 
 // One less than a power of two, which is above the number of nodes and at most twice as much.
-fn mask_above(nodes: usize) -> u64 {
+pub(crate) fn mask_above(nodes: usize) -> u64 {
     u64::MAX
         .checked_shr((nodes as u64).leading_zeros())
         .unwrap_or(0)

@@ -6,9 +6,10 @@ ghost use Rattle.fx_base.specs.declared.value.Value.TheVariants.{Int};
 ghost use Rattle.range_index.specs.Ranges.{is_found};
 ghost use Rattle.rule_model.specs.Lent.{lent};
 ghost use Rattle.rule_model.specs.Rows.{pattern_of};
-ghost use Rattle.pattern_gate.specs.Turns.{is_meant};
+ghost use Rattle.row_change.specs.Changes.{changes_nothing};
+ghost use Rattle.pattern_gate.specs.Turns.{is_meant, is_one_meant};
 ghost use Rattle.condition_node.specs.Nodes.{condition_of};
-ghost use Rattle.rete_net.specs.Indexes.{is_in, is_listed, IsNodeFound, IsUnreached};
+ghost use Rattle.rete_net.specs.Indexes.{is_in, is_listed, IsNodeFound};
 ghost use Rattle.fan_join.specs.Reaching.{has_place};
 ghost use Rattle.rete_net.specs.Selectors.{list_slot_of};
 ghost use Rattle.rete_net.specs.declared.node.NetNode.{NetNode as NetNodeData};
@@ -203,7 +204,8 @@ pub(crate) fn put_reached(
 ) -> Result<(), NoMemory>
     ensures kept { OnOk result ((k : ℕ) → has_place due.old.keys k ≡ true → has_place due.new.keys k ≡ true) }
     ensures put { OnOk result ((k : ℕ) (n : NetNodeData) → slice_get nodes.now k ≡ Some n → IsNodeFound index.now k n → has_place due.new.keys k ≡ false
-        → IsUnreached n first.now (lent gone.now) (option_map (λ f. f.now) come.entry)) }
+        → is_one_meant (pattern_of (condition_of n.node)) (lent gone.now) (option_map (λ f. f.now) come.entry) ≡ false) }
+    ensures begun { OnOk result ((k : ℕ) → is_in index.now.firsts.items k ≡ true → has_place due.new.keys k ≡ false → changes_nothing first.now ≡ true) }
 {
     if !changes_nothing(first) {
         put_all(due, index.firsts())?;

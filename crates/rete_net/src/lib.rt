@@ -3,6 +3,7 @@
 //! outside. Calls that allocate answer `NoMemory` where memory is refused.
 #![tactic(auto)]
 
+mod alike;
 mod alpha_index;
 mod answered;
 mod bounds;
@@ -12,6 +13,7 @@ mod due;
 mod extras;
 mod fans;
 mod forgetting;
+mod grouping;
 mod index;
 pub mod laws;
 mod lists;
@@ -26,7 +28,9 @@ mod ranges;
 mod schedule;
 mod seating;
 mod selector;
+mod sourcing;
 mod steps;
+mod taking;
 mod timers;
 
 pub use changes::RuleChange;

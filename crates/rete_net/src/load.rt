@@ -8,6 +8,7 @@ ghost use Rattle.rule_model.specs.Snapshots.{Snapshot};
 ghost use Rattle.rule_world.specs.Programs.{IsRunnable};
 ghost use Rattle.laden_rows.specs.Extras.{extra_cmp};
 ghost use Rattle.laden_rows.specs.Laden.{AreOwners};
+ghost use Rattle.candidate_source.specs.Sources.{source_at, AreApart, AreLaidAs};
 ghost use Rattle.rete_net.specs.declared.changes.RuleChange.{RuleChange as RuleChangeData};
 ghost use Rattle.rete_net.specs.declared.load.LoadFault.TheVariants.{NoMemory as OutOfMemory};
 ghost use Rattle.rete_net.specs.Doors.{IsNetwork};
@@ -16,6 +17,7 @@ ghost use Rattle.rete_net.specs.Loading.{IsLoadable, IsThere, AreLadenRows, IsBe
 ghost use Rattle.rete_net.specs.Loads.{AreLoaded, IsStuck};
 ghost use Rattle.rete_net.specs.Nets.{NetStands};
 ghost use Rattle.rete_net.specs.Schedules.{AreScheduled};
+ghost use Rattle.rete_net.specs.Sources.{AreSources};
 ghost use Rattle.rete_net.specs.Steps.{empty_row_comes};
 ghost use Rattle.rete_net.specs.Walks.{IsReplaced, IsWired};
 
@@ -89,7 +91,7 @@ impl Rete {
         Ok((net, changes))
     }
 
-    // Loads nodes that keep nothing, each with the rows that its parent answered, and answers what they answer.
+    // Loads the sources, and then nodes that keep nothing, each with the rows that its parent answered, and answers what they answer.
     fn load_nodes<'g, F: Facts>(
         &mut self,
         alloc: Global,
@@ -103,16 +105,19 @@ impl Rete {
         ensures owners { OnOk result (self.new.owners ≡ self.old.owners) }
         ensures index { OnOk result (self.new.index ≡ self.old.index) }
         ensures replaced { OnOk result (IsReplaced self.old.nodes.items self.new.nodes.items) }
-        ensures scheduled { OnOk result (AreScheduled program.now self.old.nodes.items self.old.schedule → AreScheduled program.now self.new.nodes.items self.new.schedule) }
+        ensures sourced { OnOk result (AreLaidAs self.old.sources self.new.sources) }
+        ensures apart { OnOk result (AreApart self.old.sources → AreApart self.new.sources) }
+        ensures scheduled { OnOk result (AreScheduled program.now self.new.sources self.new.nodes.items self.new.schedule) }
         ensures laid { OnOk result (IsLaidAs self.old.fans self.new.fans) }
-        ensures loaded { IfOk result (λ a. IsWired self.old.nodes.items self.old.ends.items self.old.index → IsStrictlySortedBy extra_cmp extras.now
-            → AreFans self.old.nodes.items self.old.fans
-            → AreLoaded program.now (F.map facts.now) (lent kept.now) extras.now moment.now empty_row_comes (shown_nodes self.old) (shown_nodes self.new) self.old.owners.items self.old.ends.items a (length (shown_nodes self.old))) }
-        ensures stuck { IsErrOf result LoadFault.NoRow → IsWired self.old.nodes.items self.old.ends.items self.old.index → IsStrictlySortedBy extra_cmp extras.now
-            → AreFans self.old.nodes.items self.old.fans
-            → IsStuck program.now (F.map facts.now) (lent kept.now) extras.now moment.now empty_row_comes (shown_nodes self.old) self.old.owners.items self.old.ends.items }
+        ensures loaded { IfOk result (λ a. IsWired self.old.sources self.old.nodes.items self.old.ends.items self.old.index → IsStrictlySortedBy extra_cmp extras.now
+            → AreFans self.old.nodes.items self.old.fans → AreSources self.old.nodes.items self.old.fans self.old.sources
+            → AreLoaded program.now (F.map facts.now) (lent kept.now) extras.now moment.now empty_row_comes (source_at self.old.sources) (source_at self.new.sources) (shown_nodes self.old) (shown_nodes self.new) self.old.owners.items self.old.ends.items a (length (shown_nodes self.old))) }
+        ensures stuck { IsErrOf result LoadFault.NoRow → IsWired self.old.sources self.old.nodes.items self.old.ends.items self.old.index → IsStrictlySortedBy extra_cmp extras.now
+            → AreFans self.old.nodes.items self.old.fans → AreSources self.old.nodes.items self.old.fans self.old.sources
+            → IsStuck program.now (F.map facts.now) (lent kept.now) extras.now moment.now empty_row_comes (source_at self.old.sources) (shown_nodes self.old) self.old.owners.items self.old.ends.items }
     {
         let groups = by_type(alloc, kept)?;
+        self.sources.load(alloc, &groups, moment.clock, facts)?;
         let none = Vec::new(alloc);
         let first = empty_row_comes(alloc)?;
         let mut due = BTreeSet::new(alloc);
@@ -130,8 +135,17 @@ impl Rete {
                 extras: own,
                 moment,
             };
-            let delta = node.load_in(alloc, program, &mut self.fans, place, &given, facts)?;
-            self.schedule.put(alloc, program, place, node)?;
+            let delta = node.load_in(
+                alloc,
+                program,
+                &mut self.fans,
+                &mut self.sources,
+                place,
+                &given,
+                facts,
+            )?;
+            self.schedule
+                .put(alloc, program, place, node, &self.sources)?;
             let came = delta.come.as_slice();
             self.fans
                 .turn_rows(alloc, &mut due, place, &[], came, facts)?;

@@ -7,20 +7,25 @@ ghost use Rattle.row_delta.specs.declared.extra.Extra.{Extra as ExtraData};
 ghost use Rattle.row_delta.specs.Rows.{has, InOrder};
 ghost use Rattle.rule_model.specs.declared.program.Program.{Program as ProgramData};
 ghost use Rattle.rule_model.specs.Lent.{lent};
+ghost use Rattle.rule_model.specs.Rows.{pattern_of};
 ghost use Rattle.condition_node.specs.Nodes.{condition_of};
 ghost use Rattle.rete_net.specs.declared.fans.Seat.{Seat as SeatData};
 ghost use Rattle.rete_net.specs.Fans.{half_at, half_of, member_at, member_of, seat_at, showing, IsHalf, IsLaidAs, IsLeft, IsOfSeat, Member};
 ghost use Rattle.pair_memory.specs.Joined.{has_name};
-ghost use Rattle.rete_net.specs.Dropped.{NodeForgets};
+ghost use Rattle.rete_net.specs.Dropped.{TurnForgets};
 ghost use Rattle.rete_net.specs.Indexes.{type_of};
-ghost use Rattle.rete_net.specs.Loads.{is_fact_of_type, NodeLoad};
-ghost use Rattle.rete_net.specs.Steps.{NodeStep};
+ghost use Rattle.rete_net.specs.Loads.{is_fact_of_type, MayLoad, NodeLoad, TurnLoads};
+ghost use Rattle.candidate_source.specs.declared.source.Source.{Source as SourceData};
+ghost use Rattle.candidate_source.specs.Sources.{handed_come, handed_gone, source_at};
+ghost use Rattle.rete_net.specs.Lending.{AreLentAs, MayForget, MayTurn};
+ghost use Rattle.rete_net.specs.Steps.{NodeStep, TurnStep};
 
 use crate::fans::{Fans, Seat};
 use crate::load::LoadFault;
 use crate::loading::Given;
 use crate::node::NetNode;
 use crate::pieces::have_rows;
+use candidate_source::Sources;
 use fx_base::{Fact, Facts, NoMemory, Seq};
 use pair_memory::names_alone;
 use pattern_gate::PatternGate;
@@ -38,13 +43,21 @@ pub(crate) struct Happening<'h> {
     pub(crate) moment: &'h Moment<'h>,
 }
 
+/// What all nodes forget: the candidates that are old.
+#[derive(Clone, Copy)]
+pub(crate) struct Loss<'h> {
+    pub(crate) program: &'h Program,
+    pub(crate) old: &'h [Named],
+}
+
 impl NetNode {
-    /// Takes a step as the node in a place, which may keep what it keeps as a member of a fan. Where nothing has changed in the rows
-    /// before it, or they change nothing here, and it is still, it takes no memory.
+    /// Takes a step as the node in a place, which may keep what it keeps as a member of a fan, or take its candidates from a source. Where
+    /// nothing has changed in the rows before it, or they change nothing here, and it is still, it takes no memory.
     pub(crate) fn advance_in<F: Facts>(
         &mut self,
         alloc: Global,
         fans: &mut Fans,
+        sources: &mut Sources,
         place: usize,
         left: &Delta,
         happening: &Happening,
@@ -54,10 +67,14 @@ impl NetNode {
         ensures condition { OnOk result (condition_of self.new.node ≡ condition_of self.old.node) }
         ensures laid { OnOk result (IsLaidAs fans.old fans.new) }
         ensures others { OnOk result ((seat : SeatData) → (seat_at fans.old.seats.items place ≡ Some seat → ⊥) → IsLeft fans.old fans.new seat) }
-        ensures step { IfOk result (λ delta. (was : Option Member) → IsOfSeat self.old fans.old.list.items (seat_at fans.old.seats.items place)
+        ensures sources { OnOk result (AreLentAs place sources.old sources.new) }
+        ensures step { IfOk result (λ delta. (was : Option Member) (of : Option SourceData) → IsOfSeat self.old fans.old.list.items (seat_at fans.old.seats.items place)
             → IsHalf (F.map facts.now) left.now.gone left.now.come was (member_at fans.old place) (half_of fans.old (seat_at fans.old.seats.items place))
-            → NodeStep happening.now.program.now (F.map facts.now) (lent happening.now.gone.now) (option_map (λ f. f.now) happening.now.come) happening.now.moment.now
-            (showing was self.old) (showing (member_at fans.new place) self.new) left.now delta) }
+            → ((s : SourceData) → of ≡ Some s → seat_at fans.old.seats.items place ≡ None)
+            → MayTurn happening.now.program.now (lent happening.now.gone.now) (option_map (λ f. f.now) happening.now.come) happening.now.moment.now.clock (F.map facts.now)
+            of (source_at sources.old place) place self.old (handed_gone sources.old place) (handed_come sources.old place)
+            → TurnStep happening.now.program.now (F.map facts.now) (lent happening.now.gone.now) (option_map (λ f. f.now) happening.now.come) happening.now.moment.now
+            of (source_at sources.new place) place (showing was self.old) (showing (member_at fans.new place) self.new) left.now delta) }
     {
         match fans.seat(place) {
             Some(seat) => {
@@ -66,15 +83,7 @@ impl NetNode {
                 Ok(delta)
             }
             None => {
-                let delta = self.advance(
-                    alloc,
-                    happening.program,
-                    left,
-                    happening.gone,
-                    happening.come,
-                    happening.moment,
-                    facts,
-                )?;
+                let delta = self.advance_alone(alloc, sources, place, left, happening, facts)?;
                 Ok(delta)
             }
         }
@@ -122,33 +131,44 @@ impl NetNode {
         Ok(delta)
     }
 
-    /// Forgets as the node in a place. The gate stands for the whole snapshot, and keeps old candidates.
+    /// Forgets as the node in a place. The gates stand for the whole snapshot, and keep old candidates.
     pub(crate) fn forget_in<F: Facts>(
         &mut self,
         alloc: Global,
-        program: &Program,
         fans: &mut Fans,
+        sources: &mut Sources,
         place: usize,
         rows: &[Row],
-        old: &[Named],
+        loss: &Loss,
         facts: &F,
     ) -> Result<Seq<Row>, NoMemory>
         ensures parent { OnOk result (self.new.parent ≡ self.old.parent) }
         ensures condition { OnOk result (condition_of self.new.node ≡ condition_of self.old.node) }
         ensures laid { OnOk result (IsLaidAs fans.old fans.new) }
         ensures others { OnOk result ((seat : SeatData) → (seat_at fans.old.seats.items place ≡ Some seat → ⊥) → IsLeft fans.old fans.new seat) }
-        ensures forgets { IfOk result (λ gone. (was : Option Member) → IsOfSeat self.old fans.old.list.items (seat_at fans.old.seats.items place)
+        ensures sources { OnOk result (AreLentAs place sources.old sources.new) }
+        ensures forgets { IfOk result (λ gone. (was : Option Member) (of : Option SourceData) → IsOfSeat self.old fans.old.list.items (seat_at fans.old.seats.items place)
             → IsHalf (F.map facts.now) rows.now [] was (member_at fans.old place) (half_of fans.old (seat_at fans.old.seats.items place))
-            → NodeForgets program.now (F.map facts.now) (has_name old.now) (showing was self.old) (showing (member_at fans.new place) self.new) rows.now gone) }
+            → ((s : SourceData) → of ≡ Some s → seat_at fans.old.seats.items place ≡ None)
+            → MayForget loss.now.program.now (F.map facts.now) loss.now.old.now of (source_at sources.old place) place self.old (handed_gone sources.old place)
+            → TurnForgets loss.now.program.now (F.map facts.now) (has_name loss.now.old.now) of (source_at sources.new place) place (showing was self.old) (showing (member_at fans.new place) self.new) rows.now gone) }
     {
         match fans.seat(place) {
             Some(seat) => {
                 let half = fans.take_half(alloc, seat);
-                let delta = fans.turn_names(alloc, seat, half, old, &[], facts)?;
+                let delta = fans.turn_names(alloc, seat, half, loss.old, &[], facts)?;
                 Ok(delta.gone)
             }
             None => {
-                let gone = self.forget(alloc, program, rows, old, facts)?;
+                let gone = self.forget_alone(
+                    alloc,
+                    loss.program,
+                    sources,
+                    place,
+                    rows,
+                    loss.old,
+                    facts,
+                )?;
                 Ok(gone)
             }
         }
@@ -160,6 +180,7 @@ impl NetNode {
         alloc: Global,
         program: &Program,
         fans: &mut Fans,
+        sources: &mut Sources,
         place: usize,
         given: &Given,
         facts: &F,
@@ -168,9 +189,12 @@ impl NetNode {
         ensures condition { OnOk result (condition_of self.new.node ≡ condition_of self.old.node) }
         ensures laid { OnOk result (IsLaidAs fans.old fans.new) }
         ensures others { OnOk result ((seat : SeatData) → (seat_at fans.old.seats.items place ≡ Some seat → ⊥) → IsLeft fans.old fans.new seat) }
-        ensures loads { IfOk result (λ delta. (was : Option Member) (kept : List FactData) → lent given.now.theirs.now ≡ filter (is_fact_of_type (type_of self.old)) kept → IsOfSeat self.old fans.old.list.items (seat_at fans.old.seats.items place)
-            → IsHalf (F.map facts.now) [] given.now.rows.now was (member_at fans.old place) (half_of fans.old (seat_at fans.old.seats.items place))
-            → NodeLoad program.now (F.map facts.now) kept given.now.extras.now given.now.moment.now (showing was self.old) (showing (member_at fans.new place) self.new) given.now.rows.now delta) }
+        ensures sources { OnOk result (AreLentAs place sources.old sources.new) }
+        ensures loads { IfOk result (λ delta. (was : Option Member) (of : Option SourceData) (kept : List FactData) → lent given.now.theirs.now ≡ filter (is_fact_of_type (type_of self.old)) kept
+            → IsOfSeat self.old fans.old.list.items (seat_at fans.old.seats.items place) → IsHalf (F.map facts.now) [] given.now.rows.now was (member_at fans.old place) (half_of fans.old (seat_at fans.old.seats.items place))
+            → ((s : SourceData) → of ≡ Some s → seat_at fans.old.seats.items place ≡ None)
+            → MayLoad kept given.now.moment.now.clock (F.map facts.now) of (source_at sources.old place) (pattern_of (condition_of self.old.node))
+            → TurnLoads program.now (F.map facts.now) kept given.now.extras.now given.now.moment.now of (source_at sources.new place) place (showing was self.old) (showing (member_at fans.new place) self.new) given.now.rows.now delta) }
         ensures there { OnOk result (InOrder given.now.rows.now → (e : ExtraData) → In e given.now.extras.now → has given.now.rows.now e.row ≡ true) }
         ensures no_row { IsErrOf result LoadFault.NoRow → InOrder given.now.rows.now → (e : ExtraData) × In e given.now.extras.now × (has given.now.rows.now e.row ≡ false) }
     {
@@ -181,15 +205,7 @@ impl NetNode {
                 Ok(delta)
             }
             None => {
-                let delta = self.load(
-                    alloc,
-                    program,
-                    given.rows,
-                    given.theirs,
-                    given.extras,
-                    given.moment,
-                    facts,
-                )?;
+                let delta = self.load_alone(alloc, program, sources, place, given, facts)?;
                 Ok(delta)
             }
         }

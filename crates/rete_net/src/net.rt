@@ -15,11 +15,15 @@ ghost use Rattle.pair_memory.specs.Standing.{cleaned, either};
 ghost use Rattle.condition_rows.specs.Looks.{empty_snapshot, HasAllOf};
 ghost use Rattle.condition_rows.specs.Sets.{rows_of};
 ghost use Rattle.pattern_gate.specs.Moves.{IsOrderly, MovesSnapshot, at_clock};
+ghost use Rattle.candidate_source.specs.declared.source.Source.{Source as SourceData};
+ghost use Rattle.candidate_source.specs.Doors.{source_pattern};
+ghost use Rattle.candidate_source.specs.Sources.{source_at, IsNewSource};
 ghost use Rattle.condition_node.specs.Quiet.{IsBefore};
 ghost use Rattle.rete_net.specs.declared.changes.RuleChange.{RuleChange as RuleChangeData};
 ghost use Rattle.rete_net.specs.Doors.{IsNetwork, node_count, quiet_time, rule_count};
 ghost use Rattle.rete_net.specs.Dropped.{AreDropped, AreListed, HaveForgotten};
 ghost use Rattle.rete_net.specs.Fans.{AreFans, IsLaidAs, shown_nodes};
+ghost use Rattle.rete_net.specs.Sources.{AreSources};
 ghost use Rattle.rete_net.specs.Forgetting.{AreNotNeeded};
 ghost use Rattle.rete_net.specs.Indexes.{IsIndexOf};
 ghost use Rattle.rete_net.specs.Nets.{NetStands, clean_rows, AreBetween};
@@ -29,6 +33,7 @@ ghost use Rattle.rete_net.specs.Quiet.{AreQuiet};
 ghost use Rattle.rete_net.specs.Schedules.{AreScheduled};
 ghost use Rattle.rete_net.specs.Shapes.{CountsFronts};
 ghost use Rattle.rete_net.specs.Steps.{NetStep};
+ghost use Rattle.candidate_source.specs.Sources.{source_at, AreApart, AreLaidAs};
 ghost use Rattle.rete_net.specs.Walks.{HasAnswered, IsReplaced, IsWired};
 
 use crate::answered::Answered;
@@ -38,11 +43,13 @@ use crate::due::{first_below, put_reached};
 use crate::fans::Fans;
 use crate::forgetting::{RuleRows, put_dropped, rows_of_rules, with_old};
 use crate::index::Index;
-use crate::membership::Happening;
+use crate::membership::{Happening, Loss};
 use crate::node::NetNode;
 use crate::quiet::is_before;
 use crate::schedule::Schedule;
+use crate::sourcing::sources_of;
 use crate::steps::put_delta;
+use candidate_source::Sources;
 use fx_base::{Fact, Facts, Millis, NoMemory, Seq};
 use row_delta::{Delta, Named, Row};
 use rule_model::{Moment, Program};
@@ -58,6 +65,7 @@ pub struct Rete {
     pub(crate) owners: Vec<Owner>,
     pub(crate) index: Index,
     pub(crate) fans: Fans,
+    pub(crate) sources: Sources,
     pub(crate) schedule: Schedule,
     pub(crate) quiet_until: Option<i128>,
 }
@@ -164,9 +172,11 @@ impl Rete {
 
     /// The nodes of all rules, which keep nothing.
     pub(crate) fn of_rules(alloc: Global, program: &Program) -> Result<Rete, NoMemory>
-        ensures indexed { IfOk result (λ net. IsIndexOf (shown_nodes net) net.ends.items net.index) }
+        ensures indexed { IfOk result (λ net. IsIndexOf net.sources (shown_nodes net) net.ends.items net.index) }
         ensures fans { IfOk result (λ net. AreFans net.nodes.items net.fans) }
-        ensures scheduled { IfOk result (λ net. AreScheduled program.now net.nodes.items net.schedule) }
+        ensures sources { IfOk result (λ net. AreSources net.nodes.items net.fans net.sources) }
+        ensures new_sources { IfOk result (λ net. (k : ℕ) (s : SourceData) → source_at net.sources k ≡ Some s → IsNewSource (source_pattern s) s) }
+        ensures scheduled { IfOk result (λ net. AreScheduled program.now net.sources net.nodes.items net.schedule) }
         ensures count { IfOk result (λ net. length net.ends.items ≡ length program.now.rules) }
         ensures built { IfOk result (λ net. IsRunnable program.now → (all : List (List Condition)) × AreBuilt program.now (shown_nodes net) all × HaveEnds all net.ends.items program.now.rules (length program.now.rules)
             × AreFronts program.now all × AreDistinctFronts all × (length net.ends.items ≡ length program.now.rules)
@@ -178,26 +188,28 @@ impl Rete {
             let last = builder.put_chain(alloc, program, rule, rule_in(ends.len()))?;
             ends.push(last.unwrap_or(0))?;
         }
-        let index = Index::of(alloc, &builder.nodes, &ends)?;
         let fans = Fans::of(alloc, &builder.nodes)?;
-        let schedule = Schedule::of(alloc, program, &builder.nodes)?;
+        let sources = sources_of(alloc, &builder.nodes, &fans)?;
+        let index = Index::of(alloc, &builder.nodes, &ends, &sources)?;
+        let schedule = Schedule::of(alloc, program, &builder.nodes, &sources)?;
         Ok(Rete {
             nodes: builder.nodes,
             ends,
             owners: builder.owners,
             index,
             fans,
+            sources,
             schedule,
             quiet_until: None,
         })
     }
 
     /// Lets the nodes that have something old drop it, each after its parent, and answers what they drop.
-    fn forget_nodes<F: Facts>(
+    fn forget_nodes<'h, F: Facts>(
         &mut self,
         alloc: Global,
-        program: &Program,
-        old: &[Named],
+        program: &'h Program,
+        old: &'h [Named],
         facts: &F,
     ) -> Result<Answered<Seq<Row>>, NoMemory>
         ensures ends { OnOk result (self.new.ends ≡ self.old.ends) }
@@ -205,12 +217,17 @@ impl Rete {
         ensures index { OnOk result (self.new.index ≡ self.old.index) }
         ensures quiet { OnOk result (self.new.quiet_until ≡ self.old.quiet_until) }
         ensures replaced { OnOk result (IsReplaced self.old.nodes.items self.new.nodes.items) }
-        ensures scheduled { OnOk result (AreScheduled program.now self.old.nodes.items self.old.schedule → AreScheduled program.now self.new.nodes.items self.new.schedule) }
+        ensures sourced { OnOk result (AreLaidAs self.old.sources self.new.sources) }
+        ensures apart { OnOk result (AreApart self.old.sources → AreApart self.new.sources) }
+        ensures scheduled { OnOk result (AreFans self.old.nodes.items self.old.fans → AreApart self.old.sources → AreScheduled program.now self.old.sources self.old.nodes.items self.old.schedule → AreScheduled program.now self.new.sources self.new.nodes.items self.new.schedule) }
         ensures laid { OnOk result (IsLaidAs self.old.fans self.new.fans) }
-        ensures forgot { IfOk result (λ a. IsWired self.old.nodes.items self.old.ends.items self.old.index → AreFans self.old.nodes.items self.old.fans
-            → HaveForgotten program.now (F.map facts.now) (has_name old.now) (shown_nodes self.old) (shown_nodes self.new) self.old.ends.items a) }
+        ensures forgot { IfOk result (λ a. IsWired self.old.sources self.old.nodes.items self.old.ends.items self.old.index → AreFans self.old.nodes.items self.old.fans
+            → AreSources self.old.nodes.items self.old.fans self.old.sources
+            → HaveForgotten program.now (F.map facts.now) (has_name old.now) (source_at self.old.sources) (source_at self.new.sources) (shown_nodes self.old) (shown_nodes self.new) self.old.ends.items a) }
     {
         let mut due = with_old(alloc, &self.index, old, facts)?;
+        self.sources.forget(alloc, old, facts, &mut due)?;
+        let loss = Loss { program, old };
         let none = Seq::from_vec(Vec::new(alloc));
         let mut dropped = Answered::new(alloc, Seq::from_vec(Vec::new(alloc)));
         self.fans.begin(alloc);
@@ -219,8 +236,17 @@ impl Rete {
             let node = &mut self.nodes[place];
             let rows = dropped.left(&none, node.parent);
             let before = rows.as_slice();
-            let gone = node.forget_in(alloc, program, &mut self.fans, place, before, old, facts)?;
-            self.schedule.put(alloc, program, place, node)?;
+            let gone = node.forget_in(
+                alloc,
+                &mut self.fans,
+                &mut self.sources,
+                place,
+                before,
+                &loss,
+                facts,
+            )?;
+            self.schedule
+                .put(alloc, program, place, node, &self.sources)?;
             let went = gone.as_slice();
             self.fans
                 .turn_rows(alloc, &mut due, place, went, &[], facts)?;
@@ -244,15 +270,16 @@ impl Rete {
     ) -> Result<Vec<RuleChange>, NoMemory>
         ensures ends { OnOk result (self.new.ends.items ≡ self.old.ends.items) }
         ensures owners { OnOk result (self.new.owners ≡ self.old.owners) }
-        ensures quiet { OnOk result (AreScheduled program.now self.old.nodes.items self.old.schedule → AreQuiet program.now (shown_nodes self.new) self.new.quiet_until) }
-        ensures scheduled { OnOk result (AreScheduled program.now self.old.nodes.items self.old.schedule → AreScheduled program.now self.new.nodes.items self.new.schedule) }
+        ensures quiet { OnOk result (AreFans self.old.nodes.items self.old.fans → AreSources self.old.nodes.items self.old.fans self.old.sources → AreScheduled program.now self.old.sources self.old.nodes.items self.old.schedule → AreQuiet program.now self.new.sources (shown_nodes self.new) self.new.quiet_until) }
+        ensures scheduled { OnOk result (AreFans self.old.nodes.items self.old.fans → AreApart self.old.sources → AreScheduled program.now self.old.sources self.old.nodes.items self.old.schedule → AreScheduled program.now self.new.sources self.new.nodes.items self.new.schedule) }
         ensures replaced { OnOk result (IsReplaced self.old.nodes.items self.new.nodes.items) }
-        ensures indexed { OnOk result (IsIndexOf (shown_nodes self.old) self.old.ends.items self.old.index → IsIndexOf (shown_nodes self.new) self.new.ends.items self.new.index) }
+        ensures indexed { OnOk result (IsIndexOf self.old.sources (shown_nodes self.old) self.old.ends.items self.old.index → IsIndexOf self.new.sources (shown_nodes self.new) self.new.ends.items self.new.index) }
         ensures laid { OnOk result (IsLaidAs self.old.fans self.new.fans) }
+        ensures sources { OnOk result (AreSources self.old.nodes.items self.old.fans self.old.sources → AreSources self.new.nodes.items self.new.fans self.new.sources) }
         ensures rules { length self.old.ends.items < 2 ^ 16 → IfOk result (λ changes. (c : RuleChangeData) → In c changes.items → c.rule.0 < length self.old.ends.items) }
-        ensures stepped { IfOk result (λ changes. IsWired self.old.nodes.items self.old.ends.items self.old.index → AreScheduled program.now self.old.nodes.items self.old.schedule
-            → AreFans self.old.nodes.items self.old.fans
-            → NetStep program.now (F.map facts.now) (lent gone.now) (option_map (λ f. f.now) come.entry) moment.now first.now (shown_nodes self.old) (shown_nodes self.new) self.old.ends.items changes.items) }
+        ensures stepped { IfOk result (λ changes. IsWired self.old.sources self.old.nodes.items self.old.ends.items self.old.index → AreScheduled program.now self.old.sources self.old.nodes.items self.old.schedule
+            → AreFans self.old.nodes.items self.old.fans → AreSources self.old.nodes.items self.old.fans self.old.sources
+            → NetStep program.now (F.map facts.now) (lent gone.now) (option_map (λ f. f.now) come.entry) moment.now first.now (source_at self.old.sources) (source_at self.new.sources) (shown_nodes self.old) (shown_nodes self.new) self.old.ends.items changes.items) }
     {
         let answered = self.walk(alloc, program, first, gone, come, moment, facts)?;
         self.quiet_until = self.schedule.first();
@@ -276,14 +303,18 @@ impl Rete {
         ensures owners { OnOk result (self.new.owners ≡ self.old.owners) }
         ensures index { OnOk result (self.new.index ≡ self.old.index) }
         ensures replaced { OnOk result (IsReplaced self.old.nodes.items self.new.nodes.items) }
-        ensures scheduled { OnOk result (AreScheduled program.now self.old.nodes.items self.old.schedule → AreScheduled program.now self.new.nodes.items self.new.schedule) }
+        ensures sourced { OnOk result (AreLaidAs self.old.sources self.new.sources) }
+        ensures apart { OnOk result (AreApart self.old.sources → AreApart self.new.sources) }
+        ensures scheduled { OnOk result (AreFans self.old.nodes.items self.old.fans → AreApart self.old.sources → AreScheduled program.now self.old.sources self.old.nodes.items self.old.schedule → AreScheduled program.now self.new.sources self.new.nodes.items self.new.schedule) }
         ensures laid { OnOk result (IsLaidAs self.old.fans self.new.fans) }
-        ensures answered { IfOk result (λ a. IsWired self.old.nodes.items self.old.ends.items self.old.index → AreScheduled program.now self.old.nodes.items self.old.schedule
-            → AreFans self.old.nodes.items self.old.fans
-            → HasAnswered program.now (F.map facts.now) (lent gone.now) (option_map (λ f. f.now) come.entry) moment.now first.now (shown_nodes self.old) (shown_nodes self.new) self.old.ends.items a) }
+        ensures answered { IfOk result (λ a. IsWired self.old.sources self.old.nodes.items self.old.ends.items self.old.index → AreScheduled program.now self.old.sources self.old.nodes.items self.old.schedule
+            → AreFans self.old.nodes.items self.old.fans → AreSources self.old.nodes.items self.old.fans self.old.sources
+            → HasAnswered program.now (F.map facts.now) (lent gone.now) (option_map (λ f. f.now) come.entry) moment.now first.now (source_at self.old.sources) (source_at self.new.sources) (shown_nodes self.old) (shown_nodes self.new) self.old.ends.items a) }
     {
         let mut due = self.schedule.due(alloc, program, moment)?;
         put_reached(&mut due, &self.nodes, &self.index, first, gone, come)?;
+        self.sources
+            .turn(alloc, program, gone, come, moment.clock, facts, &mut due)?;
         let mut answered = Answered::new(alloc, no_change(alloc));
         let happening = Happening {
             program,
@@ -296,8 +327,17 @@ impl Rete {
         'walk: while let Some(place) = first_below(&due, next, self.nodes.len()) {
             let node = &mut self.nodes[place];
             let left = answered.left(first, node.parent);
-            let delta = node.advance_in(alloc, &mut self.fans, place, left, &happening, facts)?;
-            self.schedule.put(alloc, program, place, node)?;
+            let delta = node.advance_in(
+                alloc,
+                &mut self.fans,
+                &mut self.sources,
+                place,
+                left,
+                &happening,
+                facts,
+            )?;
+            self.schedule
+                .put(alloc, program, place, node, &self.sources)?;
             let went = delta.gone.as_slice();
             let came = delta.come.as_slice();
             self.fans

@@ -15,20 +15,21 @@ ghost use Rattle.pattern_gate.specs.Turns.{is_meant};
 ghost use Rattle.condition_rows.specs.Looks.{HasAllOf, NameHeld};
 ghost use Rattle.condition_node.specs.Loading.{AreExtrasBeside};
 ghost use Rattle.condition_node.specs.Nodes.{condition_of, is_negated, NodeStands};
-ghost use Rattle.condition_node.specs.Quiet.{IsBefore};
+ghost use Rattle.condition_node.specs.Quiet.{IsQuiet};
+ghost use Rattle.condition_node.specs.Lending.{lent_to, with_candidates};
+ghost use Rattle.pair_memory.specs.declared.candidates.Candidates.{Candidates as CandidatesData};
 ghost use Rattle.rete_net.specs.Dropped.{NodeForgets};
 ghost use Rattle.rete_net.specs.Fans.{showing, with_member, Member};
 ghost use Rattle.rete_net.specs.Indexes.{is_changed_by_clock, type_of};
 ghost use Rattle.rete_net.specs.Standing.{IsFresh};
-ghost use Rattle.rete_net.specs.Quiet.{IsNodeQuiet};
-ghost use Rattle.rete_net.specs.Schedules.{entry_point_of, IsGateStill, IsStillAt};
+ghost use Rattle.rete_net.specs.Schedules.{entry_point_of, IsStillAt};
 ghost use Rattle.rete_net.specs.Timers.{IsFrom};
 ghost use Rattle.rete_net.specs.Steps.{no_change, NodeStep};
 
 use crate::build::{Owner, no_change};
-use crate::quiet::{earlier, widened};
 use condition_node::Node;
 use fx_base::{EntryId, Fact, Facts, NoMemory, Seq, TypeId};
+use pair_memory::Candidates;
 use pattern_gate::PatternGate;
 use row_change::changes_nothing;
 use row_delta::{Delta, Extra, Named, Row};
@@ -173,16 +174,18 @@ impl NetNode {
         Ok(gone)
     }
 
-    /// What it counts or gathers of forgotten facts beside rows before it that name none, under this owner, in the order of the rows. Where
-    /// its pattern binds a fact that is nothing.
+    /// What it counts or gathers of forgotten facts beside rows before it that name none, under this owner, in the order of the rows, over
+    /// shared candidates, where some are given, and else over its own. Where its pattern binds a fact that is nothing.
     pub(crate) fn extras<F: Facts>(
         &self,
         alloc: Global,
+        shared: Option<&Candidates>,
         owner: Owner,
         facts: &F,
     ) -> Result<Vec<Extra>, NoMemory>
         ensures { IfOk result (λ extras. (m : Option Member) (p : ProgramData) (s : Snapshot) (rows : RowData → Bool) (forgotten : NamedData → Bool)
-            → HaveDistinctTags s.facts → HasAllOf (F.map facts.now) s forgotten → NameHeld s rows → NodeStands p (showing m self.now).node (F.map facts.now) s rows forgotten
+            → HaveDistinctTags s.facts → HasAllOf (F.map facts.now) s forgotten → NameHeld s rows
+            → NodeStands p (lent_to (option_map (λ c. c.now) shared.entry) (showing m self.now).node) (F.map facts.now) s rows forgotten
             → AreExtrasBeside p (condition_of self.now.node) s rows forgotten owner.rule owner.condition extras.items) }
     {
         if join_pattern(&self.node).is_some() {
@@ -190,19 +193,17 @@ impl NetNode {
         }
         let extras = self
             .node
-            .extras(alloc, None, owner.rule, owner.condition, facts)?;
+            .extras(alloc, shared, owner.rule, owner.condition, facts)?;
         Ok(extras)
     }
 
-    /// The moment of the clock, in milliseconds, from which something is due in the gate or the node: until then a move of the
-    /// clock alone changes nothing in the rows of its condition, where it does not change the rows before it. Takes no memory.
+    /// The moment of the clock, in milliseconds, from which something is due in the node of the condition, whatever candidates are lent to
+    /// it: until then a move of the clock alone, which changes neither these nor the rows before it, changes nothing. Takes no memory.
     pub(crate) fn quiet_until(&self, program: &Program) -> Option<i128>
-        ensures quiet { IsNodeQuiet program.now self.now result }
-        ensures gate { (clock : ℤ) → IsBefore result clock → IsGateStill self.now.gate clock }
+        ensures quiet { IsQuiet program.now self.now.node result }
+        ensures lent { (own : CandidatesData) → IsQuiet program.now (with_candidates own self.now.node) result }
     {
-        let window = widened(self.gate.quiet_until());
-        let moment = self.node.quiet_until(program);
-        earlier(window, moment)
+        self.node.quiet_until(program)
     }
 
     /// The least moment, in milliseconds, for which a row of a `not` waits: it comes where the floor of the entry point is above. Takes

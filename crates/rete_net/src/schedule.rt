@@ -4,7 +4,8 @@ ghost use Rattle.rule_model.specs.Moments.{snapshot_at};
 ghost use Rattle.rule_model.specs.Snapshots.{floor};
 ghost use Rattle.rete_net.specs.Indexes.{is_changed_by_clock};
 ghost use Rattle.fan_join.specs.Reaching.{has_place};
-ghost use Rattle.rete_net.specs.Quiet.{IsNodeQuiet};
+ghost use Rattle.candidate_source.specs.declared.sources.Sources.{Sources as SourcesData};
+ghost use Rattle.condition_node.specs.Quiet.{IsBefore};
 ghost use Rattle.rete_net.specs.Schedules.{AreScheduled, IsScheduled, IsUndue};
 ghost use Rattle.rete_net.specs.Timers.{IsFrom, IsSet};
 ghost use Rattle.rete_net.specs.declared.node.NetNode.{NetNode as NetNodeData};
@@ -12,7 +13,10 @@ ghost use Rattle.rete_net.specs.declared.schedule.EntryTimers.{EntryTimers as En
 
 use crate::due::put_all;
 use crate::node::NetNode;
+use crate::quiet::earlier;
+use crate::sourcing::gate_until;
 use crate::timers::Timers;
+use candidate_source::Sources;
 use fx_base::{EntryId, NoMemory};
 use rule_model::{Moment, Program};
 use std::alloc::Global;
@@ -68,15 +72,16 @@ impl Schedule {
         alloc: Global,
         program: &Program,
         nodes: &[NetNode],
+        sources: &Sources,
     ) -> Result<Schedule, NoMemory>
-        ensures { IfOk result (λ schedule. AreScheduled program.now nodes.now schedule) }
+        ensures { IfOk result (λ schedule. AreScheduled program.now sources.now nodes.now schedule) }
     {
         let mut schedule = Schedule {
             clock: Timers::new(alloc),
             floors: Vec::new(alloc),
         };
         for (place, node) in nodes.iter().enumerate() {
-            schedule.put(alloc, program, place, node)?;
+            schedule.put(alloc, program, place, node, sources)?;
         }
         Ok(schedule)
     }
@@ -89,15 +94,17 @@ impl Schedule {
         program: &Program,
         place: usize,
         node: &NetNode,
+        sources: &Sources,
     ) -> Result<(), NoMemory>
-        ensures put { OnOk result (is_changed_by_clock node.now ≡ true → IsScheduled program.now self.new place node.now) }
-        ensures others { OnOk result ((p : ProgramData) (k : ℕ) (n : NetNodeData) → (k ≡ place → ⊥) → IsScheduled p self.old k n → IsScheduled p self.new k n) }
+        ensures put { OnOk result (is_changed_by_clock node.now ≡ true → IsScheduled program.now sources.now self.new place node.now) }
+        ensures others { OnOk result ((p : ProgramData) (of : SourcesData) (k : ℕ) (n : NetNodeData) → (k ≡ place → ⊥) → IsScheduled p of self.old k n → IsScheduled p of self.new k n) }
     {
         if !node.is_timed() {
             return Ok(());
         }
         let line = self.line(alloc, node.entry())?;
-        self.clock.put(place, node.quiet_until(program))?;
+        let until = earlier(gate_until(sources, place, node), node.quiet_until(program));
+        self.clock.put(place, until)?;
         self.floors[line].timers.put(place, node.waits_up_to())?;
         Ok(())
     }
@@ -140,7 +147,7 @@ impl Schedule {
         program: &Program,
         moment: &Moment,
     ) -> Result<BTreeSet<usize, Global>, NoMemory>
-        ensures { IfOk result (λ due. (k : ℕ) (n : NetNodeData) → IsScheduled program.now self.now k n → has_place due.keys k ≡ false → IsUndue program.now n moment.now) }
+        ensures { IfOk result (λ due. (of : SourcesData) (k : ℕ) (n : NetNodeData) → IsScheduled program.now of self.now k n → has_place due.keys k ≡ false → IsUndue program.now of k n moment.now) }
     {
         let mut due = BTreeSet::new(alloc);
         self.put_past(&mut due, alloc, moment)?;
@@ -152,7 +159,7 @@ impl Schedule {
 
     /// The least moment of the clock at which something is due in a node that stands here. Takes no memory.
     pub(crate) fn first(&self) -> Option<i128>
-        ensures { (p : ProgramData) (k : ℕ) (n : NetNodeData) → IsScheduled p self.now k n → IsNodeQuiet p n result }
+        ensures { (k : ℕ) (until : Option ℤ) → IsSet self.now.clock k until → (clock : ℤ) → IsBefore result clock → IsBefore until clock }
     {
         self.clock.first()
     }

@@ -1,6 +1,8 @@
 use Rattle.rete_net.proofs.Common.{◌≡◌, ◌∙◌, ap, sym, subst, ◌+◌, ◌<◌, ◌≤◌, arith, List, length, slice_get, Extra, HaveDistinctTags, held, rows_of, rows_named}
-use Rattle.rete_net.proofs.Common.{at_clock, rising, Condition, AreExtrasBeside, condition_of, node_moves, Owner, NetNode, member_at, showing, shown_nodes}
+use Rattle.rete_net.proofs.Common.{at_clock, rising, Condition, AreExtrasBeside, condition_of, node_moves, member_at, showing, shown_nodes, taking, Node, NodeStands}
 use Rattle.rete_net.proofs.Common.{before}
+use Rattle.candidate_source.specs.Sources.{source_at}
+use Rattle.rete_net.proofs.Stillness.{taking_lends}
 use Rattle.rete_net.proofs.Counting.{AreFirst, none_first, one_more_first, all_of_them, beside_seen, same_before}
 use Rattle.rete_net.proofs.Seen.{at_hand_at}
 use Rattle.rete_net.proofs.Showing.{condition_shown, shown_at, shown_length}
@@ -33,9 +35,10 @@ loop-place-preserved g c p s forgotten stands has =
     let tags : HaveDistinctTags s.facts = rising s.facts stands.kept.in_order in
     let at_hand = at_hand_at look s stands.seen forgotten has in
     let named = rows_named p was tags behind in
-    let node = node_moves p (held was) look was (rows_of p was behind) forgotten (held_has was forgotten) at_hand named (showing m n.0).node (stands.nodes.nodes k (showing m n.0) shows).node in
-    let told = c.in_ok-extras.ensures n.0 o.0 m (ap (λ (ns : List NetNode). slice_get ns k) c.deref.ensures.value ∙ n.1) (ap (λ (os : List Owner). slice_get os k) c.deref-in-loop-place.ensures.value ∙ o.1)
-    p was (rows_of p was behind) forgotten tags at_hand named node in
+    let source = source_at net.sources k in
+    let node = node_moves p (held was) look was (rows_of p was behind) forgotten (held_has was forgotten) at_hand named (taking source (showing m n.0)).node (stands.nodes.nodes k (showing m n.0) shows).stands.node in
+    let told = c.in_ok-extras.ensures n.0 o.0 m n.1 o.1 p was (rows_of p was behind) forgotten tags at_hand named
+    (subst (λ (x : Node). NodeStands p x look was (rows_of p was behind) forgotten) (taking_lends source (showing m n.0)) node) in
     let told_of = subst (λ (x : Condition). AreExtrasBeside p x was (rows_of p was behind) forgotten o.0.rule o.0.condition c.in_ok-extras.extras.items) (sym (condition_shown m n.0)) told in
     let here = beside_seen p s stands.seen tags forgotten (condition_of (showing m n.0).node) behind (stands.unchanged.same_candidates k (showing m n.0) shows)
     (same_before p (shown_nodes net) net.ends.items stands.nodes.shape s was forgotten stands.unchanged k (showing m n.0) shows) o.0.rule o.0.condition c.in_ok-extras.extras.items told_of in

@@ -1,10 +1,13 @@
 use Rattle.rete_net.proofs.Common.{◌∙◌, sym, ap, subst, ℕ, List, length, has_name, AreRuled, AreListed, member_at, shown_nodes}
+use Rattle.candidate_source.specs.Sources.{is_other}
+use Rattle.candidate_source.proofs.Moving.{lead_alike}
 use Rattle.rete_net.proofs.Dropping.{net_forgets, rules_drop}
 use Rattle.rete_net.proofs.Owning.{owned_again}
 use Rattle.rete_net.proofs.Fanning.{fans_again}
 use Rattle.rete_net.proofs.Fanwise.{wired_under}
 use Rattle.rete_net.proofs.Frames.{index_again, net_again}
 use Rattle.rete_net.proofs.Showing.{replaced_both}
+use Rattle.rete_net.proofs.Sourced.{sources_again}
 use Rattle.rete_net.proofs.net.Rete.forget.Goals as goal
 
 pub returns-clause-stands : goal.returns-clause-stands
@@ -12,13 +15,14 @@ returns-clause-stands g c s forgotten stands has_all =
     let told = c.in_ok-dropped.ensures in
     let was = c.args.self.now in
     let now = c.forget_nodes.new.self in
-    let forgot = told.forgot (wired_under c.args.program.now was.nodes.items was.fans was.ends.items was.index stands.nodes.shape stands.nodes.indexed) stands.nodes.fans in
+    let forgot = told.forgot (wired_under c.args.program.now was.sources was.nodes.items was.fans was.ends.items was.index stands.nodes.shape stands.nodes.indexed) stands.nodes.fans stands.nodes.sources in
     let replaced = replaced_both (member_at was.fans) (member_at now.fans) was.nodes.items now.nodes.items told.replaced in
     let ends = ap (λ ends. ends.items) told.ends in
     net_forgets c.args.program.now (g.F.Facts.map c.args.facts.now) s forgotten (has_name c.args.old.now) was now forgot.dropped stands has_all ends told.quiet replaced.many forgot.forgot
-    (index_again (shown_nodes was) (shown_nodes now) was.ends.items now.ends.items was.index now.index replaced ends told.index stands.nodes.indexed)
-    (told.scheduled stands.nodes.scheduled)
+    (index_again was.sources now.sources (shown_nodes was) (shown_nodes now) was.ends.items now.ends.items was.index now.index (λ k. ap (is_other k) (lead_alike was.sources now.sources told.sourced k)) replaced ends told.index stands.nodes.indexed)
+    (told.scheduled stands.nodes.fans stands.nodes.sources.apart stands.nodes.scheduled)
     (fans_again was.nodes.items now.nodes.items was.fans now.fans told.replaced told.laid stands.nodes.fans)
+    (sources_again was.nodes.items now.nodes.items was.fans now.fans was.sources now.sources stands.nodes.sources told.replaced told.laid.seats told.sourced (told.apart stands.nodes.sources.apart))
     (owned_again c.args.program.now stands.nodes.shape.conditions (length (shown_nodes was)) (length (shown_nodes now)) was.owners now.owners replaced.many told.owners stands.nodes.owned)
 
 pub returns-clause-dropped : goal.returns-clause-dropped
@@ -26,7 +30,7 @@ returns-clause-dropped g c s forgotten stands has_all =
     let told = c.in_ok-dropped.ensures in
     let was = c.args.self.now in
     let now = c.forget_nodes.new.self in
-    let forgot = told.forgot (wired_under c.args.program.now was.nodes.items was.fans was.ends.items was.index stands.nodes.shape stands.nodes.indexed) stands.nodes.fans in
+    let forgot = told.forgot (wired_under c.args.program.now was.sources was.nodes.items was.fans was.ends.items was.index stands.nodes.shape stands.nodes.indexed) stands.nodes.fans stands.nodes.sources in
     let replaced = replaced_both (member_at was.fans) (member_at now.fans) was.nodes.items now.nodes.items told.replaced in
     let ends = ap (λ ends. ends.items) told.ends in
     let lent_ends = c.deref.ensures.value ∙ ends in

@@ -1,5 +1,8 @@
-use Rattle.rete_net.proofs.Common.{◌≡◌, ◌≤◌, ◌-◌, length, has_name, AreFans, IsLaidAs, AreScheduled, IsReplaced, IsWired}
+use Rattle.rete_net.proofs.Common.{◌≡◌, ◌≤◌, ◌-◌, ℕ, length, slice_get, Some, NetNode, AreFans, AreSources, IsLaidAs, AreScheduled, IsReplaced, IsWired}
+use Rattle.candidate_source.specs.Sources.{handed_gone, source_at, AreApart, AreLaidAs}
+use Rattle.rete_net.specs.Lending.{MayForget}
 use Rattle.rete_net.proofs.Fading.{IsUnderWay}
+use Rattle.rete_net.proofs.Rescheduled.{AreScheduledBut}
 use Rattle.rete_net.proofs.net.Rete.forget_nodes.Given as goal
 
 abbrev pub invariant-walk : goal.invariant-walk
@@ -10,10 +13,14 @@ invariant-walk g l = record {
   quiet : l.self.quiet_until ≡ l.fn.self.quiet_until;
   replaced : IsReplaced l.fn.self.nodes.items l.self.nodes.items;
   laid : IsLaidAs l.fn.self.fans l.self.fans;
-  scheduled : AreScheduled l.program l.fn.self.nodes.items l.fn.self.schedule → AreScheduled l.program l.self.nodes.items l.self.schedule;
+  sourced : AreLaidAs l.fn.self.sources l.self.sources;
+  apart : AreApart l.fn.self.sources → AreApart l.self.sources;
+  scheduled : AreFans l.fn.self.nodes.items l.fn.self.fans → AreApart l.fn.self.sources → AreScheduled l.program l.fn.self.sources l.fn.self.nodes.items l.fn.self.schedule → AreScheduledBut l.program l.self.sources l.self.nodes.items l.self.schedule l.due.keys l.next;
   within : l.next ≤ length l.fn.self.nodes.items;
-  way : (wired : IsWired l.fn.self.nodes.items l.fn.self.ends.items l.fn.self.index) → AreFans l.fn.self.nodes.items l.fn.self.fans
-      → IsUnderWay l.program (g.F.Facts.map l.facts) (has_name l.old) l.fn.self.nodes.items l.fn.self.fans l.fn.self.ends.items l.fn.self.index wired l.self.nodes.items l.self.fans l.due.keys l.dropped l.next;
+  way : (wired : IsWired l.fn.self.sources l.fn.self.nodes.items l.fn.self.ends.items l.fn.self.index) → AreFans l.fn.self.nodes.items l.fn.self.fans → (are : AreSources l.fn.self.nodes.items l.fn.self.fans l.fn.self.sources)
+      → IsUnderWay l.program (g.F.Facts.map l.facts) l.old l.fn.self.nodes.items l.fn.self.fans l.fn.self.ends.items l.fn.self.index l.fn.self.sources wired are.unseated l.self.sources l.self.nodes.items l.self.fans l.due.keys l.dropped l.next;
+  may : IsWired l.fn.self.sources l.fn.self.nodes.items l.fn.self.ends.items l.fn.self.index → AreSources l.fn.self.nodes.items l.fn.self.fans l.fn.self.sources → (k : ℕ) (n : NetNode) → l.next ≤ k → slice_get l.fn.self.nodes.items k ≡ Some n
+      → MayForget l.program (g.F.Facts.map l.facts) l.old (source_at l.fn.self.sources k) (source_at l.self.sources k) k n (handed_gone l.self.sources k);
 }
 
 abbrev pub decreases-walk : goal.decreases-walk

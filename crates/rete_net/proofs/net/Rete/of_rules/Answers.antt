@@ -4,7 +4,9 @@ use Rattle.rete_net.proofs.Common.{AreOwnedSoFar, NetNode, member_at, with_fans,
 use Rattle.std.proofs.lemmas.Bool.{and_parts}
 use Rattle.rete_net.proofs.Growing.{passes_at, ends_more}
 use Rattle.rete_net.proofs.Frames.{index_again}
+use Rattle.rete_net.proofs.Kinship.{are_sources}
 use Rattle.rete_net.proofs.Owning.{rule_owned}
+use Rattle.rete_net.specs.Sourcing.{AreSourcesBelow}
 use Rattle.rete_net.proofs.Seated.{built_shown}
 use Rattle.rete_net.proofs.Showing.{replaced_shown}
 use Rattle.rete_net.proofs.net.Rete.of_rules.Goals as goal
@@ -63,20 +65,30 @@ loop-rule-preserved c = record { count = let e = c.loop-rule.invariant.count in 
         )
 
 pub returns-clause-fans : goal.returns-clause-fans
-returns-clause-fans c = subst (λ (nodes : List NetNode). AreFans nodes c.in_ok-fans.fans) c.deref-3.ensures.value c.in_ok-fans.ensures.fans
+returns-clause-fans c = subst (λ (nodes : List NetNode). AreFans nodes c.in_ok-fans.fans) c.deref.ensures.value c.in_ok-fans.ensures.fans
+
+below : (c : goal.After-drop-builder-2) → AreSourcesBelow c.loop-rule.builder.nodes.items c.in_ok-fans.fans.seats.items c.in_ok-sources.sources (length c.loop-rule.builder.nodes.items)
+below c = subst (λ (nodes : List NetNode). AreSourcesBelow nodes c.in_ok-fans.fans.seats.items c.in_ok-sources.sources (length nodes)) c.deref-2.ensures.value c.in_ok-sources.ensures
+
+pub returns-clause-sources : goal.returns-clause-sources
+returns-clause-sources c = are_sources c.loop-rule.builder.nodes.items c.in_ok-fans.fans c.in_ok-sources.sources (below c)
+
+pub returns-clause-new_sources : goal.returns-clause-new_sources
+returns-clause-new_sources c = (below c).fresh
 
 pub returns-clause-indexed : goal.returns-clause-indexed
 returns-clause-indexed c =
     let nodes = c.loop-rule.builder.nodes.items in
     let fans = c.in_ok-fans.fans in
+    let sources = c.in_ok-sources.sources in
     let ends = c.loop-rule.ends.items in
     let index = c.in_ok-index.index in
-    index_again nodes (with_fans nodes fans) ends ends index index (replaced_shown (member_at fans) nodes) refl refl
-    (subst (λ (es : List ℕ). IsIndexOf nodes es index) c.deref-2.ensures.value
-    (subst (λ (ns : List NetNode). IsIndexOf ns c.deref-2.result.now index) c.deref.ensures.value c.in_ok-index.ensures))
+    index_again sources sources nodes (with_fans nodes fans) ends ends index index (λ k. refl) (replaced_shown (member_at fans) nodes) refl refl
+    (subst (λ (es : List ℕ). IsIndexOf sources nodes es index) c.deref-4.ensures.value
+    (subst (λ (ns : List NetNode). IsIndexOf sources ns c.deref-4.result.now index) c.deref-3.ensures.value c.in_ok-index.ensures))
 
 pub returns-clause-scheduled : goal.returns-clause-scheduled
-returns-clause-scheduled c = subst (λ (nodes : List NetNode). AreScheduled c.args.program.now nodes c.in_ok-schedule.schedule) c.deref-4.ensures.value c.in_ok-schedule.ensures
+returns-clause-scheduled c = subst (λ (nodes : List NetNode). AreScheduled c.args.program.now c.in_ok-sources.sources nodes c.in_ok-schedule.schedule) c.deref-5.ensures.value c.in_ok-schedule.ensures
 
 pub returns-clause-built : goal.returns-clause-built
 returns-clause-built c runnable =
@@ -84,7 +96,7 @@ returns-clause-built c runnable =
     let rules : length c.as_slice-rule-items.result.now ≡ length c.args.program.now.rules = ap (λ (rs : List Rule). length rs) c.as_slice-rule-items.ensures in
     let count = c.loop-rule.invariant.count in
     let all_rules : c.loop-rule.rule-index ≡ length c.args.program.now.rules = omega (arith, rules) in
-    let fans = subst (λ (nodes : List NetNode). AreFans nodes c.in_ok-fans.fans) c.deref-3.ensures.value c.in_ok-fans.ensures.fans in (
+    let fans = subst (λ (nodes : List NetNode). AreFans nodes c.in_ok-fans.fans) c.deref.ensures.value c.in_ok-fans.ensures.fans in (
       was.0,
       built_shown c.args.program.now c.loop-rule.builder.nodes.items was.0 c.in_ok-fans.fans was.1.built fans c.in_ok-fans.ensures.empty,
       λ place rule lt e. was.2 place rule (omega (arith, rules)) e,

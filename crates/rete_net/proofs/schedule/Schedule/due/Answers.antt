@@ -34,10 +34,10 @@ loop-line-preserved c = record {
 }
 
 pub returns : goal.returns
-returns c k n is out =
+returns c of k n is out =
     let floors = c.args.self.now.floors.items in
     let within : is.line < length c.args.self.now.floors.items = slice_get_within floors is.line is.timers is.found in
     let len : length c.as_slice-line-items.result.now ≡ length c.args.self.now.floors.items = ap (λ (xs : List EntryTimers). length xs) c.as_slice-line-items.ensures.value in
     let past = c.loop-line-test.false in
-    undue c.args.program.now c.args.self.now k n c.args.moment.now is (c.loop-line.invariant.clock k is.until is.set out)
+    undue c.args.program.now of c.args.self.now k n c.args.moment.now is (c.loop-line.invariant.clock k is.until is.set out)
     (c.loop-line.invariant.floors is.line is.timers (omega (arith, within, len, past)) is.found k is.up_to is.waits out)

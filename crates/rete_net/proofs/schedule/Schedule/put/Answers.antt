@@ -1,5 +1,7 @@
 use Rattle.rete_net.proofs.Common.{◌≡◌, ◌∙◌, ◌<◌, sym, ap, refl, subst, Some, slice_get, length, slice_get_within, slice_get-get_or, EntryTimers, Timers, IsSet}
-use Rattle.rete_net.proofs.Scheduling.{kept_beside, scheduled_still}
+use Rattle.condition_node.specs.Lending.{with_candidates}
+use Rattle.rete_net.specs.Schedules.{gate_told}
+use Rattle.rete_net.proofs.Scheduling.{if_some, kept_beside, quiet_sooner, scheduled_still}
 use Rattle.fx_base.proofs.Sequences.{get-set_same, one_value}
 use Rattle.rete_net.proofs.schedule.Schedule.put.Goals as goal
 
@@ -18,10 +20,12 @@ returns-clause-put c timed =
     let line = c.in_ok-line.ensures.line in
     let same : line.0 ≡ c.index_mut.result.now = one_value (slice_get c.line.new.self.floors.items c.in_ok-line.line) line.0 c.index_mut.result.now line.1 (at c) in
     record {
-      until = c.quiet_until.result;
+      until = c.earlier-until.result;
       set = c.in_ok-put.ensures.put;
-      quiet = c.quiet_until.ensures.quiet;
-      gate = c.quiet_until.ensures.gate;
+      quiet = quiet_sooner c.args.program.now c.args.node.now.node c.quiet_until.result c.earlier-until.result (λ clock before. ((c.earlier-until.ensures clock).0 before).1) c.quiet_until.ensures.quiet;
+      lent = λ own. quiet_sooner c.args.program.now (with_candidates own c.args.node.now.node) c.quiet_until.result c.earlier-until.result (λ clock before. ((c.earlier-until.ensures clock).0 before).1)
+          (c.quiet_until.ensures.lent own);
+      gate = if_some (gate_told c.args.sources.now c.args.place c.args.node.now) (λ gate still clock before. still clock ((c.earlier-until.ensures clock).0 before).0) c.gate_until.ensures;
       line = c.in_ok-line.line;
       timers = after c;
       found = get-set_same c.line.new.self.floors.items c.in_ok-line.line (after c) c.index_mut.result.now (at c);
@@ -32,8 +36,8 @@ returns-clause-put c timed =
     }
 
 pub returns-clause-others : goal.returns-clause-others
-returns-clause-others c p k n other was =
-    scheduled_still p c.args.self.now _ k n
+returns-clause-others c p of k n other was =
+    scheduled_still p of c.args.self.now _ k n
     (λ until set. c.in_ok-put.ensures.others k until other (subst (λ (t : Timers). IsSet t k until) (sym c.in_ok-line.ensures.clock) set))
     (λ line timers e.
     kept_beside c.line.new.self.floors.items c.in_ok-line.line k c.index_mut.result.now (after c) (at c) refl (λ up_to set. c.in_ok-put-2.ensures.others k up_to other set)
