@@ -1,7 +1,7 @@
 -- The schedule of the nodes, as one of them is put anew.
 use Rattle.rete_net.proofs.Common.{◌≡◌, ◌∙◌, sym, ap, refl, subst, Bool, ℕ, ℤ, ◌+ℤ◌, pos, List, Option, Some, None, true, false, slice_get, inl, inr, arith, set}
-use Rattle.rete_net.proofs.Common.{ints, IfSome, Row, Moment, Program, snapshot_at, floor, IsBefore, IsQuiet, Node, NetNode, EntryTimers, Schedule, is_changed_by_clock}
-use Rattle.rete_net.proofs.Common.{entry_point_of, AreScheduled, IsScheduled, IsUndue, IsFrom, IsSet, PatternGate}
+use Rattle.rete_net.proofs.Common.{ints, IfSome, Row, Moment, Program, snapshot_at, floor, IsBefore, IsQuiet, Node, NetNode, EntryTimers, Schedule}
+use Rattle.rete_net.proofs.Common.{entry_point_of, IsScheduled, IsUndue, IsFrom, IsSet, PatternGate}
 use Rattle.candidate_source.specs.declared.source.Source.{Source}
 use Rattle.candidate_source.specs.declared.sources.Sources.{Sources}
 use Rattle.candidate_source.specs.Doors.{source_gate}
@@ -67,19 +67,6 @@ scheduled_still p sources old new k n clock lines was =
       waits = line.4 was.up_to was.waits;
       still = was.still;
     }
-
--- ---- all nodes
-
--- where one node is another now, and stands under its moments, all do
-pub scheduled_more : (p : Program) (sources : Sources) (nodes : List NetNode) (place : ℕ) (n new : NetNode) (was is : Schedule) → slice_get nodes place ≡ Some n
-    → (is_changed_by_clock new ≡ true → IsScheduled p sources is place new)
-    → ((p : Program) (of : Sources) (k : ℕ) (m : NetNode) → (k ≡ place → ⊥) → IsScheduled p of was k m → IsScheduled p of is k m) → AreScheduled p sources nodes was → AreScheduled p sources (set nodes place new) is
-scheduled_more p sources nodes place n new was is at here others all k m e timed = elim (equal_or_not k place) [
-  | inl same ↦
-      let there : new ≡ m = one_value (slice_get (set nodes place new) place) new m (get-set_same nodes place new n at) (ap (slice_get (set nodes place new)) (sym same) ∙ e) in
-      subst (λ (i : ℕ). IsScheduled p sources is i m) (sym same) (subst (IsScheduled p sources is place) there (here (subst (λ (x : NetNode). is_changed_by_clock x ≡ true) (sym there) timed)))
-  | inr other ↦ others p sources k m other (all k m (sym (get-set_other nodes place k new other) ∙ e) timed)
-]
 
 -- ---- one node at a moment
 

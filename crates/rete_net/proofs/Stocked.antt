@@ -1,8 +1,8 @@
 -- A load of a node to which a source lends its candidates, out of what both answer.
 use Rattle.rete_net.proofs.Common.{gathered_tallies}
-use Rattle.rete_net.proofs.Common.{◌≡◌, ◌∙◌, sym, ap, refl, subst, ℕ, ℤ, Bool, true, List, Option, Some, None, filter, Fact, Delta, Extra, Named, Row, IsDifference}
-use Rattle.rete_net.proofs.Common.{Condition, Pattern, Moment, Program, IsAt, pattern_of, Snapshot, Look, Candidates, Memories, StandsFor}
-use Rattle.rete_net.proofs.Common.{has_name, has_right, no_names, no_rows, extra_for, empty_snapshot, PatternGate, GateStands, has_good_window, Node, IsLoad, Laden}
+use Rattle.rete_net.proofs.Common.{◌≡◌, ◌∙◌, sym, ap, refl, subst, ℕ, ℤ, Bool, List, Option, Some, None, filter, Fact, Delta, Extra, Named, Row, IsDifference}
+use Rattle.rete_net.proofs.Common.{Condition, Pattern, Moment, Program, IsAt, pattern_of, Snapshot, Look, Candidates, Memories}
+use Rattle.rete_net.proofs.Common.{has_name, no_names, no_rows, extra_for, empty_snapshot, PatternGate, GateStands, Node, IsLoad, Laden}
 use Rattle.rete_net.proofs.Common.{slice_get, Vec, Bor, grouped_facts_at, given_facts, IsSourced, node_rows, condition_of, NodeStands, blocker_tallies, NetNode, is_fact_of_type, NodeLoad, taking}
 use Rattle.join_tests.specs.NameKeys.{name_key}
 use Rattle.fx_base.specs.declared.ids.TypeId.{TypeId}

@@ -63,8 +63,8 @@ impl Rete {
     /// The network of a program over these facts, in the order of their tags, at a moment, whose conditions count and gather beyond the
     /// facts what the extras say, which are ordered by rule, condition and row; and of the rules that have rows then, in their order, these
     /// rows as they come. It stands for every snapshot of which these are the kept facts and the extras. `NoRow`: exactly where the row of
-    /// an extra is none of the conditions before its own. Each fact is asked of the nodes of its type, and each node costs what a step costs
-    /// in which its rows and candidates come, and for each row the logarithm of its extras.
+    /// an extra is none of the conditions before its own. Each fact is asked of the nodes of its type, of those that take and keep candidates
+    /// alike once, and each node costs what a step costs in which its rows and candidates come, and for each row the logarithm of its extras.
     pub fn load<F: Facts>(
         alloc: Global,
         program: &Program,

@@ -1,5 +1,5 @@
-use Rattle.rete_net.proofs.Common.{◌≡◌, ◌∙◌, sym, subst, Bool, Named, Row, List, Delta, IsDifference, Condition, Snapshot, Look, Candidates, Node, NodeStands, IsLoad, Laden}
-use Rattle.rete_net.proofs.Common.{condition_of, node_rows, no_names, no_rows, empty_snapshot, extra_for}
+use Rattle.rete_net.proofs.Common.{sym, subst, IsDifference, Condition, Node, NodeStands, IsLoad, Laden}
+use Rattle.rete_net.proofs.Common.{node_rows, no_names, no_rows, empty_snapshot, extra_for}
 use Rattle.condition_node.specs.Lending.{with_candidates, NodeHas}
 use Rattle.rete_net.proofs.Lent.{as_turned, condition_there, lent_instead}
 use Rattle.rete_net.proofs.node.NetNode.fill_lent.Goals as goal

@@ -1,4 +1,4 @@
-use Rattle.rete_net.proofs.Common.{◌≡◌, ◌∙◌, sym, ap, subst, Err, Option, None, Some, List, condition_of, pattern_of, NoRow}
+use Rattle.rete_net.proofs.Common.{sym, ap, subst, Err, Option, None, Some, condition_of, pattern_of, NoRow}
 use Rattle.candidate_source.specs.declared.source.Source.{Source}
 use Rattle.candidate_source.specs.Lending.{with_source}
 use Rattle.candidate_source.specs.Sources.{source_at}

@@ -1,4 +1,4 @@
-use Rattle.rete_net.proofs.Common.{◌≡◌, ◌∙◌, sym, subst, List, Named, Row, Candidates, NodeStands, Laden, IsDifference, node_rows, condition_of, extra_for}
+use Rattle.rete_net.proofs.Common.{◌∙◌, sym, subst, Candidates, Laden, IsDifference, node_rows, extra_for}
 use Rattle.candidate_source.specs.Doors.{source_candidates}
 use Rattle.condition_node.specs.Lending.{with_candidates, NodeHas}
 use Rattle.rete_net.specs.Lending.{IsFoundAnew}
