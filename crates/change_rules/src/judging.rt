@@ -1,7 +1,7 @@
 //! Whether other rules are taken over a world, or why they are not.
-ghost use Rattle.std.specs.Prelude.{◌≡◌, ◌↔◌, ◌≤◌, ◌^◌, length, IsTrue, IfOk};
+ghost use Rattle.std.specs.Prelude.{◌≡◌, ◌↔◌, ◌≤◌, ◌^◌, length, IsTrue, IfNone, IfOk};
 ghost use Rattle.rule_world.specs.Worlds.{World};
-ghost use Rattle.rule_change.specs.Refused.{IsVerdict, NonePending};
+ghost use Rattle.rule_change.specs.Refused.{HaveEntries, HaveTypes, IsVerdict, NonePending};
 ghost use Rattle.change_rules.specs.Judged.{IsRefusedForLives};
 ghost use Rattle.change_rules.specs.Staying.{place_in};
 
@@ -46,7 +46,8 @@ pub fn verdict(
     requires types { length old.now.types ≤ 2 ^ 16 }
     requires other_types { length new.now.types ≤ 2 ^ 16 }
     requires other_entries { length new.now.entries ≤ 2 ^ 16 }
-    ensures { IfOk result (λ code. (w : World) → (IsTrue none_pending ↔ NonePending old.now (place_in places.now) w)
+    ensures ground { IfOk result (λ code. IfNone code (HaveTypes old.now new.now × HaveEntries old.now new.now)) }
+    ensures verdict { IfOk result (λ code. (w : World) → (IsTrue none_pending ↔ NonePending old.now (place_in places.now) w)
         → IsVerdict old.now new.now (place_in places.now) table.now own.now w code) }
 {
     if !have_types(old, new) {

@@ -148,6 +148,21 @@ fn are_moved<T: Moved>(
     Ok(true)
 }
 
+/// Whether conditions of new rules are these old ones under their new places. It copies each old one.
+pub fn are_moved_conditions(
+    alloc: Global,
+    old: &Program,
+    new: &Program,
+    ours: &[Condition],
+    theirs: &[Condition],
+) -> Result<bool, NoMemory>
+    requires types { length new.now.types ≤ 2 ^ 16 }
+    requires entries { length new.now.entries ≤ 2 ^ 16 }
+    ensures { IfOk result (λ yes. IsTrue yes ↔ (theirs.now ≡ map (moved_condition_of old.now new.now) ours.now)) }
+{
+    are_moved(alloc, old, new, ours, theirs)
+}
+
 /// Whether a new rule is the old one under its new places. It compares names first, and copies conditions only where names and saliences are the same.
 pub(crate) fn is_moved_rule(
     alloc: Global,

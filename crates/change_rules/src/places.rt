@@ -51,7 +51,7 @@ pub(crate) fn type_there<'a>(
 }
 
 /// The place of an entry point of one program in another, by its name. Takes no memory.
-pub(crate) fn entry_there(program: &Program, other: &Program, entry: usize) -> Option<EntryId>
+pub fn entry_there(program: &Program, other: &Program, entry: usize) -> Option<EntryId>
     requires { length other.now.entries ≤ 2 ^ 16 }
     ensures { option_map (λ found. found.0) result ≡ entry_in program.now other.now entry }
 {
@@ -61,7 +61,7 @@ pub(crate) fn entry_there(program: &Program, other: &Program, entry: usize) -> O
 
 /// The new place of a type; 0 where there is none. Takes no memory.
 #[tactic(auto, unfolding(rule_change::specs::Changed::new_type))]
-pub(crate) fn new_type(old: &Program, new: &Program, ty: TypeId) -> TypeId
+pub fn new_type(old: &Program, new: &Program, ty: TypeId) -> TypeId
     requires { length new.now.types ≤ 2 ^ 16 }
     ensures { result.0 ≡ new_type_of old.now new.now ty.0 }
 {
@@ -73,7 +73,7 @@ pub(crate) fn new_type(old: &Program, new: &Program, ty: TypeId) -> TypeId
 
 /// The new place of an entry point; 0 where there is none. Takes no memory.
 #[tactic(auto, unfolding(rule_change::specs::Changed::new_entry))]
-pub(crate) fn new_entry(old: &Program, new: &Program, entry: EntryId) -> EntryId
+pub fn new_entry(old: &Program, new: &Program, entry: EntryId) -> EntryId
     requires { length new.now.entries ≤ 2 ^ 16 }
     ensures { result.0 ≡ new_entry_of old.now new.now entry.0 }
 {

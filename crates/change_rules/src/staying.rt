@@ -10,8 +10,8 @@ use fx_base::NoMemory;
 use rule_model::{Program, Rule};
 use std::alloc::Global;
 
-// Whether an old rule was taken.
-fn is_taken(places: &[Option<usize>], old: usize) -> bool
+/// Whether an old rule stays as one of these. Takes no memory.
+pub fn is_taken(places: &[Option<usize>], old: usize) -> bool
     ensures { result ≡ list_any (is_place old) places.now }
 {
     for place in places {

@@ -23,10 +23,16 @@ use Rattle.image_change.proofs.Kept.{IsTaken, behind, forgotten_same, still_safe
 use Rattle.image_change.proofs.Lists.{sorted_mapped}
 use Rattle.image_change.proofs.Matched.{of_laden, to_laden}
 use Rattle.image_change.proofs.Owners.{owners}
-use Rattle.image_change.specs.Images.{ChangedFits, ChangedIsImage}
+use Rattle.image_change.proofs.Common.{AreOwners, IsLadenMatch, Rule, rows_of, slice_get, take}
+use Rattle.change_read.proofs.Places.{some_is}
+use Rattle.image_laws.specs.Images.{fired_cmp}
+use Rattle.laden_rows.proofs.Rows.{laden_rows}
+use Rattle.laden_rows.specs.Laden.{laden}
+use Rattle.row_delta.specs.declared.extra.Extra.{Extra}
+use Rattle.image_change.specs.Images.{ChangedFits, ChangedIsImage, IsMovedImage}
 
 module _ (p q : Program) (from : ℕ → Option ℕ) (table own : LifeTable) (w : World) (t : IsTaken p q from table own w) (image made : Image) (is : IsImageOf p table w image)
-    (c : IsChangedImage p q from image made) where
+    (c : IsMovedImage p q image made) where
   abbrev next : World
   next = changed p q from w
 
@@ -134,51 +140,78 @@ module _ (p q : Program) (from : ℕ → Option ℕ) (table own : LifeTable) (w 
   unfolding changed
   has_marked m = filtered (is_marked from w.fired) m (matches q (snapshot next))
 
-  fired : (m : Match) → has_fired made m ≡ (has_match next.fired m && clean forgotten m.row)
-  fired m = same_test _ _ to back
-    where
-      tags : HaveDistinctTags next.facts
-      tags = (behind p q from table own w t).0.ordered.tags
+  -- the rows of what is counted are there
+  pub rows_there : (owners : ℕ → ℕ → ℕ) → AreOwners q owners → (e : Extra) → In e made.extras → (rule : Rule) → slice_get q.rules e.rule.0 ≡ Some rule
+      → laden q (snapshot_of made) made.extras (owners e.rule.0) rule.conditions e.condition e.row ≡ true
+  rows_there owners owned e i rule stands =
+      let x = (are_extras.exact e).0 i in
+      let same : x.rule ≡ rule = some_is (sym x.stands ∙ stands) in
+      laden_rows q (snapshot next) (snapshot_of made) forgotten made.extras owners (behind p q from table own w t).0.ordered.tags kept_of are_extras owned e.rule.0 rule stands e.condition e.row
+      ∙ and_from (rows_of q (snapshot next) (take e.condition rule.conditions) e.row) (clean forgotten e.row)
+      (ap (λ (r : Rule). rows_of q (snapshot next) (take e.condition r.conditions) e.row) (sym same) ∙ x.there) x.kept
 
-      to : has_fired made m ≡ true → (has_match next.fired m && clean forgotten m.row) ≡ true
-      to e =
-          let o = owners q in
-          let parts = (c.fired o.0 o.1 m).0 e in
-          let match = of_laden q (snapshot next) forgotten made o.0 tags kept_of are_extras o.1 m parts.0 in
-          and_from (has_match next.fired m) (clean forgotten m.row)
-          (has_marked m ∙ and_from (has_match (matches q (snapshot next)) m) (is_marked from w.fired m) match.0 (marked_on m (from m.rule.0) parts.1)) match.1
+  module _ (in_order : IsStrictlySortedBy fired_cmp made.fired)
+      (fires : (owners : ℕ → ℕ → ℕ) → AreOwners q owners → (m : Match)
+      → (has_fired made m ≡ true) ↔ (IsLadenMatch q made owners m.rule.0 m.row × (is_marked from (map match_fired image.fired) m ≡ true))) where
+    fired : (m : Match) → has_fired made m ≡ (has_match next.fired m && clean forgotten m.row)
+    fired m = same_test _ _ to back
+      where
+        tags : HaveDistinctTags next.facts
+        tags = (behind p q from table own w t).0.ordered.tags
 
-      back : (has_match next.fired m && clean forgotten m.row) ≡ true → has_fired made m ≡ true
-      back e =
-          let o = owners q in
-          let parts = and_parts (has_match next.fired m) (clean forgotten m.row) e in
-          let match = and_parts (has_match (matches q (snapshot next)) m) (is_marked from w.fired m) (sym (has_marked m) ∙ parts.0) in
-          (c.fired o.0 o.1 m).1 (
-            to_laden q (snapshot next) forgotten made o.0 tags kept_of are_extras o.1 m match.0 parts.1,
-            marked_back m (from m.rule.0) (sym (clean_same p q from table own w t m.row) ∙ parts.1) match.1,
-          )
+        to : has_fired made m ≡ true → (has_match next.fired m && clean forgotten m.row) ≡ true
+        to e =
+            let o = owners q in
+            let parts = (fires o.0 o.1 m).0 e in
+            let match = of_laden q (snapshot next) forgotten made o.0 tags kept_of are_extras o.1 m parts.0 in
+            and_from (has_match next.fired m) (clean forgotten m.row)
+            (has_marked m ∙ and_from (has_match (matches q (snapshot next)) m) (is_marked from w.fired m) match.0 (marked_on m (from m.rule.0) parts.1)) match.1
 
-  pub is_image : IsImageOf q goes_on next made
-  is_image = record {
-    clock = c.clock ∙ is.clock ∙ sym (behind p q from table own w t).1.clock;
-    begun = c.begun ∙ is.begun ∙ sym (behind p q from table own w t).1.begun;
-    last_starts = last_starts;
-    promises = promises;
-    next_id = c.next_id ∙ is.next_id ∙ sym (behind p q from table own w t).1.next_id;
-    next_tag = c.next_tag ∙ is.next_tag ∙ sym (behind p q from table own w t).1.next_tag;
-    facts_in_order = facts_in_order;
-    facts = kept_facts;
-    fired_in_order = c.fired_in_order;
-    fired = fired;
-    extras = are_extras;
-  }
+        back : (has_match next.fired m && clean forgotten m.row) ≡ true → has_fired made m ≡ true
+        back e =
+            let o = owners q in
+            let parts = and_parts (has_match next.fired m) (clean forgotten m.row) e in
+            let match = and_parts (has_match (matches q (snapshot next)) m) (is_marked from w.fired m) (sym (has_marked m) ∙ parts.0) in
+            (fires o.0 o.1 m).1 (
+              to_laden q (snapshot next) forgotten made o.0 tags kept_of are_extras o.1 m match.0 parts.1,
+              marked_back m (from m.rule.0) (sym (clean_same p q from table own w t m.row) ∙ parts.1) match.1,
+            )
+
+    pub is_image : IsImageOf q goes_on next made
+    is_image = record {
+      clock = c.clock ∙ is.clock ∙ sym (behind p q from table own w t).1.clock;
+      begun = c.begun ∙ is.begun ∙ sym (behind p q from table own w t).1.begun;
+      last_starts = last_starts;
+      promises = promises;
+      next_id = c.next_id ∙ is.next_id ∙ sym (behind p q from table own w t).1.next_id;
+      next_tag = c.next_tag ∙ is.next_tag ∙ sym (behind p q from table own w t).1.next_tag;
+      facts_in_order = facts_in_order;
+      facts = kept_facts;
+      fired_in_order = in_order;
+      fired = fired;
+      extras = are_extras;
+    }
+
+moved_of : (p q : Program) (from : ℕ → Option ℕ) (image made : Image) → IsChangedImage p q from image made → IsMovedImage p q image made
+moved_of p q from image made c = record {
+  clock = c.clock;
+  begun = c.begun;
+  last_starts = c.last_starts;
+  promises = c.promises;
+  next_id = c.next_id;
+  next_tag = c.next_tag;
+  facts = c.facts;
+  extras_in_order = c.extras_in_order;
+  extras = c.extras;
+}
 
 pub changed_is_image : ChangedIsImage
 changed_is_image p q from table own w image made over lawful safe lives short verdict is c =
-    is_image p q from table own w (record { over = over; lawful = lawful; safe = safe; lives = lives; short = short; verdict = verdict }) image made is c
+    is_image p q from table own w (record { over = over; lawful = lawful; safe = safe; lives = lives; short = short; verdict = verdict }) image made is (moved_of p q from image made c)
+    c.fired_in_order c.fired
 
 pub changed_fits : ChangedFits
 changed_fits p q from table own w image made over lawful safe lives short verdict is c ids tags lines firings =
     let t : IsTaken p q from table own w = record { over = over; lawful = lawful; safe = safe; lives = lives; short = short; verdict = verdict } in
     image_fits q (carried p q table own) (changed p q from w) made (still_safe p q from table own w t).safe (behind p q from table own w t).0
-    (is_image p q from table own w t image made is c) (subst IsNextNumber (sym c.next_id) ids) (subst IsNextNumber (sym c.next_tag) tags) lines firings
+    (is_image p q from table own w t image made is (moved_of p q from image made c) c.fired_in_order c.fired) (subst IsNextNumber (sym c.next_id) ids) (subst IsNextNumber (sym c.next_tag) tags) lines firings

@@ -50,6 +50,18 @@ pub record IsChangedImage (p q : Program) (from : ℕ → Option ℕ) (image mad
   pub extras_in_order : IsStrictlySortedBy extra_cmp made.extras
   pub extras : (e : Extra) → In e made.extras ↔ IsMovedExtra p q image e
 
+-- The same, but for what was fired.
+pub record IsMovedImage (p q : Program) (image made : Image) : Type 0 where
+  pub clock : made.clock ≡ image.clock
+  pub begun : made.begun ≡ image.begun
+  pub last_starts : AreMoments (λ entry. moment_or_zero (moment_in image.last_starts) (entry_in q p entry)) (length q.entries) made.last_starts
+  pub promises : AreMoments (λ entry. moment_or_zero (moment_in image.promises) (entry_in q p entry)) (length q.entries) made.promises
+  pub next_id : made.next_id ≡ image.next_id
+  pub next_tag : made.next_tag ≡ image.next_tag
+  pub facts : made.facts ≡ map (moved_fact p q) image.facts
+  pub extras_in_order : IsStrictlySortedBy extra_cmp made.extras
+  pub extras : (e : Extra) → In e made.extras ↔ IsMovedExtra p q image e
+
 -- ---- what holds
 
 -- of each lawful world of which the image is, the changed one is the image of the world under the new rules, with the carried lives

@@ -1,0 +1,12 @@
+pub mod Adding
+pub mod Held
+pub mod Coming
+pub mod Loadable
+pub mod Firsts
+pub mod Marking
+pub mod Apart
+pub mod Going
+pub mod Behind
+pub mod Made
+pub mod Taken
+pub mod Missing

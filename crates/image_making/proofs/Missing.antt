@@ -1,0 +1,30 @@
+-- No extra of a changed image is without its row.
+use Rattle.std.proofs.Common.{None, Option, false, sym, true, ℕ, ◌∙◌, ◌≡◌}
+use Rattle.checkpoint.specs.declared.image.Image.{Image}
+use Rattle.fx_base.specs.Lists.{In}
+use Rattle.image_change.proofs.Changed.{rows_there}
+use Rattle.image_change.proofs.Kept.{IsTaken}
+use Rattle.image_change.proofs.Owners.{owners}
+use Rattle.image_change.specs.Images.{IsMovedImage}
+use Rattle.image_laws.specs.Images.{snapshot_of}
+use Rattle.laden_rows.specs.Laden.{AreOwners}
+use Rattle.rete_net.specs.Loading.{IsThere}
+use Rattle.row_delta.specs.declared.extra.Extra.{Extra}
+use Rattle.rule_change.specs.Alike.{AreOver}
+use Rattle.rule_change.specs.Refused.{IsVerdict}
+use Rattle.rule_lives.specs.Keeping.{AreLives}
+use Rattle.rule_model.specs.Lives.{AreShort}
+use Rattle.rule_model.specs.declared.life.LifeTable.{LifeTable}
+use Rattle.rule_model.specs.declared.program.Program.{Program}
+use Rattle.rule_world.specs.Worlds.{World}
+use Rattle.image_making.specs.Change.{IsWorldOf}
+
+pub none_missing : (p q : Program) (from : ℕ → Option ℕ) (image made : Image) → AreOver p q from → IsMovedImage p q image made
+    → ((owners : ℕ → ℕ → ℕ) → AreOwners q owners → (e : Extra) × In e made.extras × IsThere q (snapshot_of made) made.extras owners e false)
+    → (table own : LifeTable) (w : World) → IsWorldOf p table image w → AreLives q own → AreShort own → IsVerdict p q from table own w None → ⊥
+none_missing p q from image made over moved missing table own w of lives short verdict =
+    let o = owners q in
+    let r = missing o.0 o.1 in
+    let x = (moved.extras r.0).0 r.1 in
+    let t : IsTaken p q from table own w = record { over = over; lawful = of.lawful; safe = of.safe; lives = lives; short = short; verdict = verdict } in
+    let torn : true ≡ false = sym (rows_there p q from table own w t image made of.is moved o.0 o.1 r.0 r.1 x.rule x.stands) ∙ r.2 x.rule x.stands in cc

@@ -1,0 +1,8 @@
+use Rattle.std.proofs.Common.{Some, take, ◌≡◌}
+use Rattle.fx_base.specs.Lists.{In}
+use Rattle.fx_base.specs.declared.fact.Fact.{Fact}
+use Rattle.image_making.specs.AtHand.{fact_in}
+use Rattle.image_making.proofs.at_hand.AtHand.of.Given as goal
+
+abbrev pub invariant-loop-fact : goal.invariant-loop-fact
+invariant-loop-fact l = (f : Fact) → In f (take l.fact-index l.facts) → fact_in l.by_tag f.tag ≡ Some f

@@ -1,0 +1,10 @@
+use Rattle.std.proofs.Common.{◌&&◌, ◌==◌, ◌||◌, ◌≡◌}
+use Rattle.row_delta.specs.Rows.{has}
+use Rattle.rule_model.specs.declared.matched.Match.{Match}
+use Rattle.rule_model.specs.Matches.{has_match}
+use Rattle.image_making.proofs.laden.add_matches.Given as goal
+
+abbrev pub invariant-loop-row : goal.invariant-loop-row
+invariant-loop-row l =
+    (m : Match) → (has_match l.matches.keys m || (l.rule.0 == m.rule.0 && has l.row-iterator.rest.items m.row))
+    ≡ (has_match l.fn.matches.keys m || (l.rule.0 == m.rule.0 && has l.fn.rows.items m.row))

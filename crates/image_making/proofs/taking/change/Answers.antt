@@ -1,0 +1,21 @@
+use Rattle.std.proofs.Common.{Option, refl, subst}
+use Rattle.std.specs.Prelude.{IfNone}
+use Rattle.change_rules.specs.Staying.{place_in}
+use Rattle.rule_change.specs.declared.code.ChangeCode.{ChangeCode}
+use Rattle.rule_change.specs.Refused.{HaveEntries, HaveTypes}
+use Rattle.image_making.proofs.Taken.{are_over, taken_over}
+use Rattle.image_making.specs.Change.{IsVerdictOf}
+use Rattle.image_making.proofs.taking.change.Goals as goal
+
+pub returns-in_ok-carried-in-None-clause-taken : goal.returns-in_ok-carried-in-None-clause-taken
+returns-in_ok-carried-in-None-clause-taken c =
+    let p = c.args.old.now in
+    let q = c.args.new.now in
+    let from = place_in c.args.places.now in
+    let kept = c.args.lives.now.kept.now in
+    let own = c.args.lives.now.own.now in
+    let ground : HaveTypes p q × HaveEntries p q = subst (λ (code : Option ChangeCode). IfNone code (HaveTypes p q × HaveEntries p q)) c.in-None.is c.in_ok-code.ensures.ground in
+    taken_over c.the_changed_image_is_of_the_changed_world.ensures c.the_changed_image_fits.ensures p q from kept own c.args.image c.in_ok-made-in-None.made c.in_ok-carried-in-None.carried
+    (are_over p q from c.requires.rules ground.0 ground.1)
+    (subst (λ (code : Option ChangeCode). IsVerdictOf p q from kept own c.args.image code) c.in-None.is c.in_ok-code.ensures.verdict)
+    c.in_ok-made-in-None.ensures.changed c.in_ok-carried-in-None.ensures (record c.args.image.run { rules = c.args.text }) refl refl c.in_ok-made-in-None.ensures.run
