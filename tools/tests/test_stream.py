@@ -10,7 +10,9 @@ import tempfile
 import time
 import unittest
 from collections import Counter
+from contextlib import redirect_stderr
 from dataclasses import dataclass
+from io import BytesIO, StringIO
 from pathlib import Path
 from typing import Callable, Optional, Sequence
 from unittest import mock
@@ -22,21 +24,25 @@ from sozhipen_tools.reference.desk import desk_at_start
 from sozhipen_tools.reference.images.resume import saved
 from sozhipen_tools.reference.meaning.program import Program
 from sozhipen_tools.reference.meaning.run import program_or_refusal
+from sozhipen_tools.reference.meaning.script import BadJson, json_of
 from sozhipen_tools.stream import load
 from sozhipen_tools.stream.address import address_of
 from sozhipen_tools.stream.answered import Answered, differences_of_all, firings, lines_of_partitions, one_run, planted
-from sozhipen_tools.stream.broker import (NOTHING, Broker, Entry, MemoryBroker, State, Unreachable, answers_of,
+from sozhipen_tools.stream.broker import (NOTHING, Broker, Entry, Lost, MemoryBroker, State, Unreachable, answers_of,
                                           script_of, state_of, until_reached)
 from sozhipen_tools.stream.brokers import KINDS
 from sozhipen_tools.stream.collect import collected, last_of_all
 from sozhipen_tools.stream.engine import Engine, Interrupted, Stopped
 from sozhipen_tools.stream.entries import Numbered, data_of, lines_in
-from sozhipen_tools.stream.jetstream_broker import PIECE, JetStreamBroker
+from sozhipen_tools.stream.jetstream_broker import NO_STREAM, PIECE, JetStreamBroker, api
 from sozhipen_tools.stream.look import found_in
 from sozhipen_tools.stream.processes import Server
-from sozhipen_tools.stream.router import Mixed, Router, Routes
+from sozhipen_tools.stream.quick import quick_json_of
+from sozhipen_tools.stream.redis_broker import RedisBroker
+from sozhipen_tools.stream.router import Router, TooShort, lines_as_they_come, routed_all
+from sozhipen_tools.stream.routes import ROUTES, Mixed, Routes, partitions_of
 from sozhipen_tools.stream.trim import trim
-from sozhipen_tools.stream.worker import Lost, Worker, work
+from sozhipen_tools.stream.worker import Worker, work
 
 PARTITIONS = 3
 HAS = {name: kind.server() is not None for name, kind in KINDS.items()}
@@ -113,17 +119,32 @@ class Meanwhile(MemoryBroker):
         return found
 
 
-def route_all(broker: Broker, script: list[bytes], most: int = 7, flush: int = 10) -> None:
-    """Routes a script from its first line, as a router that was begun again does."""
-    routes, router = Routes(PROGRAM, "card", PARTITIONS), Router(broker, PARTITIONS, most)
-    for number, line in enumerate(script):
-        router.take(routes.route(line))
-        if number % flush == 0:
+def route_all(broker: Broker, script: list[bytes], goes_on: bool = False, most: int = 7) -> None:
+    """Routes a script as a router that was begun again does: from its first line, or behind the lines taken."""
+    routes = Routes(PROGRAM, "card", PARTITIONS)
+    routes.begin(broker, goes_on)
+    router = Router(broker, routes, most)
+    for number, line in enumerate(script[routes.number:]):
+        router.take(line)
+        if number % 10 == 0:
             router.flush()
-    router.flush()
+        if number % 30 == 0:
+            router.save()
+    router.save()
 
 
-def answer_all(broker: Broker, engine: Engine, holder: str, most: int = 3) -> None:
+def lose(broker: Broker, name: str) -> None:
+    """Takes a value away, as no tool does."""
+    if isinstance(broker, MemoryBroker):
+        broker.states.pop(name, None)
+    elif isinstance(broker, RedisBroker):
+        broker.ask("DEL", name)
+    elif isinstance(broker, JetStreamBroker):
+        broker.ask(api("DELETE", name), NO_STREAM)
+        broker.close()
+
+
+def answer_all(broker: Broker, engine: Engine, holder: str, most: int = 15) -> None:
     worker = Worker(broker, engine, holder, lease=1, most=most)
     while not worker.is_done(PARTITIONS):
         worker.round(PARTITIONS)
@@ -164,9 +185,48 @@ class Brokers(unittest.TestCase):
         while not broker.lease("lease", "a", 600_000):
             time.sleep(0.01)
         self.assertFalse(broker.lease("lease", "b", 50))
+        self.check_lost_images(broker)
+
+    def check_lost_images(self, broker: Broker) -> None:
+        """A worker answers nothing where an image was lost, or an older one is there, and lines behind that are gone."""
+        script, worker = load.script(200, 3), Worker(broker, EVALUATOR, "a", most=8)
+        route_all(broker, script)
+        worker.answer(0)
+        older = broker.state(state_of(0))
+        for _ in range(5):
+            worker.answer(0)
+        newest, answered = broker.state(state_of(0)), broker.last(answers_of(0))
+        trim(broker, 0, 0)
+        for there in (NOTHING, older):
+            lose(broker, state_of(0))
+            if there != NOTHING:
+                broker.keep(state_of(0), there)
+            with self.assertRaisesRegex(Lost, rf"image of partition 0.* behind {there.offset} up to \d+ are no longer"):
+                worker.turn(0)
+            self.assertEqual((broker.last(answers_of(0)), broker.offset(state_of(0))), (answered, there.offset))
+            self.assertTrue(broker.lease("lease{0}", "other", 1))
+            broker.release("lease{0}", "other")
+        broker.keep(state_of(0), newest)
+        answer_all(broker, EVALUATOR, "a")
+        runs = [one_run(EVALUATOR, part) for part in lines_of_partitions(script, Routes(PROGRAM, "card", PARTITIONS))]
+        self.assertEqual(differences_of_all(broker, runs), [])
 
     def test_memory(self) -> None:
         self.check(MemoryBroker())
+
+    def test_away(self) -> None:
+        """A broker that does not answer for long is told, once each time."""
+        asked = iter([Unreachable("gone")] * 4 + [1])
+
+        def ask() -> int:
+            found = next(asked)
+            if isinstance(found, Unreachable):
+                raise found
+            return found
+
+        with mock.patch.multiple("sozhipen_tools.stream.broker", LONG_SECONDS=0.1), redirect_stderr(StringIO()) as told:
+            self.assertEqual(until_reached(ask), 1)
+        self.assertEqual(told.getvalue(), "waiting for the broker: gone\n")
 
     def test_addresses(self) -> None:
         self.assertEqual(address_of("6380"), ("127.0.0.1", 6380))
@@ -206,8 +266,11 @@ class Brokers(unittest.TestCase):
         self.assertEqual((broker.last("long"), broker.read("long", 0, 99)), (45, entries))
         for number, kept in ((0, entries), (20, entries[3:]), (21, entries[4:]), (99, entries[-1:])):
             broker.trim("long", number)
-            self.assertLessEqual({*kept}, {*broker.read("long", 0, 99)})
+            self.assertLessEqual({*kept}, {*broker.read("long", kept[0].number - 1, 99)})
         self.assertEqual(broker.last("long"), 45)
+        for behind, most in ((0, 1), (4, 99), (39, 1)):
+            with self.assertRaisesRegex(Lost, f"long: lines behind {behind} up to 40 are no longer there"):
+                broker.read("long", behind, most)
         self.assertEqual(broker.read("long", 40, 9), entries[-1:])
         for offset in (7, 8):
             self.assertTrue(broker.keep("image", State(offset, bytes([offset]) * 2_000_000)))
@@ -258,11 +321,31 @@ class Routing(unittest.TestCase):
         event, table = load.withdrawal(random.Random(1), 0), b'{"do":"insert","type":"Most","fields":{}}'
         everybody = list(range(PARTITIONS))
         retract = b'{"do":"retract","type":"Most","id":1}'
-        found = self.routed(table, retract, event, event, retract, b"", b"x", b'{"do":"held"}')
+        found = self.routed(table, retract, event, event, retract, b"", b"x", b'{"do":"held"}', b'{"do":"facts"}')
         self.assertEqual([partitions for _, partitions in found[:2]], [everybody] * 2)
         self.assertEqual(found[2], found[3])
         self.assertEqual(len(found[2][1]), 1)
-        self.assertEqual([partitions for _, partitions in found[4:]], [[], [0], [0], everybody])
+        self.assertEqual([partitions for _, partitions in found[4:]], [[], [0], [0], everybody, everybody])
+
+    def test_readings(self) -> None:
+        """The quick reader reads as the second evaluator's does."""
+        def read(reader: Callable[[bytes], object], line: bytes) -> str:
+            try:
+                return repr(reader(line))
+            except BadJson:
+                return "no reading"
+
+        draw = random.Random(1)
+        pieces = [b"{", b"}", b"[", b"]", b",", b":", b'"', b'"do"', b'"a"', b"0", b"-0", b"12", b"-7", b"01", b"1.5",
+                  b"1e400", b"9" * 19, b"9" * 400, b"-9223372036854775808", b"null", b"true", b"NaN", b"-Infinity",
+                  b"\\u00e9", b"\\ud800", b"\\n", b"\t", b"\0", b" ", b"\xc3\xa9", b"\xff", b"\xef\xbb\xbf"]
+        lines = [b"[" * many + b"]" * many for many in (126, 127, 128, 2000)]
+        pairs = [b'{"a":%s,"a":["",%s]}' % (one, other) for one in pieces for other in pieces]
+        for line in load.script(200, 1) + pairs:
+            at = draw.randrange(len(line) + 1)
+            lines += [line, line[:at], line[:at] + draw.choice(pieces) + line[at:], line[:at] + line[at + 1:]]
+        for line in lines:
+            self.assertEqual(read(quick_json_of, line), read(json_of, line), line)
 
     def event(self, at: int, entry: str = "ATM", cents: object = 5) -> bytes:
         fields = {"at": at, "card": "c1", "place": "harbour", "cents": cents}
@@ -286,12 +369,100 @@ class Routing(unittest.TestCase):
 
     def test_two_routers_do_not_mix(self) -> None:
         broker = MemoryBroker()
-        routers = [Router(broker, 1, 10) for _ in range(2)]
-        for number, router in enumerate(routers, 1):
-            router.take(Routes(PROGRAM, "card", 1).route(b'{"do":"held"}')._replace(number=number))
+        routers = [Router(broker, Routes(PROGRAM, "card", 1), 10) for _ in range(2)]
+        for many, router in enumerate(routers, 1):
+            for _ in range(many):
+                router.take(b'{"do":"held"}')
         routers[0].flush()
         with self.assertRaises(Mixed):
             routers[1].flush()
+
+    def test_one_split(self) -> None:
+        broker = MemoryBroker()
+        self.assertEqual(partitions_of(broker), 0)
+        route_all(broker, load.script(30, 1))
+        self.assertEqual(partitions_of(broker), PARTITIONS)
+        for key, partitions in (("place", PARTITIONS), ("card", PARTITIONS + 1)):
+            with self.assertRaises(Mixed):
+                Routes(PROGRAM, key, partitions).begin(broker, False)
+
+    def test_behind_the_lines_taken(self) -> None:
+        """All that a router knows goes over to the next one, at each line."""
+        script = [*load.script(60, 3), b'{"do":"promise","entry":"ATM","from":1}',
+                  b'{"do":"retract","type":"Most","id":1}']
+        broker, routes = MemoryBroker(), Routes(PROGRAM, "card", PARTITIONS)
+        routes.begin(broker, True)
+        whole = Routes(PROGRAM, "card", PARTITIONS)
+        for line in script:
+            router = Router(broker, routes, 100)
+            self.assertEqual(router.take(line), whole.route(line))
+            router.save()
+            routes = Routes(PROGRAM, "card", PARTITIONS)
+            routes.begin(broker, True)
+        self.assertEqual([broker.last(script_of(partition)) for partition in range(PARTITIONS)], [len(script) - 1] * 3)
+
+    def test_lines_that_the_broker_lost(self) -> None:
+        """A router does not go on behind lines that are gone; with the whole script it puts them again."""
+        broker, script = MemoryBroker(), load.script(60, 3)
+        route_all(broker, script)
+        whole = broker.read(script_of(1), 0, 1000)
+        del broker.logs[script_of(1)][-2:]
+        with self.assertRaises(Lost):
+            route_all(broker, script, goes_on=True)
+        route_all(broker, script)
+        self.assertEqual([line for entry in broker.read(script_of(1), 0, 1000) for line in lines_in(entry.data)],
+                         [line for entry in whole for line in lines_in(entry.data)])
+
+    def test_lines_in_an_image_that_the_broker_lost(self) -> None:
+        """They are put again, in other entries; a worker tells that they lack, and answers none twice."""
+        broker, script = MemoryBroker(), load.script(120, 3)
+        worker = Worker(broker, EVALUATOR, "a")
+        for most, cut in ((7, 3), (11, 2), (3, 5), (7, 0)):
+            many = len(script) * (25 - cut) // 25
+            route_all(broker, script[:many], most=most)
+            answer_all(broker, EVALUATOR, "a", most=20)
+            if cut:
+                for partition in range(PARTITIONS):
+                    del broker.logs[script_of(partition)][-cut:]
+                lose(broker, state_of(1))
+                with redirect_stderr(StringIO()) as told:
+                    self.assertEqual(worker.waiting(PARTITIONS), [])
+                self.assertEqual(told.getvalue().count("worker: partition"), PARTITIONS if most == 7 else 0)
+        runs = [one_run(EVALUATOR, part) for part in lines_of_partitions(script, Routes(PROGRAM, "card", PARTITIONS))]
+        self.assertEqual(differences_of_all(broker, runs), [])
+
+    def test_a_script_that_is_too_short(self) -> None:
+        """A router tells it, and keeps nothing that it took from there."""
+        def route(lines: list[bytes], goes_on: bool = False) -> None:
+            routes = Routes(PROGRAM, "card", PARTITIONS)
+            routes.begin(broker, goes_on)
+            routed_all(BytesIO(b"".join(line + b"\n" for line in lines)), Router(broker, routes, 7), goes_on)
+
+        broker, script = MemoryBroker(), load.script(60, 3)
+        route(script[:20])
+        kept = broker.state(ROUTES)
+        with mock.patch.object(broker, "keep"):
+            route(script)
+        for lines, goes_on in ((script[:30], False), ([], False), (script[20:30], True)):
+            with self.assertRaisesRegex(TooShort, f"ends with line .*, and the logs have lines up to {len(script)}"):
+                route(lines, goes_on)
+            self.assertEqual(broker.state(ROUTES), kept)
+        for other in (script[:30] + [b""] * len(script), script[:-1] + [b"", b""]):
+            with self.assertRaises(Mixed):
+                route(other)
+        route([], True)
+        route(script[20:], True)
+        self.assertEqual(broker.offset(ROUTES), len(script) + 1)
+
+    def test_a_last_line_without_its_newline(self) -> None:
+        def lines_in_file(data: bytes) -> list[bytes]:
+            return [line for lines in lines_as_they_come(BytesIO(data)) for line in lines]
+
+        self.assertEqual(lines_in_file(b'x\n{"do":"fire"}'), [b"x", b'{"do":"fire"}'])
+        self.assertEqual(lines_in_file(b"x\n"), [b"x"])
+        with redirect_stderr(StringIO()) as told:
+            self.assertEqual(lines_in_file(b'x\n{"do":"fire"'), [b"x"])
+        self.assertIn("is not routed", told.getvalue())
 
     def test_another_script(self) -> None:
         broker, script = MemoryBroker(), load.script(30, 1)
@@ -333,20 +504,55 @@ class Engines(unittest.TestCase):
         with self.assertRaises(Lost):
             Worker(broker, EVALUATOR, "a").turn(0)
 
+    def test_the_entries_of_a_turn(self) -> None:
+        broker, entries = MemoryBroker(), [Entry(number, b"%d x\n" % number * 3) for number in range(1, 200)]
+        broker.append(script_of(0), 0, entries)
+        for most, end in ((1, 6), (3, 6), (4, 7), (450, 155), (5000, 199)):
+            self.assertEqual(Worker(broker, EVALUATOR, "a", most=most).entries(0, 5), entries[5:end])
+
+    def test_which_partition_comes_next(self) -> None:
+        """The one furthest behind; but one whose desk was interrupted comes last, once."""
+        broker = MemoryBroker()
+        worker = Worker(broker, self.engine("exit 7"), "a")
+        for partition, answered in ((0, 5), (1, 7), (2, 3), (3, 9)):
+            broker.append(script_of(partition), 0, [Entry(9, b"9 x\n")])
+            broker.append(answers_of(partition), 0, [Entry(answered, b"")])
+        self.assertEqual(worker.waiting(4), [2, 0, 1])
+        with self.assertRaises(Interrupted):
+            worker.turn(2)
+        self.assertEqual([worker.waiting(4) for _ in range(2)], [[0, 1, 2], [2, 0, 1]])
+
     def test_an_end(self) -> None:
         """A worker that is to end gives its lease back, and begins no further turn."""
         broker = MemoryBroker()
         route_all(broker, load.script(60, 3))
         worker = Worker(broker, EVALUATOR, "a", most=1)
         with mock.patch.object(worker, "answer", worker.end):
-            work(worker, PARTITIONS, False)
+            work(worker, False)
         self.assertEqual(broker.leases, {})
+
+    def test_a_turn_that_is_longer_than_its_lease(self) -> None:
+        """The lease is renewed while a desk works, also where the broker is away meanwhile."""
+        broker, seen = MemoryBroker(), []
+        route_all(broker, load.script(60, 3))
+        worker = Worker(broker, self.engine("sleep 1; exit 3"), "slow", lease=300)
+
+        def renew(partition: int) -> None:
+            Worker.renew(worker, partition)
+            seen.append(broker.lease("lease{0}", "other", 300))
+
+        with mock.patch.object(worker, "renew", renew), self.assertRaises(Stopped):
+            worker.turn(0)
+        self.assertGreater(len(seen), 3)
+        self.assertFalse(any(seen))
+        with mock.patch.object(broker, "lease", side_effect=Unreachable):
+            worker.renew(0)
 
     def test_lines_that_were_taken_away(self) -> None:
         """A worker that is behind the image of another one does nothing, and what is in an image may go."""
         broker, script = Meanwhile(), load.script(60, 3)
         route_all(broker, script)
-        behind, fast = Worker(broker, EVALUATOR, "behind", most=2), Worker(broker, EVALUATOR, "fast", most=3)
+        behind, fast = Worker(broker, EVALUATOR, "behind", most=8), Worker(broker, EVALUATOR, "fast", most=15)
         fast.answer(0)
         offset = broker.offset(state_of(0))
 
@@ -357,7 +563,7 @@ class Engines(unittest.TestCase):
         broker.then = further
         behind.answer(0)
         self.assertGreater(broker.offset(state_of(0)), offset)
-        self.assertEqual(broker.read(script_of(0), 0, 1)[0].number, broker.offset(state_of(0)))
+        self.assertEqual(broker.logs[script_of(0)][0].entry.number, broker.offset(state_of(0)))
         self.assertEqual(broker.last(answers_of(0)), broker.offset(state_of(0)))
         answer_all(broker, EVALUATOR, "a")
         run = one_run(EVALUATOR, lines_of_partitions(script, Routes(PROGRAM, "card", PARTITIONS))[0])
@@ -376,8 +582,8 @@ class Kills(unittest.TestCase):
     script: list[bytes]
     runs: list[list[Answered]]
 
-    def stream(self, broker: Broker) -> None:
-        again(lambda: route_all(broker, self.script))
+    def stream(self, broker: Broker, goes_on: bool = False) -> None:
+        again(lambda: route_all(broker, self.script, goes_on))
         again(lambda: answer_all(broker, EVALUATOR, "a"))
 
     def test_without_kills(self) -> None:
@@ -395,13 +601,13 @@ class Kills(unittest.TestCase):
             for error, is_behind in ((Killed, False), (Killed, True), (Unreachable, at % 2 == 0)):
                 with self.subTest(at=at, error=error, is_behind=is_behind):
                     broker = Killing(at, error, is_behind)
-                    self.stream(broker)
+                    self.stream(broker, goes_on=is_behind)
                     self.assertEqual(differences_of_all(broker, self.runs), [])
 
     def test_two_workers_on_one_lease(self) -> None:
         broker = MemoryBroker()
         route_all(broker, self.script)
-        slow, fast = Worker(broker, EVALUATOR, "slow", most=2), Worker(broker, EVALUATOR, "fast", most=3)
+        slow, fast = Worker(broker, EVALUATOR, "slow", most=8), Worker(broker, EVALUATOR, "fast", most=15)
         while not slow.is_done(PARTITIONS):
             for partition in range(PARTITIONS):
                 slow.answer(partition)

@@ -5,7 +5,10 @@ from __future__ import annotations
 import os
 import re
 import subprocess
+import tempfile
+import time
 import unittest
+from pathlib import Path
 
 from support import DESK_PROGRAM
 
@@ -29,20 +32,38 @@ class OverServers(unittest.TestCase):
             with self.subTest(kind):
                 self.assertIn("same: all answers, each once", self.told(kind, "stream.trial", "--kills", "20"))
 
+    def test_an_end(self) -> None:
+        """SIGTERM ends what a trial started: its server, its router and its workers."""
+        if KINDS["redis"].server() is None:
+            self.skipTest("there is no redis-server")
+        with tempfile.TemporaryDirectory() as folder:
+            trial = subprocess.Popen([*command_of("stream.trial"), "--kills", "90", "--desk", DESK_PROGRAM],
+                                     env={**os.environ, "TMPDIR": folder}, stdout=subprocess.DEVNULL)
+            started: set[str] = set()
+            end = time.monotonic() + 30
+            while len(started) < 5 and time.monotonic() < end:
+                started = {child for task in Path(f"/proc/{trial.pid}/task").iterdir()
+                           for child in (task / "children").read_text(encoding="ascii").split()}
+                time.sleep(0.01)
+            trial.terminate()
+            self.assertEqual(trial.wait(60), 128 + 15)
+            self.assertEqual(os.listdir(folder), [])
+        self.assertGreaterEqual(len(started), 5)
+        self.assertEqual([child for child in started if Path(f"/proc/{child}").exists()], [])
+
     def test_measure(self) -> None:
         for kind in KINDS:
             with self.subTest(kind):
                 told = self.told(kind, "stream.measure", "--workers", "1,2", "--events", "5000", "--sums", "1")
                 self.assertEqual(re.findall(r"workers=(\d)", told), ["1", "2"])
-                self.assertRegex(told, r"(?m)^engine_processor=\d")
+                self.assertEqual(re.findall(r"desks_alone=(\d)", told), ["1", "2"])
 
     def test_lag(self) -> None:
         for kind in KINDS:
             with self.subTest(kind):
                 told = self.told(kind, "stream.lag", "--rates", "100", "--seconds", "3", "--times", "1")
-                greatest = {name: int(most) for name, most in re.findall(r"(?m)^(.*): .* greatest=(\d+)$", told)}
-                self.assertEqual(len(greatest), 4)
-                self.assertGreater(greatest["a machine is lost, 1 times"], 0)
+                self.assertEqual(len(re.findall(r"(?m)^.*: median=\d+ 99th=\d+ greatest=\d+", told)), 4)
+                self.assertRegex(told, r"(?m)^a machine is lost: .* gaps=\d+$")
 
 
 if __name__ == "__main__":

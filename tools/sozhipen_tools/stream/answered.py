@@ -9,7 +9,7 @@ from typing import Iterable, Iterator, NamedTuple
 from .broker import NOTHING, Broker, Entry, MemoryBroker, answers_of
 from .engine import Engine, answers_of_lines
 from .entries import Numbered, data_of, lines_in
-from .router import Routes
+from .routes import Routes
 
 ALL = 1 << 30
 FIRING = re.compile(rb'fire ("(?:[^"\\]|\\.)*")(.*)')

@@ -39,12 +39,11 @@ KINDS = {"redis": Kind(RedisBroker, "redis-server", redis_server),
 
 
 def broker_words(parser: argparse.ArgumentParser) -> None:
-    """The words by which a tool takes the server of a broker and the number of partitions."""
+    """The words by which a tool takes the server of a broker."""
     servers = parser.add_mutually_exclusive_group()
     servers.add_argument("--redis", metavar="SERVER", type=address_of, default=address_of("6379"),
                          help="a Redis server: PORT, on 127.0.0.1, or HOST:PORT; otherwise 6379")
     servers.add_argument("--jetstream", metavar="SERVER", type=address_of, help="a NATS server with JetStream")
-    parser.add_argument("--partitions", metavar="N", type=int, required=True, help="the same for all of a stream")
 
 
 def broker_of(words: argparse.Namespace) -> ServerBroker:

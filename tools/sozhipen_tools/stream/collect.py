@@ -1,12 +1,13 @@
 """Prints what all partitions of a stream answer, in one order.
 
-    tools/run stream.collect --partitions N [--redis SERVER | --jetstream SERVER] [--behind NUMBER] [--follow | --rest]
+    tools/run stream.collect [--redis SERVER | --jetstream SERVER] [--behind NUMBER] [--follow | --rest]
 
 A line is `NUMBER PARTITION ANSWER`, with the number of the line of the script that is answered; answers to one line
 come in the order of the partitions, and `done` lines are left out. What is printed ends at the last line up to which
 all partitions have answered: nothing comes before it later. With --follow it goes on for ever; with --rest, where the
 script is over, all answers that are there are printed. A reader that was killed goes on with --behind NUMBER, the last
-line of which it has all answers.
+line of which it has all answers. Status 4, with a word on standard error, where answers behind that line are no longer
+there, as stream.trim took them away, or 2 where the broker refuses what it is asked.
 """
 
 from __future__ import annotations
@@ -18,10 +19,11 @@ import time
 from typing import Iterator, NamedTuple
 
 from ..words import Parser
-from .broker import Broker, answers_of, until_reached
+from .broker import Broker, Lost, RefusedByServer, answers_of, until_reached
 from .brokers import broker_of, broker_words
 from .engine import CLOSES
 from .entries import lines_in
+from .routes import partitions_of
 
 ENTRIES = 100
 IDLE_SECONDS = 0.05
@@ -50,7 +52,8 @@ def answers_in(broker: Broker, partition: int, behind: int) -> Iterator[Answer]:
 
 def last_of_all(broker: Broker, partitions: int) -> int:
     """The line up to which all partitions have answered."""
-    return min(until_reached(lambda: broker.last(answers_of(partition))) for partition in range(partitions))
+    lasts = (until_reached(lambda: broker.last(answers_of(partition))) for partition in range(partitions))
+    return min(lasts, default=0)
 
 
 def collected(broker: Broker, partitions: int, behind: int, end: int) -> Iterator[Answer]:
@@ -73,27 +76,35 @@ def write(answers: Iterator[Answer]) -> None:
 def asked() -> argparse.Namespace:
     parser = Parser(description=__doc__, formatter_class=argparse.RawDescriptionHelpFormatter)
     parser.add_argument("--behind", metavar="NUMBER", type=int, default=0, help="the lines behind this one")
-    parser.add_argument("--follow", action="store_true", help="go on as partitions answer")
-    parser.add_argument("--rest", action="store_true", help="all answers that are there")
+    how = parser.add_mutually_exclusive_group()
+    how.add_argument("--follow", action="store_true", help="go on as partitions answer")
+    how.add_argument("--rest", action="store_true", help="all answers that are there")
     broker_words(parser)
     return parser.parse_args()
 
 
-def main() -> int:
-    words = asked()
+def collect(words: argparse.Namespace) -> None:
+    """Prints the answers, for ever where it is to follow."""
     broker, behind = broker_of(words), words.behind
-    if words.rest:
-        write(collected(broker, words.partitions, behind, sys.maxsize))
-        return 0
     while True:
-        end = last_of_all(broker, words.partitions)
+        partitions = until_reached(lambda: partitions_of(broker))
+        end = sys.maxsize if words.rest else last_of_all(broker, partitions)
         if end > behind:
-            write(collected(broker, words.partitions, behind, end))
+            write(collected(broker, partitions, behind, end))
             behind = end
         elif words.follow:
             time.sleep(IDLE_SECONDS)
         if not words.follow:
-            return 0
+            return
+
+
+def main() -> int:
+    try:
+        collect(asked())
+    except (Lost, RefusedByServer) as error:
+        print(f"collect: {error}", file=sys.stderr)
+        return 4 if isinstance(error, Lost) else 2
+    return 0
 
 
 if __name__ == "__main__":

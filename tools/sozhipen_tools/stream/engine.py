@@ -6,7 +6,7 @@ import subprocess
 import tempfile
 from dataclasses import dataclass
 from pathlib import Path
-from typing import Iterator
+from typing import Iterator, Optional
 
 from .broker import Entry, State
 from .entries import Numbered, data_of, lines_in
@@ -27,10 +27,11 @@ class Interrupted(Exception):
 
 @dataclass(frozen=True)
 class Engine:
-    """A program `desk` with its rule file."""
+    """A program `desk` with its rule file, and the folder for its files; otherwise that is the environment's."""
     command: tuple[str, ...]
     rules: str
     limit: int = 100_000
+    folder: Optional[str] = None
 
     def turn(self, state: State, entries: list[Entry]) -> tuple[list[Entry], State]:
         """What each of these entries, behind a state, answers, and the state behind them; Stopped or Interrupted."""
@@ -42,18 +43,22 @@ class Engine:
         return list(answers_of_entries(entries, answers)), State(entries[-1].number, image)
 
     def run(self, image: bytes, script: bytes) -> tuple[bytes, bytes]:
-        """What a desk that goes on from an image prints, and its next image."""
-        with tempfile.TemporaryDirectory(prefix="stream-") as folder:
-            file = Path(folder, "image")
+        """What a desk that goes on from an image prints, and its next image. Lines and answers are files: behind a pipe
+        each answer would wake who reads it."""
+        with tempfile.TemporaryDirectory(prefix="stream-", dir=self.folder) as folder:
+            lines, answers, file = Path(folder, "lines"), Path(folder, "answers"), Path(folder, "image")
+            lines.write_bytes(script)
             if image:
                 file.write_bytes(image)
             words = [*self.command, "--limit", str(self.limit), "--image", str(file), "--text", self.rules]
-            done = subprocess.run(words, input=script, stdout=subprocess.PIPE, check=False)
-            if done.returncode in WHOLE:
-                return done.stdout, file.read_bytes()
-        if done.returncode < 0 or done.returncode in MAY_PASS:
-            raise Interrupted(f"status {done.returncode}")
-        raise Stopped(f"status {done.returncode}: {done.stdout[-200:].decode(errors='replace').strip()}")
+            with lines.open("rb") as given, answers.open("wb") as out:
+                status = subprocess.run(words, stdin=given, stdout=out, check=False).returncode
+            told = answers.read_bytes()
+            if status in WHOLE:
+                return told, file.read_bytes()
+        if status < 0 or status in MAY_PASS:
+            raise Interrupted(f"status {status}")
+        raise Stopped(f"status {status}: {told[-200:].decode(errors='replace').strip()}")
 
 
 def answers_of_lines(told: bytes) -> list[list[bytes]]:

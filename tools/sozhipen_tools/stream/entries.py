@@ -3,7 +3,9 @@ from. A `promise` of the router stands before a `fire` line under its number."""
 
 from __future__ import annotations
 
-from typing import Iterable, Iterator, NamedTuple
+from typing import Iterable, Iterator, NamedTuple, Sequence
+
+from .broker import Entry
 
 
 class Numbered(NamedTuple):
@@ -22,3 +24,13 @@ def lines_in(data: bytes) -> Iterator[Numbered]:
     for whole in data.split(b"\n")[:-1]:
         number, _, line = whole.partition(b" ")
         yield Numbered(int(number), line)
+
+
+def lines_behind(number: int, entries: Sequence[Entry]) -> list[Entry]:
+    """What entries have behind a line. Where a broker lost lines that were answered, and they were put again, that may
+    be amid an entry."""
+    found = [entry for entry in entries if entry.number > number]
+    if found:
+        first = found[0]
+        found[0] = Entry(first.number, data_of(line for line in lines_in(first.data) if line.number > number))
+    return found

@@ -18,7 +18,7 @@ import time
 from typing import Any, Iterable, Iterator, NamedTuple, Optional, Sequence
 
 from .address import Address
-from .broker import Broker, Entry, RefusedByServer, State, Unreachable
+from .broker import Broker, Entry, Linked, RefusedByServer, State, Unreachable, linked, unbroken
 from .nats import Connection, Request
 
 SECONDS = 5.0
@@ -63,19 +63,20 @@ def pieces_of(data: bytes, most: int) -> list[bytes]:
     return [data[start:start + most] for start in range(0, len(data), most)] + [b""]
 
 
-def packed(entries: Iterable[Entry]) -> bytes:
-    """Entries as the bytes of one append."""
-    return b"".join(b"%d %d\n%s" % (entry.number, len(entry.data), entry.data) for entry in entries)
+def packed(behind: int, entries: Iterable[Entry]) -> bytes:
+    """Entries that are put behind this number as the bytes of one append."""
+    return b"".join(b"%d %d %d\n%s" % (before, entry.number, len(entry.data), entry.data)
+                    for before, entry in linked(behind, entries))
 
 
-def entries_in(data: bytes) -> Iterator[Entry]:
+def entries_in(data: bytes) -> Iterator[Linked]:
     """The entries of an append."""
     at = 0
     while at < len(data):
         begin = data.index(b"\n", at) + 1
-        number, size = map(int, data[at:begin].split())
+        before, number, size = map(int, data[at:begin].split())
         at = begin + size
-        yield Entry(number, data[begin:at])
+        yield Linked(before, Entry(number, data[begin:at]))
 
 
 class JetStreamBroker(Broker):
@@ -88,13 +89,15 @@ class JetStreamBroker(Broker):
         self.places: dict[str, tuple[int, int]] = {}
         # By lease: the last message of another holder, and when it was seen first.
         self.seen: dict[str, tuple[int, float]] = {}
+        # The streams that have had a message: none of them is ever without one again.
+        self.begun: set[str] = set()
 
     def close(self) -> None:
         """Ends the connection. A server that comes back may have lost messages: what was seen is not gone by again."""
         if self.connection is not None:
             self.connection.close()
         self.connection = None
-        self.places, self.seen = {}, {}
+        self.places, self.seen, self.begun = {}, {}, set()
 
     def connected(self) -> Connection:
         if self.connection is None:
@@ -126,11 +129,22 @@ class JetStreamBroker(Broker):
     # ---- streams
 
     def top(self, stream: str) -> Message:
-        """The last message of a stream; where there is none, the place before the first."""
-        said = self.ask(api("MSG.GET", stream, last_by_subj=stream), NO_MESSAGE, NO_STREAM)
-        if "error" in said and said["error"]["err_code"] == NO_MESSAGE:
-            return BEFORE_ALL._replace(sequence=self.ask(api("INFO", stream))["state"]["last_seq"])
-        return message_of(said) or BEFORE_ALL
+        """The last message of a stream; where there is none, the place before the first. A server of 2.9 ends where it
+        is asked by subject in a stream without messages, and one that was killed may not find by subject what is there:
+        then the message is asked for by its number."""
+        if stream in self.begun:
+            last = message_of(self.ask(api("MSG.GET", stream, last_by_subj=stream), NO_MESSAGE, NO_STREAM))
+            if last is not None:
+                return last
+        seen = -1
+        while "error" not in (said := self.ask(api("INFO", stream), NO_STREAM)):
+            sequence, is_empty = said["state"]["last_seq"], said["state"]["messages"] == 0
+            found = {} if is_empty else self.messages(stream, [sequence])
+            if found or is_empty or sequence == seen:
+                self.begun.update([stream] if found else [])
+                return found.get(sequence, BEFORE_ALL._replace(sequence=sequence))
+            seen = sequence
+        return BEFORE_ALL
 
     def messages(self, stream: str, sequences: Iterable[int]) -> dict[int, Message]:
         """Of the messages with these numbers those that are there."""
@@ -198,7 +212,7 @@ class JetStreamBroker(Broker):
 
     def append(self, log: str, behind: int, entries: Sequence[Entry]) -> bool:
         while (top := self.top(log)).number == behind:
-            if self.put(log, top, entries[-1].number, packed(entries)):
+            if self.put(log, top, entries[-1].number, packed(behind, entries)):
                 return True
         return False
 
@@ -206,19 +220,19 @@ class JetStreamBroker(Broker):
         return self.top(log).number
 
     def read(self, log: str, behind: int, most: int) -> list[Entry]:
-        found: list[Entry] = []
+        found: list[Linked] = []
         top = self.top(log)
         if top.number <= behind:
-            return found
+            return []
         at = self.above(log, behind, top.sequence)
         while len(found) < most and at <= top.sequence:
             there = self.messages(log, range(at, min(at + AT_ONCE, top.sequence + 1)))
             for end in filter(lambda message: message.is_end, there.values()):
-                found += [entry for entry in entries_in(self.whole(log, end, there) or b"") if entry.number > behind]
+                found += [one for one in entries_in(self.whole(log, end, there) or b"") if one.entry.number > behind]
                 if len(found) <= most:
                     self.places[log] = end.sequence + 1, end.number
             at += AT_ONCE
-        return found[:most]
+        return unbroken(log, behind, found[:most])
 
     def trim(self, log: str, number: int) -> None:
         top = self.top(log)

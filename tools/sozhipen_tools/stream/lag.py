@@ -5,9 +5,11 @@
 
 Events are routed at a rate, in seconds of the clock. The lag of a `fire` line is the time from when it is in the logs
 of all partitions to when all have answered it. A row for each rate has the median, the 99th of 100 and the greatest
-lag in milliseconds; then, at the first rate, a row for what happens at the start of a span: a worker comes; one goes
-(SIGTERM); a machine is lost: a worker and its desks are killed, and nobody renews its lease. The greatest lag there is
-the gap in which a partition moves.
+lag in milliseconds; then, at the first rate, a row for what happens amid a span: a worker comes; one goes (SIGTERM); a
+machine is lost: a worker is killed with the desk that is at a turn, and nobody renews its lease. The greatest lag there
+is the gap in which a partition moves; `gaps` has it for each time. The files of workers are in memory, as with
+TMPDIR=/dev/shm, and those of the server on the disk. SIGTERM and Ctrl+C end it with all that it started. It wants
+Linux.
 """
 
 from __future__ import annotations
@@ -25,9 +27,9 @@ from ..words import Parser
 from .broker import Broker, answers_of, until_reached
 from .brokers import KINDS
 from .load import rules_with, script
-from .measure import LINES_OF_AN_ENTRY, program_of
-from .processes import Server, WorkerProcess
-from .router import Router, Routes
+from .measure import LINES_OF_AN_ENTRY, routes_of
+from .processes import Server, WorkerProcess, ending_all, memory_folder
+from .router import Router
 
 LOOK_SECONDS = 0.002
 STEP_SECONDS = 0.02
@@ -74,17 +76,16 @@ class Watch(threading.Thread):
 class Feed:
     """Routes the lines of a script at a rate."""
 
-    def __init__(self, broker: Broker, routes: Routes, watch: Watch, lines: Iterator[bytes]) -> None:
-        self.router = Router(broker, routes.partitions, LINES_OF_AN_ENTRY)
-        self.routes, self.watch, self.lines = routes, watch, lines
+    def __init__(self, router: Router, watch: Watch, lines: Iterator[bytes]) -> None:
+        self.router, self.watch, self.lines = router, watch, lines
+        self.router.save()
 
     def step(self, most: int) -> None:
         """Routes so many lines."""
         fires = []
         for _ in range(most):
             line = next(self.lines)
-            routed = self.routes.route(line)
-            self.router.take(routed)
+            routed = self.router.take(line)
             if b'"fire"' in line:
                 fires.append(routed.number)
         self.router.flush()
@@ -108,8 +109,8 @@ class Stream:
         self.words, self.rules, self.server = words, rules, server
         until_reached(lambda: server.broker().last("in{0}"))
         self.watch = Watch(server.broker(), words.partitions)
-        routes = Routes(program_of(rules.read_text(encoding="utf-8")), "card", words.partitions)
-        self.feed = Feed(server.broker(), routes, self.watch, iter(script(events, 1)))
+        self.feed = Feed(Router(server.broker(), routes_of(words, rules), LINES_OF_AN_ENTRY), self.watch,
+                         iter(script(events, 1)))
         self.workers: list[WorkerProcess] = []
         for _ in range(words.workers):
             self.come()
@@ -117,16 +118,19 @@ class Stream:
 
     def come(self) -> None:
         """A worker comes."""
-        same = [*self.server.words, "--partitions", str(self.words.partitions), "--lease", str(self.words.lease)]
+        same = [*self.server.words, "--lease", str(self.words.lease)]
         self.workers.append(WorkerProcess(f"w{len(self.workers)}", same, self.rules, self.words.desk))
 
     def go(self) -> None:
         """A worker ends behind its turn."""
-        self.workers.pop().process.terminate()
+        self.workers.pop().stop()
 
     def lose(self) -> None:
-        """A worker is lost with its desks."""
-        self.workers.pop().lose()
+        """A worker is lost with the desk that is at its turn."""
+        worker, end = self.workers.pop(), time.monotonic() + self.words.seconds / 3
+        while worker.is_between_turns() and time.monotonic() < end:
+            time.sleep(LOOK_SECONDS)
+        worker.lose()
 
     def rows(self) -> Iterator[str]:
         """What is seen at each rate, and as workers come and go at the first one."""
@@ -138,13 +142,19 @@ class Stream:
             ("a worker comes", self.come, self.go), ("a worker goes", self.go, self.come),
             ("a machine is lost", self.lose, self.come)]
         for name, begin, back in happens:
-            lags: list[float] = []
+            spans = []
             for _ in range(self.words.times):
-                begin()
-                lags += self.feed.run(rates[0], self.words.seconds)
+                beginning = threading.Timer(self.words.seconds / 3, begin)
+                beginning.start()
+                try:
+                    spans.append(self.feed.run(rates[0], self.words.seconds))
+                finally:
+                    beginning.cancel()
+                    beginning.join()
                 back()
                 self.feed.run(rates[0], 2)
-            yield shown(f"{name}, {self.words.times} times", sorted(lags))
+            gaps = ",".join(f"{span[-1] * 1000:.0f}" for span in spans)
+            yield f"{shown(name, sorted(lag for span in spans for lag in span))} gaps={gaps}"
 
     def end(self) -> None:
         """Ends all processes."""
@@ -163,7 +173,7 @@ def asked() -> argparse.Namespace:
     parser = Parser(description=__doc__, formatter_class=argparse.RawDescriptionHelpFormatter)
     parser.add_argument("--broker", choices=sorted(KINDS), default="redis")
     parser.add_argument("--rates", metavar="N,N..", default="500,2000,8000", help="events a second")
-    parser.add_argument("--seconds", metavar="N", type=int, default=10, help="of a row, or of each of its times")
+    parser.add_argument("--seconds", metavar="N", type=int, default=6, help="of a row, or of each of its times")
     parser.add_argument("--times", metavar="N", type=int, default=5)
     parser.add_argument("--workers", metavar="N", type=int, default=3)
     parser.add_argument("--partitions", metavar="N", type=int, default=8)
@@ -185,8 +195,9 @@ def main() -> int:
     if kind.server() is None:
         print(f"lag: there is no {kind.program}", file=sys.stderr)
         return 2
-    with tempfile.TemporaryDirectory(prefix="lag-") as folder:
-        rules = Path(folder, "rules.drl")
+    with tempfile.TemporaryDirectory(prefix="lag-") as folder, \
+            tempfile.TemporaryDirectory(prefix="lag-", dir=memory_folder()) as in_memory, ending_all():
+        rules = Path(in_memory, "rules.drl")
         rules.write_text(rules_with(words.sums), encoding="utf-8")
         stream = Stream(words, Server(words.broker, Path(folder)), rules, events_of(words))
         try:

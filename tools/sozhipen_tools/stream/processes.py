@@ -7,13 +7,58 @@ import random
 import signal
 import socket
 import subprocess
+import sys
+from contextlib import contextmanager, suppress
 from dataclasses import dataclass, field
 from pathlib import Path
-from typing import Optional, Sequence
+from typing import Iterator, NoReturn, Optional, Sequence
 
 from ..places import command_of
 from .address import Address
 from .brokers import KINDS, ServerBroker
+
+# Where Linux keeps files in memory.
+MEMORY = "/dev/shm"
+ENDING = (signal.SIGTERM, signal.SIGINT)
+
+
+def ended(number: int, _: object) -> NoReturn:
+    """What a signal does that ends this process: it is left as by an exception, once."""
+    for ending in ENDING:
+        signal.signal(ending, signal.SIG_IGN)
+    raise SystemExit(128 + number)
+
+
+def children() -> list[int]:
+    """The processes that this one started and that run, as Linux tells it."""
+    found: list[int] = []
+    for task in Path("/proc/self/task").iterdir():
+        with suppress(OSError):
+            found += map(int, (task / "children").read_text(encoding="ascii").split())
+    return found
+
+
+def end_children() -> None:
+    """Kills the processes that this one started; those that lead a group, with it."""
+    for process in children():
+        with suppress(OSError):
+            (os.killpg if os.getpgid(process) == process else os.kill)(process, signal.SIGKILL)
+
+
+@contextmanager
+def ending_all() -> Iterator[None]:
+    """What is started within ends with it, and so where SIGTERM or SIGINT ends this process."""
+    for number in ENDING:
+        signal.signal(number, ended)
+    try:
+        yield
+    finally:
+        end_children()
+
+
+def memory_folder() -> Optional[str]:
+    """A folder in memory, where there is one. A desk forces its image to the disk, and a worker removes it."""
+    return MEMORY if os.access(MEMORY, os.W_OK) else None
 
 
 def free_port() -> int:
@@ -50,7 +95,9 @@ class Server:
         self.start()
 
     def end(self) -> None:
-        """Kills the server."""
+        """Kills the server; standard error tells where it had ended by itself."""
+        if self.process.poll() is not None:
+            print(f"the server had ended by itself, with status {self.process.returncode}", file=sys.stderr, flush=True)
         self.process.kill()
         self.process.wait()
 
@@ -73,6 +120,11 @@ class WorkerProcess:
     def again(self) -> WorkerProcess:
         """A worker of the same words."""
         return WorkerProcess(self.name, self.words, self.rules, self.desk)
+
+    def is_between_turns(self) -> bool:
+        """Whether no desk of the worker runs, as Linux tells it."""
+        process = self.process.pid
+        return not Path(f"/proc/{process}/task/{process}/children").read_text(encoding="ascii")
 
     def stop(self) -> int:
         """Asks the worker to end behind its turn; its status."""

@@ -1,5 +1,5 @@
-"""A broker that is a Redis server, 6.2 or later: logs are streams whose ids are the numbers of the entries, a value and
-its offset are a hash, leases are keys that expire.
+"""A broker that is a Redis server, 6.2 or later: logs are streams whose ids are the numbers of the entries, each with the
+number of the one before; a value and its offset are a hash, leases are keys that expire.
 
 The server has to write each command to its disk before it replies (`--appendonly yes --appendfsync always`); otherwise
 a crash of it takes back what it has acknowledged.
@@ -10,13 +10,13 @@ from __future__ import annotations
 from typing import Any, Optional, Sequence
 
 from .address import Address
-from .broker import NOTHING, Broker, Entry, RefusedByServer, State, Unreachable
+from .broker import NOTHING, Append, Broker, Entry, Linked, RefusedByServer, State, Unreachable, linked, unbroken
 from .resp import Connection, Word
 
 APPEND = """
 local top = redis.call('XREVRANGE', KEYS[1], '+', '-', 'COUNT', 1)
 if (top[1] and top[1][1] or '0-0') ~= ARGV[1] then return 0 end
-for k = 2, #ARGV, 2 do redis.call('XADD', KEYS[1], ARGV[k], 'd', ARGV[k + 1]) end
+for k = 2, #ARGV, 3 do redis.call('XADD', KEYS[1], ARGV[k], 'b', ARGV[k + 1], 'd', ARGV[k + 2]) end
 return 1
 """
 KEEP = """
@@ -42,6 +42,14 @@ def number_of(name: bytes) -> int:
     return int(name.partition(b"-")[0])
 
 
+def append_words(append: Append) -> list[Word]:
+    """The command of an append."""
+    words: list[Word] = ["EVAL", APPEND, 1, append.log, f"{append.behind}-0"]
+    for before, entry in linked(append.behind, append.entries):
+        words += [f"{entry.number}-0", before, entry.data]
+    return words
+
+
 class RedisBroker(Broker):
     """A server; after Unreachable the next operation connects anew."""
 
@@ -50,10 +58,13 @@ class RedisBroker(Broker):
         self.connection: Optional[Connection] = None
 
     def ask(self, *words: Word) -> Any:
+        return self.ask_each([words])[0]
+
+    def ask_each(self, commands: Sequence[Sequence[Word]]) -> list[Any]:
         try:
             if self.connection is None:
                 self.connection = Connection(*self.address, SECONDS)
-            return self.connection.ask(*words)
+            return self.connection.ask_each(commands)
         except RefusedByServer as refused:
             if not str(refused).startswith(MAY_PASS):
                 raise
@@ -69,10 +80,11 @@ class RedisBroker(Broker):
         self.connection = None
 
     def append(self, log: str, behind: int, entries: Sequence[Entry]) -> bool:
-        words: list[Word] = []
-        for entry in entries:
-            words += [f"{entry.number}-0", entry.data]
-        return bool(self.ask("EVAL", APPEND, 1, log, f"{behind}-0", *words))
+        return self.append_each([Append(log, behind, entries)])[0]
+
+    def append_each(self, appends: Sequence[Append]) -> list[bool]:
+        """The server writes to its disk once for all of them."""
+        return list(map(bool, self.ask_each(list(map(append_words, appends)))))
 
     def last(self, log: str) -> int:
         top = self.ask("XREVRANGE", log, "+", "-", "COUNT", 1)
@@ -80,7 +92,7 @@ class RedisBroker(Broker):
 
     def read(self, log: str, behind: int, most: int) -> list[Entry]:
         found = self.ask("XRANGE", log, f"{behind + 1}-0", "+", "COUNT", most)
-        return [Entry(number_of(name), fields[1]) for name, fields in found]
+        return unbroken(log, behind, (Linked(int(fields[1]), Entry(number_of(name), fields[3])) for name, fields in found))
 
     def trim(self, log: str, number: int) -> None:
         if least := min(number, self.last(log)):

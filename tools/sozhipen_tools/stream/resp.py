@@ -3,11 +3,17 @@
 from __future__ import annotations
 
 import socket
-from typing import Any, Union
+from typing import Any, Sequence, Union
 
 from .broker import RefusedByServer
 
 Word = Union[bytes, str, int]
+
+
+def written(words: Sequence[Word]) -> bytes:
+    """The bytes of a command."""
+    parts = [word if isinstance(word, bytes) else str(word).encode() for word in words]
+    return b"*%d\r\n" % len(parts) + b"".join(b"$%d\r\n%s\r\n" % (len(part), part) for part in parts)
 
 
 class Connection:
@@ -22,11 +28,15 @@ class Connection:
         self.file.close()
         self.socket.close()
 
-    def ask(self, *words: Word) -> Any:
-        """The reply to a command: an int, bytes, None, or a list of such; RefusedByServer where it is an error."""
-        parts = [word if isinstance(word, bytes) else str(word).encode() for word in words]
-        self.socket.sendall(b"*%d\r\n" % len(parts) + b"".join(b"$%d\r\n%s\r\n" % (len(p), p) for p in parts))
-        return self.reply()
+    def ask_each(self, commands: Sequence[Sequence[Word]]) -> list[Any]:
+        """The replies to these commands, which are sent at once: an int, bytes, None, or a list of such;
+        RefusedByServer where one is an error."""
+        self.socket.sendall(b"".join(map(written, commands)))
+        replies = [self.reply() for _ in commands]
+        for reply in replies:
+            if isinstance(reply, RefusedByServer):
+                raise reply
+        return replies
 
     def reply(self) -> Any:
         line = self.file.readline()
@@ -34,7 +44,7 @@ class Connection:
             raise ConnectionError("the server ended the connection")
         sign, rest = line[:1], line[1:-2]
         if sign == b"-":
-            raise RefusedByServer(rest.decode(errors="replace"))
+            return RefusedByServer(rest.decode(errors="replace"))
         if sign == b"+":
             return rest
         size = int(rest)

@@ -8,11 +8,11 @@ run over all, and a `not` that waits would go on later.
 from __future__ import annotations
 
 import json
-from typing import Iterator, Optional
+from typing import Any, Iterator, Optional
 
 from ..reference.meaning.program import DEFAULT, Program
 from ..reference.meaning.run import has_kind
-from ..reference.meaning.script import TIME_END, AdvanceLine, AtLine, Command, InsertLine, PromiseLine
+from ..reference.meaning.script import TIME_END, AdvanceLine, AtLine, DeskCommand, InsertLine, PromiseLine
 
 
 def promise_line(entry: str, start: int) -> bytes:
@@ -30,7 +30,17 @@ class Starts:
         self.asked = dict(self.latest)
         self.clock = 0
 
-    def see(self, command: Command) -> None:
+    def kept(self) -> dict[str, Any]:
+        """All of it, as JSON has it."""
+        return {"clock": self.clock, "latest": self.latest, "promised": self.promised, "asked": self.asked}
+
+    def go_on(self, kept: dict[str, Any]) -> None:
+        """Begins where another one was, over the entry points that these rules have."""
+        self.clock = kept["clock"]
+        for name in ("latest", "promised", "asked"):
+            getattr(self, name).update((entry, start) for entry, start in kept[name].items() if entry in self.latest)
+
+    def see(self, command: DeskCommand) -> None:
         """Follows a line that is routed."""
         if isinstance(command, AtLine):
             self.move(command.ms)

@@ -4,10 +4,12 @@
         [--between SECONDS] [--patience SECONDS] [--desk PROGRAM] [--seed N]
 
 It starts a server of its own on the loopback, in a folder that it removes. Of the workers some are killed alone, and
-some with their desks, as where a machine is lost. The stream has a table, events that come late, a `not` that waits and
-an accumulate. What each partition answers has to be, byte for byte, what one run over its lines answers, each line
-once; the firings of all partitions have to be those of one run over all lines; and a double answer and a lost one that
-are planted behind that have to be found. The status is 1 where not all is so, and 2 without the server.
+some with their desks, as where a machine is lost; the router is begun again with the whole script and with what is
+behind the lines taken, by turns. The stream has a table, events that come late, a `not` that waits and an accumulate.
+What each partition answers has to be, byte for byte, what one run over its lines answers, each line once; the firings
+of all partitions have to be those of one run over all lines; and a double answer and a lost one that are planted behind
+that have to be found. The status is 1 where not all is so, and 2 without the server. SIGTERM and Ctrl+C end it with all
+that it started.
 """
 
 from __future__ import annotations
@@ -20,8 +22,9 @@ import tempfile
 import threading
 import time
 from collections import Counter
+from contextlib import suppress
 from pathlib import Path
-from typing import Optional
+from typing import IO, Optional
 
 from ..pipes import pipe
 from ..places import command_of
@@ -33,35 +36,43 @@ from .brokers import KINDS
 from .engine import Engine
 from .entries import Numbered
 from .load import RULES, script
-from .processes import Server, WorkerProcess
-from .router import Routes
+from .processes import Server, WorkerProcess, ending_all
+from .routes import Routes
 from .worker import Worker, desk_command
 
 WHO = ("worker", "machine", "router", "broker")
 
 
 class Feed(threading.Thread):
-    """Gives a script to a router at a rate; one that was killed is begun again with the script from its first line."""
+    """Gives a script to a router at a rate; one that was killed is begun again, by turns with the script from its first
+    line and with what is behind the lines taken."""
 
     def __init__(self, words: list[str], lines: list[bytes], seconds: float) -> None:
         super().__init__(daemon=True)
         self.words, self.lines, self.step = words, lines, max(1, int(len(lines) / seconds / 20))
-        self.given, self.status, self.is_over = 0, -1, False
+        self.given, self.begun, self.status, self.is_over = 0, 0, -1, False
         self.process: Optional[subprocess.Popen[bytes]] = None
 
     def run(self) -> None:
         while self.status < 0 and not self.is_over:
-            self.process = subprocess.Popen(self.words, stdin=subprocess.PIPE)
-            try:
-                self.feed(self.process)
-            except OSError:
-                pass
-            self.status = self.process.wait()
+            goes_on = ["--taken"] if self.begun % 2 else []
+            process = subprocess.Popen([*self.words, *goes_on], stdin=subprocess.PIPE, stdout=subprocess.PIPE)
+            self.process, self.begun = process, self.begun + 1
+            with suppress(OSError), process:
+                self.feed(pipe(process.stdin), self.taken(process) if goes_on else 0)
+            self.status = process.wait()
             time.sleep(0.05)
 
-    def feed(self, process: subprocess.Popen[bytes]) -> None:
-        into = pipe(process.stdin)
-        into.write(b"".join(line + b"\n" for line in self.lines[:self.given]))
+    @staticmethod
+    def taken(process: subprocess.Popen[bytes]) -> int:
+        """How many lines a router says were taken; OSError where it was killed before."""
+        word, _, number = pipe(process.stdout).readline().partition(b" ")
+        if word != b"taken":
+            raise BrokenPipeError
+        return int(number)
+
+    def feed(self, into: IO[bytes], taken: int) -> None:
+        into.write(b"".join(line + b"\n" for line in self.lines[taken:self.given]))
         while self.given < len(self.lines):
             into.write(b"".join(line + b"\n" for line in self.lines[self.given:self.given + self.step]))
             into.flush()
@@ -76,7 +87,9 @@ class Feed(threading.Thread):
     def end(self) -> None:
         """Ends the router, which is not begun again."""
         self.is_over = True
-        self.kill()
+        while self.is_alive():
+            self.kill()
+            self.join(0.05)
 
 
 class Trial:
@@ -90,10 +103,10 @@ class Trial:
         self.draw = random.Random(words.seed)
         self.server = Server(words.broker, folder)
         self.broker = self.server.broker()
-        same = [*self.server.words, "--partitions", str(words.partitions)]
-        self.feed = Feed([*command_of("stream.router"), "--key", "card", *same, str(self.rules)], self.lines,
+        split = ["--key", "card", "--partitions", str(words.partitions)]
+        self.feed = Feed([*command_of("stream.router"), *split, *self.server.words, str(self.rules)], self.lines,
                          words.kills * words.between)
-        turns = [*same, "--lease", "500", "--entries", "20"]
+        turns = [*self.server.words, "--lease", "500", "--lines", "300"]
         self.workers = [WorkerProcess(f"w{number}", turns, self.rules, words.desk) for number in range(words.workers)]
 
     def kill(self, who: str) -> None:
@@ -114,10 +127,9 @@ class Trial:
         self.feed.start()
         for _ in range(self.words.kills):
             time.sleep(self.draw.uniform(0.2, 1.6) * self.words.between)
-            who = self.draw.choice(WHO)
-            if who != "router" or self.feed.is_alive():
-                self.kill(who)
-                killed[who] += 1
+            who = self.draw.choice([who for who in WHO if who != "router" or self.feed.is_alive()])
+            self.kill(who)
+            killed[who] += 1
         self.feed.join(self.words.patience + self.words.kills * self.words.between)
         self.wait()
         return killed
@@ -182,7 +194,7 @@ def main() -> int:
         print(f"trial: there is no {KINDS[words.broker].program}", file=sys.stderr)
         return 2
     began = time.monotonic()
-    with tempfile.TemporaryDirectory(prefix="trial-") as folder:
+    with tempfile.TemporaryDirectory(prefix="trial-") as folder, ending_all():
         trial = Trial(words, Path(folder))
         try:
             killed = trial.run()
@@ -190,7 +202,7 @@ def main() -> int:
         finally:
             trial.end()
     counts = " ".join(f"{who}={many}" for who, many in sorted(killed.items()))
-    print(f"killed: {counts} seconds={time.monotonic() - began:.0f}")
+    print(f"broker={words.broker} seed={words.seed} killed: {counts} seconds={time.monotonic() - began:.0f}")
     print("\n".join(faults) or "same: all answers, each once; a planted double answer and a planted lost one are found")
     return 1 if faults else 0
 

@@ -1,6 +1,6 @@
 """Takes away what a stream no longer wants: lines that are in the images, and answers that were read.
 
-    tools/run stream.trim --partitions N [--redis SERVER | --jetstream SERVER] [--answers NUMBER]
+    tools/run stream.trim [--redis SERVER | --jetstream SERVER] [--answers NUMBER]
 
 Of the script of each partition the entries before the last one in its image go; with --answers also the answers to
 lines before line NUMBER of the script, up to which the reader has them. The last entry of a log stays, from which
@@ -16,6 +16,7 @@ import sys
 from ..words import Parser
 from .broker import Broker, answers_of, script_of, state_of, until_reached
 from .brokers import broker_of, broker_words
+from .routes import partitions_of
 
 
 def trim(broker: Broker, partition: int, answers: int) -> int:
@@ -36,7 +37,7 @@ def asked() -> argparse.Namespace:
 def main() -> int:
     words = asked()
     broker = broker_of(words)
-    for partition in range(words.partitions):
+    for partition in range(until_reached(lambda: partitions_of(broker))):
         print(f"{partition} {until_reached(lambda: trim(broker, partition, words.answers))}")
     return 0
 

@@ -279,10 +279,9 @@ FORMS: Forms = {"insert": ({"type", "fields"}, {"entry"}), "modify": ({"type", "
 DESK_FORMS: Forms = {"save": (set(), set()), "facts": (set(), {"type"}), "counts": (set(), set())}
 
 
-def form_of(line: bytes, forms: Forms) -> tuple[str, dict[str, Any]]:
-    """The word behind `do` and the other members of a line, BadJson, or BadCommand where its reading is none of these
+def form_of(reading: Any, forms: Forms) -> tuple[str, dict[str, Any]]:
+    """The word behind `do` and the other members of a line with this reading, BadCommand where it is none of these
     forms."""
-    reading = json_of(line)
     if not isinstance(reading, dict):
         raise BadCommand
     members = dict(reading)
@@ -300,7 +299,7 @@ def form_of(line: bytes, forms: Forms) -> tuple[str, dict[str, Any]]:
 
 def command_of(line: bytes) -> Command:
     """The command that a line asks for, BadJson, or BadCommand where its reading is none of the forms."""
-    return command_with(*form_of(line, FORMS))
+    return command_with(*form_of(json_of(line), FORMS))
 
 
 def command_with(word: str, members: dict[str, Any]) -> Command:
@@ -324,7 +323,12 @@ def command_with(word: str, members: dict[str, Any]) -> Command:
 
 def desk_command_of(line: bytes) -> DeskCommand:
     """The same of a line to a desk."""
-    word, members = form_of(line, {**FORMS, **DESK_FORMS})
+    return desk_command_read(json_of(line))
+
+
+def desk_command_read(reading: Any) -> DeskCommand:
+    """The same of a line with this reading."""
+    word, members = form_of(reading, {**FORMS, **DESK_FORMS})
     if word == "save":
         return SaveLine()
     if word == "facts":
