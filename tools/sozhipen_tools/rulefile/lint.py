@@ -583,7 +583,7 @@ def is_fixed(desk: Desk, type_name: Optional[str]) -> bool:
 
 def same_accumulates(desk: Desk) -> Iterator[Complaint]:
     """An accumulate over one source that stands in several rules, behind conditions or before tests that differ: the
-    network keeps the events of each for itself."""
+    network makes the result of each for itself."""
     places: dict[Any, list[tuple[ReadItem, Source]]] = {}
     fronts: dict[Any, set[Any]] = {}
     for item, rule in desk.rules:
@@ -598,7 +598,7 @@ def same_accumulates(desk: Desk) -> Iterator[Complaint]:
         if len(rules) >= SEVERAL and len({front for _, front in fronts[source]}) >= SEVERAL:
             item, first = found[0]
             yield warning("same-sum", item.tokens_of(first)[0],
-                          f"{len(rules)} rules accumulate over this `{first.type}`, and each keeps its events for "
+                          f"{len(rules)} rules accumulate over this `{first.type}`, and each makes the result for "
                           "itself",
                           "a rule that keeps the result in a fact for the others: "
                           "docs/RECIPES.md, *Many rules over one sum*")
