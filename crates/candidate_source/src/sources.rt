@@ -215,6 +215,9 @@ impl Sources {
         ensures reached { OnOk result (AreReachedAs self.old self.new) }
         ensures moved { OnOk result (AreApart self.old → HaveMoved (TurnStep program.now (lent gone.now) (option_map (λ f. f.now) come.entry) clock (F.map facts.now)) (has_place due.now.keys) self.old self.new) }
     {
+        if self.list.is_empty() {
+            return Ok(());
+        }
         for place in due.iter() {
             self.turn_if_led(alloc, program, gone, come, clock, facts, *place)?;
         }
@@ -264,6 +267,9 @@ impl Sources {
         ensures reached { OnOk result (AreReachedAs self.old self.new) }
         ensures moved { OnOk result (AreApart self.old → HaveMoved (λ a b. HaveLeft a b (F.map facts.now) old.now) (has_place due.now.keys) self.old self.new) }
     {
+        if self.list.is_empty() {
+            return Ok(());
+        }
         for place in due.iter() {
             self.forget_if_led(alloc, old, facts, *place)?;
         }

@@ -82,7 +82,7 @@ fn first_longer(own: &[Life], kept: &[Life]) -> Option<TypeId>
 }
 
 /// The first type whose events the new rules need for longer than they were kept.
-pub(crate) fn longer_type(
+pub fn longer_type(
     alloc: Global,
     old: &Program,
     new: &Program,

@@ -23,9 +23,9 @@ pub(crate) fn declared_type<'a>(
     None
 }
 
-// The entry point of this name.
+/// The entry point of this name. Takes no memory.
 #[tactic(auto, unfolding(change_read::specs::Changes::entry_named))]
-fn declared_entry(entries: &[EntryInfo], name: &Text) -> Option<EntryId>
+pub(crate) fn declared_entry(entries: &[EntryInfo], name: &Text) -> Option<EntryId>
     requires { length entries.now ≤ 2 ^ 16 }
     ensures { option_map (λ found. found.0) result ≡ entry_named name.now entries.now 0 }
 {

@@ -6,6 +6,7 @@ use Rattle.image_change.proofs.Changed.{rows_there}
 use Rattle.image_change.proofs.Kept.{IsTaken}
 use Rattle.image_change.proofs.Owners.{owners}
 use Rattle.image_change.specs.Images.{IsMovedImage}
+use Rattle.image_laws.specs.Fitting.{Fits}
 use Rattle.image_laws.specs.Images.{snapshot_of}
 use Rattle.laden_rows.specs.Laden.{AreOwners}
 use Rattle.rete_net.specs.Loading.{IsThere}
@@ -28,3 +29,12 @@ none_missing p q from image made over moved missing table own w of lives short v
     let x = (moved.extras r.0).0 r.1 in
     let t : IsTaken p q from table own w = record { over = over; lawful = of.lawful; safe = of.safe; lives = lives; short = short; verdict = verdict } in
     let torn : true ≡ false = sym (rows_there p q from table own w t image made of.is moved o.0 o.1 r.0 r.1 x.rule x.stands) ∙ r.2 x.rule x.stands in cc
+
+-- nor is one of an image that fits
+pub none_missing_there : (p : Program) (table : LifeTable) (image : Image) → Fits p table image
+    → ((owners : ℕ → ℕ → ℕ) → AreOwners p owners → (e : Extra) × In e image.extras × IsThere p (snapshot_of image) image.extras owners e false) → ⊥
+none_missing_there p table image fits missing =
+    let o = owners p in
+    let r = missing o.0 o.1 in
+    let row = fits.rows o.0 o.1 r.0 r.1 in
+    let torn : true ≡ false = sym row.there ∙ r.2 row.rule row.stands in cc

@@ -18,7 +18,7 @@ fn event(alloc: Global) -> Result<Fact, NoMemory> {
 }
 
 /// An image with one of each. The last of its bytes are the number of extras and the extra.
-fn image(alloc: Global) -> Result<Image, NoMemory> {
+pub(crate) fn image(alloc: Global) -> Result<Image, NoMemory> {
     let run = RunPart {
         rules: Seq::from_vec(Vec::from_slice(alloc, b"rule")?),
         lines: 3,

@@ -9,6 +9,8 @@ mod candidates;
 #[cfg(test)]
 mod commands;
 #[cfg(test)]
+mod desk_images;
+#[cfg(test)]
 mod folds;
 #[cfg(test)]
 mod held_events;

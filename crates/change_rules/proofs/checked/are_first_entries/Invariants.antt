@@ -1,0 +1,8 @@
+use Rattle.change_rules.proofs.Common.{Some, ℕ, ◌<◌, ◌≡◌}
+use Rattle.change_read.specs.Changes.{entry_named}
+use Rattle.rule_model.specs.declared.program.EntryInfo.{EntryInfo}
+use Rattle.std.proofs.Common.{slice_get}
+use Rattle.change_rules.proofs.checked.are_first_entries.Given as goal
+
+abbrev pub invariant-loop-place : goal.invariant-loop-place
+invariant-loop-place l = (k : ℕ) (entry : EntryInfo) → k < l.place → slice_get l.entries k ≡ Some entry → entry_named entry.name l.entries 0 ≡ Some k

@@ -1,0 +1,7 @@
+use Rattle.change_rules.proofs.Common.{Rule, Some, ℕ, ◌<◌, ◌≡◌, length}
+use Rattle.std.proofs.Common.{slice_get}
+use Rattle.change_rules.specs.Checked.{HaveConditionPlaces}
+use Rattle.change_rules.proofs.checked.have_places.Given as goal
+
+abbrev pub invariant-loop-place : goal.invariant-loop-place
+invariant-loop-place l = (k : ℕ) (rule : Rule) → k < l.place → slice_get l.program.rules k ≡ Some rule → HaveConditionPlaces (length l.program.types) (length l.program.entries) rule.conditions

@@ -1,0 +1,3 @@
+mod Common
+pub mod LivesExact
+pub mod DeskExact
