@@ -4,8 +4,9 @@
 
 Each file of the release has to have its checksum. Where the release is of the sources that stand here, the programs and
 object files of the build have to have the bytes of the release; so have the static programs and the library, where the
-compiler is the one by which they were linked. The page is held against its checksum alone: tools/run release.page makes
-it anew. The status is 0 where all is as it has to be, or the release is of other sources; 1 where it is not.
+compiler is the one by which they were linked. What is not built is told, and not held against it: `rt ci` leaves no
+object file of a program that it had kept. The page is held against its checksum alone: tools/run release.page makes it
+anew. The status is 0 where all is as it has to be, or the release is of other sources; 1 where it is not.
 """
 
 from __future__ import annotations
@@ -28,14 +29,19 @@ class Check:
         self.is_wrong = False
 
     def wants(self, path: Path, wanted: str, name: str) -> None:
-        """A file has to have this checksum."""
-        if not path.is_file():
-            print(f"release: {name}: not there: {path}")
-        elif (found := sha256(path)) != wanted:
-            print(f"release: {name}: OTHER BYTES: {path} has {found}, the release {wanted}")
+        """A file has to be there with this checksum."""
+        found = sha256(path) if path.is_file() else "is not there"
+        if found != wanted:
+            print(f"release: {name}: OTHER BYTES: {path}: {found}, and not {wanted}")
+            self.is_wrong = True
+
+    def wants_if_built(self, path: Path, wanted: str, name: str) -> bool:
+        """The same of a file of the build, where it is there; whether it is."""
+        if path.is_file():
+            self.wants(path, wanted, name)
         else:
-            return
-        self.is_wrong = True
+            print(f"release: {name}: not compared, for {path} is not there")
+        return path.is_file()
 
 
 def check_linked(check: Check, release: Release, top: Path, built: Path) -> None:
@@ -51,11 +57,13 @@ def check_linked(check: Check, release: Release, top: Path, built: Path) -> None
 
 def check_build(check: Check, release: Release, top: Path, built: Path) -> None:
     """Holds a build of the sources of the release against it."""
+    has_objects = True
     for name in PROGRAMS:
         out = out_of(built, name)
-        check.wants(out / f"{name}_main", release.sums.get(name, "none"), f"{name}, as it was built")
-        check.wants(out / f"{name}_main.o", release.of.get(f"{name}.o", "none"), f"{name}.o, as it was built")
-    if check.is_wrong:
+        check.wants_if_built(out / f"{name}_main", release.sums.get(name, "none"), f"{name}, as it was built")
+        has_objects &= check.wants_if_built(out / f"{name}_main.o", release.of.get(f"{name}.o", "none"),
+                                            f"{name}.o, as it was built")
+    if check.is_wrong or not has_objects:
         return
     if release.of.get("compiler") == compiler():
         check_linked(check, release, top, built)
@@ -81,7 +89,7 @@ def main() -> int:
     else:
         check_build(check, release, top, built)
     if not check.is_wrong:
-        print("release: the bytes are the same")
+        print("release: no byte is another")
     return 1 if check.is_wrong else 0
 
 

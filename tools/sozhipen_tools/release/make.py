@@ -1,11 +1,12 @@
 """Makes the release of the proved build of this clone.
 
-    tools/run release.make [--from CLONE] [--module MODULE] [--page PAGE] [--unproved] [FOLDER]
+    tools/run release.make [--from CLONE] [--page PAGE] [--unproved] [FOLDER]
 
 It takes from crates/replay_main/out and crates/desk_main/out of the clone what `rt ci` left there: the programs, and
 their object files, of which it links the static programs and the library. The page is made of the LLVM module of `desk`
-(tools/run release.page), or taken as it is. FOLDER is release/ if none is given. A build is taken as proved where it
-has passed .ci/run (crates/replay_main/out/proved.sha256); --unproved takes any, and says so in SOURCES.
+(tools/run release.page). FOLDER is release/ if none is given. A build is taken as proved where it
+has passed .ci/run, which keeps the checksum of each program in proved.sha256 beside it; --unproved takes any, and says
+so in SOURCES.
 """
 
 from __future__ import annotations
@@ -41,9 +42,10 @@ def out_of(built: Path, program: str) -> Path:
 
 def is_proved(built: Path) -> bool:
     """Whether the build has passed the gate as it stands."""
-    out = out_of(built, "replay")
+    outs = {f"{name}_main": out_of(built, name) for name in PROGRAMS}
     try:
-        return (out / "proved.sha256").read_text(encoding="ascii").split()[:1] == [sha256(out / "replay_main")]
+        return all((out / "proved.sha256").read_text(encoding="ascii").split()[:1] == [sha256(out / name)]
+                   for name, out in outs.items())
     except (OSError, ValueError):
         return False
 
@@ -99,6 +101,10 @@ def main() -> int:
         parser.error(f"the build in {built} has not passed .ci/run")
     if sum_of(built) != (sources := sum_of(top)):
         parser.error(f"the sources in {built} are others than those of this clone")
+    for name in PROGRAMS:
+        for path in (out_of(built, name) / f"{name}_main", out_of(built, name) / f"{name}_main.o"):
+            if not path.is_file():
+                parser.error(f"{path} is not there: `rt run` in crates/{name}_main makes it")
     folder.mkdir(parents=True, exist_ok=True)
     told = {"sources": sources, "build": "not proved" if asked.unproved else "proved", "kit": said("rt", "version"),
             "compiler": compiler(), **put_programs(top, built, folder), "needs": needed(folder / "replay")}

@@ -2,8 +2,8 @@
 
     tools/run release.page [--from CLONE] [--module MODULE | --object OBJECT] PAGE
 
-It builds the last step of crates/desk_main as `rt run` does, and keeps the LLVM module that the compiler gets. The module
-is made for x86-64. WebAssembly with 64-bit addresses has the same sizes and the same order of bytes, so the module gets
+It builds the last step of crates/desk_main as `rt run` does, and keeps the LLVM module that the compiler gets. The
+module is made for x86-64. WebAssembly with 64-bit addresses has the same sizes and the same order of bytes, so the module gets
 the name and layout of that, is compiled by the kit's clang (some five minutes of a processor), and is linked with
 faces/page/machine.c. --module takes a module that was kept, --object one that was compiled.
 """
@@ -73,12 +73,16 @@ def keep_module(built: Path, folder: Path) -> Path:
     crate, kept = built / "crates" / "desk_main", folder / "module.bc"
     program = crate / "out" / "desk_main"
     before = program.read_bytes()
-    command = kit_that_keeps(folder, kept)
+    command, aside = kit_that_keeps(folder, kept), folder / "aside"
+    aside.mkdir()
     for it in (crate / "out").glob("desk_main*"):
-        it.unlink()
+        shutil.move(it, aside / it.name)
     with open(crate / "stdin", "rb") as script:
         subprocess.run([command, "run"], cwd=crate, stdin=script, stdout=subprocess.DEVNULL, check=False)
-    if not kept.exists() or program.read_bytes() != before:
+    is_same = program.is_file() and program.read_bytes() == before
+    for it in aside.iterdir():
+        shutil.move(it, crate / "out" / it.name)
+    if not kept.exists() or not is_same:
         raise SystemExit("release.page: the build gave no module, or another program than before")
     return kept
 
@@ -120,8 +124,8 @@ def linked(top: Path, program: Path, folder: Path) -> bytes:
     clang(TARGET, "-O2", "-Wall", "-Wextra", "-mbulk-memory", "-fno-builtin", "-ffreestanding", "-c",
           top / "faces" / "page" / "machine.c", "-o", machine)
     linker.symlink_to(kit() / "toolchain" / "bin" / "clang")
-    subprocess.run([linker, "-mwasm64", "--no-entry", "--gc-sections", "-z", f"stack-size={STACK_BYTES}", "--stack-first",
-                    "-O2", "--strip-all", f"--max-memory={MEMORY_BYTES}", "-o", done, machine, program], check=True)
+    subprocess.run([linker, "-mwasm64", "--no-entry", "--gc-sections", "-z", f"stack-size={STACK_BYTES}",
+                    "--stack-first", "-O2", "--strip-all", f"--max-memory={MEMORY_BYTES}", "-o", done, machine, program], check=True)
     return done.read_bytes()
 
 

@@ -1,7 +1,8 @@
 """Runs a rule file and a script, by the quickest of those that answer alike: what `./try` at the top calls.
 
-The program of release/ is taken where it is of the sources of this clone, else the built one. Otherwise the second evaluator answers, line by line, scripts of up to
-MOST_LINES lines, and longer ones the checked program where the kit is there. Output and status are the program's
+The program of release/ is taken where it is of the sources of this clone, else the built one. Otherwise the second
+evaluator answers, line by line, scripts of up to MOST_LINES lines, and longer ones the checked program where the kit is
+there. Output and status are the program's
 (docs/SCRIPT.md); all else that is told stands on standard error.
 """
 
@@ -35,8 +36,8 @@ MODES = ("run", "check", "lives", "save", "proof")
 # Those that read a script, and go on from an image.
 SCRIPTED = ("run", "save")
 
-USAGE = """usage: ./try [--mode run|check|lives|save|proof] [--limit N] [--resume IMAGE] [--by released|proved|evaluator|checked]
-             RULES [SCRIPT]
+USAGE = """usage: ./try [--mode run|check|lives|save|proof] [--limit N] [--resume IMAGE]
+             [--by released|proved|evaluator|checked] RULES [SCRIPT]
        ./try --gen N                     a load that the program makes itself (docs/SCRIPT.md)
        ./try --where RULES               where and why a rule file is refused, all at once
        ./try --lint RULES                what is accepted in a rule file, and seldom meant
