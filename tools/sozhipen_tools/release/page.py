@@ -3,9 +3,9 @@
     tools/run release.page [--from CLONE] [--module MODULE | --object OBJECT] PAGE
 
 It builds the last step of crates/desk_main as `rt run` does, and keeps the LLVM module that the compiler gets. The
-module is made for x86-64. WebAssembly with 64-bit addresses has the same sizes and the same order of bytes, so the module gets
-the name and layout of that, is compiled by the kit's clang (some five minutes of a processor), and is linked with
-faces/page/machine.c. --module takes a module that was kept, --object one that was compiled.
+module is made for x86-64. WebAssembly with 64-bit addresses has the same sizes and the same order of bytes, so the
+module gets the name and layout of that, is compiled by the kit's clang (some five minutes of a processor), and is
+linked with faces/page/machine.c. --module takes a module that was kept, --object one that was compiled.
 """
 
 from __future__ import annotations
@@ -124,8 +124,9 @@ def linked(top: Path, program: Path, folder: Path) -> bytes:
     clang(TARGET, "-O2", "-Wall", "-Wextra", "-mbulk-memory", "-fno-builtin", "-ffreestanding", "-c",
           top / "faces" / "page" / "machine.c", "-o", machine)
     linker.symlink_to(kit() / "toolchain" / "bin" / "clang")
-    subprocess.run([linker, "-mwasm64", "--no-entry", "--gc-sections", "-z", f"stack-size={STACK_BYTES}",
-                    "--stack-first", "-O2", "--strip-all", f"--max-memory={MEMORY_BYTES}", "-o", done, machine, program], check=True)
+    options = ["-mwasm64", "--no-entry", "--gc-sections", "-z", f"stack-size={STACK_BYTES}", "--stack-first", "-O2",
+               "--strip-all", f"--max-memory={MEMORY_BYTES}"]
+    subprocess.run([linker, *options, "-o", done, machine, program], check=True)
     return done.read_bytes()
 
 
