@@ -4,7 +4,8 @@
 #include <stdlib.h>
 #include <string.h>
 
-/* The statuses of the program where a read or a write fails, where memory is refused, and where its words cannot be had. */
+/* The statuses of the program behind a faulty line, where a read or a write fails, where memory is refused, and where its words cannot be had. */
+#define FAULTY_LINE 1
 #define READ_FAILED 5
 #define WRITE_FAILED 6
 #define MEMORY_REFUSED 7
@@ -176,7 +177,7 @@ int szp_save(szp *handle, const void **image, size_t *len)
         return answer;
     int status = own_line(run, "{\"do\":\"save\"}\n");
     const struct file *file = &run->files[IMAGE_FILE];
-    if (file->is_there && (status == SZP_GOES || (0 <= status && status < SZP_ENDED_BADLY))) {
+    if (file->is_there && (status == SZP_GOES || (0 <= status && status <= FAULTY_LINE))) {
         *image = file->bytes.at;
         *len = file->bytes.len;
     }

@@ -36,14 +36,14 @@ typedef struct szp {
         NULL     \
     }
 
-/* What a call answers: one of these, or the status of docs/DESK.md (0 to 11) with which the run has ended. */
+/* What a call answers: one of these, or the status of docs/DESK.md with which the run has ended: 0, 1 (a line was faulty), 3, 7, 8, 9, 11. Files and words
+ * of a run are in memory, so where the program would end with 5, 6 or 10, memory was refused, and the status is 7. */
 enum {
     SZP_GOES = -1,        /* the run waits for more of its script */
     SZP_NO_MEMORY = -2,   /* memory for the call itself was refused, and nothing was done. The handle is as it was, and still to be closed */
     SZP_BUSY = -3,        /* another call with this handle has not come back: nothing was done */
     SZP_BAD_CALL = -4,    /* an argument cannot be, or the handle is not open: nothing was done */
-    SZP_WITHIN_LINE = -5, /* the last line that was fed has no newline yet: nothing was done */
-    SZP_ENDED_BADLY = 2   /* from this status on the run has not read its script to the end */
+    SZP_WITHIN_LINE = -5  /* the last line that was fed has no newline yet: nothing was done */
 };
 
 /* The forms of what is put out. */
@@ -62,8 +62,8 @@ typedef struct szp_options {
 } szp_options;
 
 /* Begins a run over the text of a rule file. Rules and image are copied. The handle is SZP_INIT, or was closed.
- * SZP_GOES; or 3 where the rules are refused, 9 where the image is, and szp_output has the line that says so; or 7 where the engine had no memory: then the handle
- * is open, and to be closed. With SZP_NO_MEMORY or SZP_BAD_CALL it stays as it was. */
+ * SZP_GOES; or 3 where the rules are refused, 9 where the image is, and szp_output has the line that says so; or 7 where the engine had no memory:
+ * then the handle is open, and to be closed. With SZP_NO_MEMORY or SZP_BAD_CALL it stays as it was. */
 int szp_open(szp *handle, const void *rules, size_t rules_len, const szp_options *options);
 
 /* Takes bytes of the script: lines, each ended by a newline, whole or in pieces. It does not keep them where they lie.
@@ -77,8 +77,8 @@ int szp_output(szp *handle, const void **bytes, size_t *len);
 /* Gives the image of the run as it is between two lines: szp_open goes on from it. The image is good up to the next call with this handle.
  * It is the line {"do":"save"} of the script: it has a number, and szp_output has what it answers. Of a run that was ended
  * by szp_end it gives the image of the end, and is no line.
- * SZP_GOES, or 0 or 1 behind szp_end, where there is an image. Else SZP_WITHIN_LINE, or the status with which the run has ended: 7 or 9 where the image could not be
- * made (docs/DESK.md, Statuses). */
+ * SZP_GOES, or 0 or 1 behind szp_end, where there is an image. Else SZP_WITHIN_LINE, or the status with which the run has ended: 7 or 9 where the
+ * image could not be made (docs/DESK.md, Statuses). */
 int szp_save(szp *handle, const void **image, size_t *len);
 
 /* Gives what is kept, as an object: clock, facts by type, firings, floors by entry point, and how many matches are pending (docs/DESK.md, While it runs).

@@ -141,7 +141,8 @@ struct example {
 
 static struct example example(const char *name, int form)
 {
-    return (struct example){file(examples, name, "drl"), file(examples, name, "jsonl"), file(expected, name, form == SZP_TEXT ? "text" : "objects"), {.form = form}};
+    const char *end = form == SZP_TEXT ? "text" : "objects";
+    return (struct example){file(examples, name, "drl"), file(examples, name, "jsonl"), file(expected, name, end), {.form = form}};
 }
 
 static void gone_example(struct example *it) { gone(&it->rules), gone(&it->script), gone(&it->wanted); }
