@@ -46,7 +46,7 @@ def loaded() -> ctypes.CDLL:
         if place.is_file():
             library = ctypes.CDLL(str(place.resolve()))
             # (this one only hands over what is there: no other thread is to take its turn)
-            library.szp_output = ctypes.PyDLL(library._name).szp_output
+            setattr(library, "szp_output", ctypes.PyDLL(str(place.resolve())).szp_output)
             for name, arguments in CALLS.items():
                 getattr(library, name).argtypes = arguments
             library.szp_memory.restype, library.szp_memory.argtypes = c_uint64, [POINTER(Handle), POINTER(c_uint64)]
