@@ -1,14 +1,16 @@
-"""A client of the programs `replay` and `desk`, to import: docs/LIVE.md says how it is used.
+"""A client of the programs `replay` and `desk` (docs/LIVE.md), and the engine in this process (docs/EMBEDDING.md).
 
-    from sozhipen import Session
+    from sozhipen import Desk, Session
 """
 
-from .answers import Answer, ClientError, Ended, Fact, Fault, Firing, NoProgram, NotKnown
+from .answers import Answer, ClientError, Ended, Fact, Fault, Faulty, Firing, NoProgram, NotKnown
+from .client import Client
+from .desk import Desk
 from .lines import Script
 from .ordering import Ordered
 from .programs import program_words
 from .session import Session
 from .times import date_of, milliseconds
 
-__all__ = ["Answer", "ClientError", "Ended", "Fact", "Fault", "Firing", "NoProgram", "NotKnown", "Ordered", "Script",
-           "Session", "date_of", "milliseconds", "program_words"]
+__all__ = ["Answer", "Client", "ClientError", "Desk", "Ended", "Fact", "Fault", "Faulty", "Firing", "NoProgram",
+           "NotKnown", "Ordered", "Script", "Session", "date_of", "milliseconds", "program_words"]

@@ -4,12 +4,12 @@ from __future__ import annotations
 
 from dataclasses import dataclass, field
 from datetime import datetime
-from typing import TYPE_CHECKING, Any, Optional, Union
+from typing import TYPE_CHECKING, Any, Iterator, Mapping, Optional, Union
 
 from .times import date_of
 
 if TYPE_CHECKING:
-    from .session import Session
+    from .client import Client
 
 Value = Union[int, bool, str]
 
@@ -50,7 +50,7 @@ class Fault:
         return f"fault {self.line} {self.code}" + ("" if self.rule is None else f" (an action of {self.rule})")
 
 
-Names = dict[str, Union[Fact, Value]]
+Names = Mapping[str, Union[Fact, Value]]
 
 
 @dataclass
@@ -90,11 +90,15 @@ class Answer:
     and `clock` the moment behind the line. What is asked of it below waits until the answer has come, and raises Ended
     where it cannot come any more."""
 
-    def __init__(self, session: "Session", number: int, text: str, command: Optional[dict[str, Any]]):
+    def __init__(self, session: "Client", number: int, text: str, command: Optional[dict[str, Any]]):
         self.session, self.number, self.text, self.command = session, number, text, command
         self.place = number
         self.clock = 0
         self.done = False
+        self.begin_told()
+
+    def begin_told(self) -> None:
+        """Nothing is told yet."""
         self.told_fact: Optional[Fact] = None
         self.told_fault: Optional[Fault] = None
         self.told_firings: list[Firing] = []
@@ -136,6 +140,10 @@ class Answer:
     def firings(self) -> list[Firing]:
         return self.wait().told_firings
 
+    def __iter__(self) -> Iterator[Firing]:
+        """Its firings."""
+        return iter(self.firings)
+
     @property
     def fired(self) -> int:
         """How many firings a fire line made."""
@@ -164,7 +172,15 @@ class ClientError(Exception):
 
 
 class NoProgram(ClientError):
-    """The program, or its rule file, cannot be started."""
+    """The program, its rule file or the library is not there."""
+
+
+class Faulty(ClientError):
+    """A line is faulty and changed nothing: its `fault`."""
+
+    def __init__(self, fault: Fault):
+        super().__init__(f"{fault}: {fault.sent}")
+        self.fault = fault
 
 
 class NotKnown(ClientError):

@@ -2,6 +2,7 @@
 
 from __future__ import annotations
 
+import io
 from pathlib import Path
 from typing import Optional
 
@@ -17,6 +18,14 @@ def head_of(path: Path) -> Optional[Head]:
         with open(path, "rb") as file:
             return head_in(file)
     except (OSError, BadImage):
+        return None
+
+
+def head_in_bytes(image: bytes) -> Optional[Head]:
+    """The same of an image in memory."""
+    try:
+        return head_in(io.BytesIO(image))
+    except BadImage:
         return None
 
 

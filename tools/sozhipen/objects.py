@@ -32,8 +32,14 @@ def variable(name: str) -> str:
 
 def told_names(told: Members, facts: list[Fact]) -> Names:
     """What the variables stand for that a firing's object names."""
-    names: Names = {variable(it["name"]): fact for it, fact in zip(told["facts"], facts) if "name" in it}
+    names = {variable(it["name"]): fact for it, fact in zip(told["facts"], facts) if "name" in it}
     return {**names, **{variable(it["name"]): it["value"] for it in told["results"] if "name" in it}}
+
+
+def all_names(rules: Optional[Rules], rule: str, facts: list[Fact], results: list[int], told: Names) -> Names:
+    """What is told, with the variables of fields, as far as the ways of the rule that it leaves agree on them."""
+    ways = [names for _, names in rules.named(rule, facts, results)] if rules else []
+    return {**agreed([names for names in ways if all(names.get(key) == told[key] for key in told)]), **told}
 
 
 def version_in(firing: Firing, number: int) -> Optional[Fact]:
@@ -125,9 +131,7 @@ class ObjectReading(Reading):
 
     def names(self, rule: str, facts: list[Fact], results: list[int], told: Names) -> Names:
         """What is told, with the variables of fields, as far as the ways of the rule that it leaves agree on them."""
-        rules = self.rules_of(facts)
-        ways = [names for _, names in rules.named(rule, facts, results)] if rules else []
-        return {**agreed([names for names in ways if all(names.get(key) == told[key] for key in told)]), **told}
+        return all_names(self.rules_of(facts), rule, facts, results, told)
 
     def fault(self, answer: Answer, told: Members) -> None:
         fault = Fault(told["line"], told["fault"], answer.text, self.firing.rule if self.firing else None)

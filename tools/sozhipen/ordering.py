@@ -9,9 +9,9 @@ from pathlib import Path
 from typing import Any, Optional, Union
 
 from .answers import Answer, ClientError
+from .client import Client
 from .lines import line_of
 from .record import Record, lines_in
-from .session import Session
 
 
 class Ordered:
@@ -27,7 +27,7 @@ class Ordered:
     clock is a line of that file first. After a crash a new session over the same rules gets all that the record has
     once more, in the same lines, and what was held back is held back again; `again` has the answers."""
 
-    def __init__(self, session: Session, lateness: Optional[int] = None, step: Optional[int] = None,
+    def __init__(self, session: Client, lateness: Optional[int] = None, step: Optional[int] = None,
                  record: Union[None, str, Path] = None):
         if session.rules is None:
             session.close()

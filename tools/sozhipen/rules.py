@@ -97,9 +97,17 @@ def agreed(names: list[Bound]) -> Names:
     return {name: value for name, value in first.items() if all(other.get(name) == value for other in others)}
 
 
-def rules_of(path: Path) -> Optional[Rules]:
-    """The rules of a file, None where it is not there, refused, or deeper than the evaluator can go."""
+def rules_in(data: bytes) -> Optional[Rules]:
+    """The rules of a text, None where it is refused, or deeper than the evaluator can go."""
     try:
-        return Rules(path.read_bytes())
-    except (OSError, ValueError, RecursionError):
+        return Rules(data)
+    except (ValueError, RecursionError):
+        return None
+
+
+def rules_of(path: Path) -> Optional[Rules]:
+    """The rules of a file, None where it is not there or has none."""
+    try:
+        return rules_in(path.read_bytes())
+    except OSError:
         return None

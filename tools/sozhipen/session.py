@@ -11,33 +11,31 @@ Each method writes one line and returns its `Answer` at once; what is asked of t
 
 from __future__ import annotations
 
-import json
 import os
 import subprocess
 import sys
 import threading
-from collections import Counter
 from pathlib import Path
 from typing import Any, Callable, Optional, Union
 
 from sozhipen_tools.pipes import pipe
 
-from .answers import Answer, ClientError, Ended, Fact, Fault, NoProgram, NotKnown
-from .lines import Lines, line_of
+from .answers import Answer, Ended, NoProgram
+from .client import Client
 from .objects import ObjectReading
 from .programs import Program, is_desk, option_words, program_words
 from .reading import BadOutput, Reading
 from .record import Record, Target
-from .rules import rules_of
+from .rules import Rules, rules_of
 from .texts import TextReading
 
 
-class Session(Lines[Answer]):
+class Session(Client):
     """A program that runs over a rule file. `on_answer` is called in the reading thread with each answer that has come,
     in the order of the lines; it must neither ask for another nor send a line. `record`, a path or a binary file, takes
     each line of the caller's before the program gets it: a script that gives the same run again. With the path of an
     `image` the program goes on from it, and lines count on from its last one. `faults` has all faults since the
-    beginning or the image.
+    beginning or the image. With `raises` each method waits for its answer, and raises `Faulty` where that is a fault.
 
     With `live` the program is a `desk`, and where `live` is None its name says whether it is one. Its `limit` is that
     of each fire line, and the session goes on; the `image` need not be there yet, and at the end of the session the
@@ -49,18 +47,16 @@ class Session(Lines[Answer]):
 
     def __init__(self, rules: Union[str, Path], program: Program = None, limit: Optional[int] = None,
                  on_answer: Optional[Callable[[Answer], None]] = None, record: Optional[Target] = None,
-                 image: Union[None, str, Path] = None, live: Optional[bool] = None):
-        self.started_with = (rules, program, limit, on_answer, record, image, live)
+                 image: Union[None, str, Path] = None, live: Optional[bool] = None, raises: bool = False):
+        self.started_with = (rules, program, limit, on_answer, record, image, live, raises)
         self.live = is_desk(program_words(program)) if live is None else live
-        self.rules = rules_of(Path(rules))
-        self.reading: Reading = (ObjectReading(self.rules, image, self.hand_on) if self.live
-                                 else TextReading(self.rules, image, self.hand_on))
+        self.read_rules = rules_of(Path(rules))
+        self.reading: Reading = (ObjectReading(self.read_rules, image, self.hand_on) if self.live
+                                 else TextReading(self.read_rules, image, self.hand_on))
         self.on_answer = on_answer
         self.record = None if record is None else Record(record)
-        self.written = 0
-        self.ended: Optional[Ended] = None
-        self.known_words: set[str] = set()
-        self.asks_counts = self.live
+        self.raises, self.asks_counts = raises, self.live
+        self.begin_words()
         self.changed, self.writing = threading.Condition(), threading.Lock()
         options = option_words(self.live, limit, image)
         self.process = self.started(program_words(program, self.live) + options + ["--", str(rules)])
@@ -77,105 +73,11 @@ class Session(Lines[Answer]):
             raise NoProgram(f"there is no program {error.filename or words[0]} to run ({error.strerror}): build it "
                             "(README.md, Commands), or leave the second evaluator to answer, and name none") from None
 
-    # ---- what is known, at the place of the script up to which answers have come
-
     @property
-    def lines(self) -> int:
-        """The number of the line that was written last, those before the image counted too."""
-        return self.reading.lines_before + self.written
-
-    @property
-    def clock(self) -> int:
-        return self.reading.book.clock
-
-    @property
-    def faults(self) -> list[Fault]:
-        return self.reading.faults
-
-    @property
-    def facts(self) -> list[Fact]:
-        """The facts that an answer may still name; of a `desk` those that came in this session. NotKnown of a desk
-        whose rule file cannot be read here."""
-        return self.reading.known_facts()
-
-    def known_counts(self) -> dict[str, Any]:
-        """The clock, the lines written, the faults by code, the firings by rule, and the `facts` by type. After an
-        image, `before` has the lines and firings up to it, and whether one of them was faulty: by rule and by code
-        these are not known, and stand in none of the others, but the lines do. Without `facts` there is no count of
-        them."""
-        found = {"clock": self.clock, "lines": self.lines,
-                 "faults": dict(Counter(fault.code for fault in self.faults)), "firings": dict(self.reading.fired)}
-        try:
-            found["facts"] = dict(Counter(fact.type for fact in self.facts))
-        except NotKnown:
-            pass
-        if before := self.reading.before:
-            found["before"] = {"lines": before.lines, "firings": before.firings, "faulty": before.faulty}
-        return found
-
-    # ---- what is asked
-
-    def counts(self) -> dict[str, Any]:
-        """For a dashboard. A `desk` that runs and knows the line `counts` is asked, and besides the `known_counts`
-        there are `kept`, the kept facts by type, `floors` by entry point, how many matches are `pending`, and the
-        firings in all, `all_firings`, those before its image too."""
-        told = self.asked_counts() if self.asks_counts and not self.ended else None
-        found = self.known_counts()
-        if told is not None:
-            found.update(kept=told["counts"], floors=told["floors"], pending=told["pending"],
-                         all_firings=told["firings"])
-        return found
-
-    def asked_counts(self) -> Optional[dict[str, Any]]:
-        """The counts of the program, None where it does not know the line or has ended. It is not asked again then."""
-        try:
-            return self.send_known({"do": "counts"}).wait().told_counts
-        except (Ended, NotKnown):
-            self.asks_counts = False
-            return None
-
-    def kept(self, type_name: Optional[str] = None) -> list[Fact]:
-        """The facts that a `desk` keeps, those of a type or all, in the order of their tags: as they came, or were
-        modified last. NotKnown of another program, ClientError where there is no such type."""
-        of_type = {} if type_name is None else {"type": type_name}
-        return self.accepted({"do": "facts", **of_type}).told_kept
-
-    def save(self) -> None:
-        """Has a `desk` put its image in place, and returns once it is safe there. NotKnown where it does not save while
-        it runs, or names no image."""
-        answer = self.accepted({"do": "save"})
-        if not answer.told_saved:
-            raise ClientError(f"the image is not told as saved: {answer.text}")
-
-    def accepted(self, command: dict[str, Any]) -> Answer:
-        """The answer of a line that not every program knows; ClientError where it is faulty."""
-        answer = self.send_known(command)
-        if answer.fault:
-            raise ClientError(f"{answer.fault}: {answer.text}")
-        return answer
+    def rules(self) -> Optional[Rules]:
+        return self.read_rules
 
     # ---- lines
-
-    def send_known(self, command: dict[str, Any]) -> Answer:
-        """Sends a line that not every program knows; NotKnown where this one does not."""
-        answer, word = self.send(command), command["do"]
-        if word not in self.known_words:
-            if answer.fault and answer.fault.code == "BadCommand":
-                without = ", as one without an image" if word == "save" else ""
-                raise NotKnown(f"this program does not know the line {answer.text}: it answers BadCommand{without}")
-            self.known_words.add(word)
-        return answer
-
-    def send(self, command: dict[str, Any]) -> Answer:
-        return self.write(line_of(command), command)
-
-    def send_line(self, text: str) -> Answer:
-        """Sends a line of a script as it stands, without its newline."""
-        try:
-            command = json.loads(text)
-        except (ValueError, RecursionError):
-            command = None
-        return self.write(text, command if isinstance(command, dict) else None)
 
     def write(self, text: str, command: Optional[dict[str, Any]]) -> Answer:
         if "\n" in text:
@@ -189,7 +91,7 @@ class Session(Lines[Answer]):
             if self.record:
                 self.record.take(line)
             self.put(line + behind)
-        return answer
+        return self.judged(answer)
 
     def put(self, data: bytes) -> None:
         try:
@@ -284,12 +186,3 @@ class Session(Lines[Answer]):
         if not self.ended:
             self.kill()
         return Session(*self.started_with)
-
-    def __enter__(self) -> "Session":
-        return self
-
-    def __exit__(self, kind: Any, error: Any, trace: Any) -> None:
-        if kind is None:
-            self.close()
-        elif not self.ended:
-            self.kill()

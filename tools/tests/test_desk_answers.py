@@ -65,7 +65,7 @@ class Values(Desk):
         """Those of facts and results are told; those of fields come from the rule file."""
         for session, bill in ((self.desk(BILLS), {"n": 1, "c": 5}), (self.elsewhere(BILLS), {})):
             order = session.insert("Order", ORDER).fact
-            names = session.fire(1).firings[0].names
+            names = dict(session.fire(1).firings[0].names)
             fact = names.pop("o")
             assert order and isinstance(fact, Fact)
             self.assertEqual((names, fact.values, session.close()), (bill, order.values, 0))

@@ -246,6 +246,13 @@ class Commands(Pages):
             self.skipTest(f"there is no program {PROGRAM}")
         self.assertEqual(self.tree.run(self.block("LIVE", "coproc ").text).stdout, "new #1 Mark\nstatus 0\n")
 
+    @unittest.skipUnless((TOP / "release" / "libsozhipen.so").is_file(), "there is no library in release/")
+    def test_embedding(self) -> None:
+        self.commands("EMBEDDING", "cc -o example")
+        block = next(block for block in BLOCKS["EMBEDDING"] if block.language == "python")
+        done = self.tree.run(f"PYTHONPATH=tools {sys.executable} -", block.text)
+        self.assertEqual(done.stdout, after(block).text, done.stderr)
+
     def test_python(self) -> None:
         blocks = [block for page in ("LIVE", "OPERATING") for block in BLOCKS[page] if block.language == "python"]
         self.assertEqual(len(blocks), 4)
@@ -404,7 +411,7 @@ class All(unittest.TestCase):
         if block.page == "TOOLS" and block.begins("declare Scan", '{"do":"at","ms":5000}'):
             return True  # test_docs
         commands = ("./try ", "sed ", "python3 ", "PYTHONPATH=tools ", "tools/run ", "coproc ", "java ", "program=",
-                    "mkdir ")
+                    "mkdir ", "cc -o ")
         is_output = (previous := before(block)) is not None and (bool(previous.language) or previous.begins(*commands))
         return block.begins(*commands) or is_output
 

@@ -24,11 +24,11 @@ from .pages import Page, pages_of
 from .tree import Tree
 
 # The greatest number of words, by page, and of all together; programs and what they print are not counted.
-LIMITS = {"README": 725, "RULES": 5300, "LIVES": 2250, "SCRIPT": 2690, "LIVE": 3800, "OPERATING": 1400,
-          "EXAMPLES": 2500, "COMING-FROM": 2840, "TOOLS": 1500, "RECIPES": 700, "PROVED": 5570, "MAP": 4070,
+LIMITS = {"README": 775, "RULES": 5300, "LIVES": 2250, "SCRIPT": 2690, "LIVE": 3810, "OPERATING": 1400,
+          "EXAMPLES": 2500, "COMING-FROM": 2840, "TOOLS": 1510, "RECIPES": 700, "PROVED": 5610, "MAP": 4110,
           "DECISIONS": 3300, "PERFORMANCE": 2700, "CHANGING": 2660, "PROOF-NOTES": 3210, "DESK": 1100,
-          "SCALING": 1660}
-ALL_WORDS = 47_700
+          "SCALING": 1660, "EMBEDDING": 1150}
+ALL_WORDS = 49_000
 LONG = 40
 # Pages that speak of the code alone: a name of code that stands nowhere is a fault there.
 OF_CODE = {"PROVED", "MAP", "DECISIONS", "CHANGING", "PROOF-NOTES"}

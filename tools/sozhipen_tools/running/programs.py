@@ -1,4 +1,4 @@
-"""The three that answer a script: the second evaluator, the built program, and the checked one."""
+"""Those that answer a script: the released program, the built one, the second evaluator, and the checked program."""
 
 from __future__ import annotations
 
@@ -15,6 +15,7 @@ from ..places import BUILT, TOP
 from ..reference import live
 from ..reference.meaning.program import Program
 from ..reference.replay import Asked, mode_text, put, scripted
+from ..release.folder import STATIC, Release, fitting
 
 CRATE = TOP / "crates" / "replay_main"
 # The checksum of the program that passed the gate, which .ci/run writes.
@@ -23,6 +24,29 @@ CHECKSUM = BUILT.with_name("proved.sha256")
 
 def tell(text: str) -> None:
     print(f"try: {text}", file=sys.stderr, flush=True)
+
+
+# ---- the released program
+
+
+def starts(program: Path) -> bool:
+    """Whether this machine can start a program: not where its C library is older than the one that it wants."""
+    try:
+        return subprocess.run([str(program), "--version"], stdin=subprocess.DEVNULL, stdout=subprocess.DEVNULL,
+                              stderr=subprocess.DEVNULL, check=False).returncode == 0
+    except OSError:
+        return False
+
+
+def released_program() -> tuple[Optional[Path], str]:
+    """The released program that is of the sources of this clone and can be started, and what it is."""
+    release: Optional[Release] = fitting()
+    if release is None:
+        return None, "there is no release of these sources"
+    for name in ("replay", f"replay{STATIC}"):
+        if release.is_whole(name) and starts(release.folder / name):
+            return release.folder / name, f"release/{name}, {release.of.get('build')}, of these sources"
+    return None, "the released programs are not as they were released, or cannot be started here"
 
 
 # ---- the built program

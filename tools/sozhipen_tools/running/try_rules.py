@@ -1,7 +1,8 @@
 """Runs a rule file and a script, by the quickest of those that answer alike: what `./try` at the top calls.
 
-The built program is taken where it is there. Otherwise the second evaluator answers, line by line, scripts of up to
-MOST_LINES lines, and longer ones the checked program where the kit is there. Output and status are the program's
+The program of release/ is taken where it is of the sources of this clone, else the built one. Otherwise the second
+evaluator answers, line by line, scripts of up to MOST_LINES lines, and longer ones the checked program where the kit is
+there. Output and status are the program's
 (docs/SCRIPT.md); all else that is told stands on standard error.
 """
 
@@ -25,7 +26,8 @@ from ..reference.meaning.run import program_or_refusal
 from ..reference.replay import BadWords, WriteFailed, options_and_rules
 from ..rulefile import lint, where
 from . import cases, why
-from .programs import built_is_current, by_built, by_checked, by_evaluator, checked_is_there, name_of_built, put, tell
+from .programs import (built_is_current, by_built, by_checked, by_evaluator, checked_is_there, name_of_built, put,
+                       released_program, tell)
 
 # As long as the second evaluator takes some seconds, where rules join events: docs/TOOLS.md.
 MOST_LINES = 10_000
@@ -34,8 +36,8 @@ MODES = ("run", "check", "lives", "save", "proof")
 # Those that read a script, and go on from an image.
 SCRIPTED = ("run", "save")
 
-USAGE = """usage: ./try [--mode run|check|lives|save|proof] [--limit N] [--resume IMAGE] [--by proved|evaluator|checked]
-             RULES [SCRIPT]
+USAGE = """usage: ./try [--mode run|check|lives|save|proof] [--limit N] [--resume IMAGE]
+             [--by released|proved|evaluator|checked] RULES [SCRIPT]
        ./try --gen N                     a load that the program makes itself (docs/SCRIPT.md)
        ./try --where RULES               where and why a rule file is refused, all at once
        ./try --lint RULES                what is accepted in a rule file, and seldom meant
@@ -87,8 +89,9 @@ def without_by(words: list[str]) -> tuple[list[str], Optional[str]]:
     if place is None:
         return words, None
     name, width = (words[place][5:], 1) if "=" in words[place] else (" ".join(words[place + 1:place + 2]), 2)
-    if name not in ("proved", "evaluator", "checked") and not is_program(name):
-        raise Ended(2, f"--by is proved, evaluator, checked or the path of a built program, and not `{name}`")
+    if name not in ("released", "proved", "evaluator", "checked") and not is_program(name):
+        raise Ended(2, "--by is released, proved, evaluator, checked or the path of a built program, and not "
+                    f"`{name}`")
     return words[:place] + words[place + width:], name
 
 
@@ -201,6 +204,8 @@ def chosen(asked: Asked, script: Optional[BinaryIO]) -> str:
         raise Ended(2, "--by checked takes no --resume and no --mode save: it sees no files of this machine")
     if asked.by:
         return asked.by
+    if released_program()[0]:
+        return "released"
     if built_is_current():
         return "proved"
     is_for_checked = script is not None and not has_image and is_long(script) and checked_is_there()
@@ -249,11 +254,22 @@ def run_rules(words: list[str]) -> int:
             script.close()
 
 
+def named(by: str) -> tuple[Path, str]:
+    """A program that answers, and what it is."""
+    if by == "released":
+        program, name = released_program()
+        if program is None:
+            raise Ended(127, name)
+        return program, name
+    return (BUILT, name_of_built()) if by == "proved" else (Path(by), f"the program {by}")
+
+
 def run_script(asked: Asked, data: bytes, script: Optional[BinaryIO]) -> int:
     by = chosen(asked, script)
-    if by == "proved" or is_program(by):
-        tell(name_of_built() if by == "proved" else f"the program {by}")
-        status = by_built([*asked.options, "--", str(asked.rules)], script, BUILT if by == "proved" else Path(by))
+    if by in ("released", "proved") or is_program(by):
+        program_file, name = named(by)
+        tell(name)
+        status = by_built([*asked.options, "--", str(asked.rules)], script, program_file)
         if status == 3:
             return refused(asked, data)
         hint(asked, status)
@@ -269,9 +285,10 @@ def run_script(asked: Asked, data: bytes, script: Optional[BinaryIO]) -> int:
 
 def generated(words: list[str]) -> int:
     """The load of a number: the program alone is quick enough for it."""
-    if built_is_current():
-        tell(name_of_built())
-        return by_built(words, None)
+    released, name = released_program()
+    if released or built_is_current():
+        tell(name if released else name_of_built())
+        return by_built(words, None, released or BUILT)
     raise Ended(2, "--gen is for the proved program, which is not built (README.md, Commands)")
 
 

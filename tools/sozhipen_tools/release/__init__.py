@@ -1,0 +1,1 @@
+"""The files of a release, made of the proved build and held against it."""
