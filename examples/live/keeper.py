@@ -1,13 +1,13 @@
 #!/usr/bin/env python3
 """Keeps a desk that loses nothing: each line of a script is on the disk before the program `desk` gets it.
 
-    python3 keeper.py PROGRAM RULES FOLDER [--lines N] [--keep K] [--limit N] [--text] < SCRIPT
+    python3 keeper.py PROGRAM RULES FOLDER [--lines N] [--keep K] [--limit N] [--next RULES2] [--text] < SCRIPT
 
 Behind each N lines, and behind the last one, the log has a line `save`, which ends a segment. FOLDER has log/ and
 answers/ of each segment and the image/ before it, in files that are named by the number of lines before the segment;
 in log/ a second number says how many of these are the script's. The answers to the last segment are in a file that ends
 in `.part`. It gets its name when the segment is saved, and then the image does. With --keep, what log/ and image/ have
-before the last K images is removed.
+before the last K images is removed. With --next events are kept for rules to come, too (docs/CHANGING-RULES.md).
 
 After a crash the same command runs the lines behind the last image again, which answer the same bytes into the same
 file. Then `taken N` on standard output says how many lines of the script were logged: the sender goes on behind these.
@@ -39,7 +39,7 @@ WORDS = {
     5: "a read of the rule file, the image or the script failed; the same command goes on",
     6: "it could not write its answers or its image; the same command goes on",
     7: "it was refused memory; with more memory the same command goes on",
-    9: f"an image is refused; with the rule file that it was made with, the same command goes on; otherwise {BROKEN}",
+    9: f"an image is refused; if the rule file was changed, read docs/CHANGING-RULES.md; otherwise {BROKEN}",
 }
 
 
@@ -226,9 +226,11 @@ def main() -> int:
     parser.add_argument("--lines", metavar="N", type=int, default=10_000, help="the lines of a segment; 10000")
     parser.add_argument("--keep", metavar="K", type=int, default=0, help="how many images are kept; all")
     parser.add_argument("--limit", metavar="N", type=int, default=100_000, help="the most firings of a line; 100000")
+    parser.add_argument("--next", metavar="RULES2", help="rules to come, for which events are kept")
     parser.add_argument("--text", action="store_true", help="the answers are lines of text")
     asked = parser.parse_args()
-    words = [asked.program, "--limit", str(asked.limit), *(["--text"] if asked.text else [])]
+    words = [asked.program, "--limit", str(asked.limit), *(["--text"] if asked.text else []),
+             *(["--keep", asked.next] if asked.next else [])]
     try:
         # Before anything is kept: whether there is a program, and whether it accepts the rules.
         tried = subprocess.run([*words, asked.rules], stdin=subprocess.DEVNULL, stdout=subprocess.PIPE, check=False)

@@ -9,6 +9,8 @@ import tempfile
 import unittest
 from collections import Counter
 from dataclasses import replace
+from functools import lru_cache
+from io import BytesIO
 from pathlib import Path
 from typing import Any, Callable, Optional, Union
 from unittest import mock
@@ -44,6 +46,9 @@ rule "sent" when $s : Sent() Paid( this after[0s,3s] $s ) then end
 WITHIN_AN_HOUR = 'rule "twice" when $p : Paid() Paid( this after[0s,1h] $p ) then end\n'
 
 
+parts_of = lru_cache(changes_of)
+
+
 def insert(name: str, **fields: Union[int, str, bool]) -> Line:
     return {"do": "insert", "type": name, "fields": fields}
 
@@ -65,14 +70,15 @@ def program_of(rules: str) -> Program:
 class Desk:
     """What desks print and leave that follow one another over one image."""
 
-    def __init__(self, rules: str, *lines: Line):
+    def __init__(self, rules: str, *lines: Line, keep: Optional[str] = None):
         self.image: Optional[bytes] = None
-        self.first = self.under(rules, *lines)
+        self.first = self.under(rules, *lines, keep=keep)
 
-    def under(self, rules: str, *lines: Line) -> list[str]:
+    def under(self, rules: str, *lines: Line, keep: Optional[str] = None) -> list[str]:
         """The lines of text of the next run, but for those that close a line."""
         try:
-            state = desk_at_start(program_of(rules), 100, True, self.image, lambda run: None)
+            state = desk_at_start(program_of(rules), 100, True, self.image, lambda run: None,
+                                  None if keep is None else program_of(keep))
         except Refused as refused:
             return [f"refused checkpoint {refused}"]
         for line in lines:
@@ -256,9 +262,10 @@ class WhatIsRefused(unittest.TestCase):
     def test_an_image_of_rules_that_are_none(self) -> None:
         image = decode(Desk(PAID + BIG).image or b"")
         desk = Desk(PAID + BIG)
-        for change, code in (({"rules": b"rule"}, "OtherRules"), ({"lines": 2**62}, "Unfit")):
+        changes: list[dict[str, Any]] = [{"rules": b"rule"}, {"rules": b"\xff"}, {"lines": 2**62}]
+        for change in changes:
             desk.image = encode(replace(image, run=replace(image.run, **change)))
-            self.assertEqual(desk.under(PAID + HUGE), [f"refused checkpoint {code}"])
+            self.assertEqual(desk.under(PAID + HUGE), ["refused checkpoint Unfit"])
 
 
 class Lives(unittest.TestCase):
@@ -271,23 +278,26 @@ class Lives(unittest.TestCase):
         return desk
 
     def test_bytes(self) -> None:
-        """Behind the fields, which stand as before, those of Ask, Paid, Sent, Note and Kept."""
+        """In front of the image without them those of Ask, Paid, Sent, Note and Kept."""
         image = self.changed().image or b""
         lives = b"".join([(5).to_bytes(8, "big"), b"\2" + (10_000).to_bytes(8, "big"), b"\2" + bytes(8),
                           b"\2" + (3_000).to_bytes(8, "big"), b"\0", b"\1" + (3_600_000).to_bytes(8, "big")])
         without = encode(replace(decode(image), lives=None))
-        self.assertEqual(image, b"FXC2" + without[4:] + lives)
+        self.assertEqual(image, b"FXC2" + lives + without)
+        self.assertEqual(without[:4], b"FXC1")
         self.assertEqual(decode(image).lives, (
             ImageLife(FINITE, 10_000), ImageLife(FINITE, 0), ImageLife(FINITE, 3_000), ImageLife(PLAIN),
             ImageLife(EXPLICIT, 3_600_000)))
         self.assertEqual(encode(decode(image)), image)
-        for other in (image[:-1], image + b"\0", b"FXC3" + image[4:], b"FXC1" + image[4:], b"FXC2" + without[4:],
-                      image[:-9] + b"\4" + image[-8:], b"FXC2" + without[4:] + bytes(8) + b"\0"):
+        for other in (image[:-1], image + b"\0", b"FXC3" + image[4:], b"FXC1" + image[4:], b"FXC2" + without,
+                      b"FXC2" + without[4:], b"FXC2" + lives + without[4:], b"FXC2" + bytes(8) + without[4:],
+                      b"FXC2" + lives + image, image[:12] + b"\4" + image[13:], b"FXC2" + b"\xff" * 8 + without,
+                      b"FXC2"):
             self.assertRaises(BadImage, decode, other)
-        with tempfile.TemporaryFile() as file:
-            file.write(image)
-            file.seek(0)
-            self.assertEqual(head_in(file).lines, 1)
+        self.assertEqual(head_in(BytesIO(image)), head_in(BytesIO(without)))
+        self.assertEqual(head_in(BytesIO(image)).lines, 1)
+        for end in range(0, len(image) - len(without) + 4):
+            self.assertRaises(BadImage, head_in, BytesIO(image[:end]))
 
     def test_they_go_on(self) -> None:
         """An ask is kept for 10 s, though no rule needs it."""
@@ -300,12 +310,23 @@ class Lives(unittest.TestCase):
         self.assertEqual(desk.under(again.format(11)), ["refused checkpoint Longer Ask"])
         self.assertEqual(desk.under(again.format(10)), ['rule "sent" stays', 'rule "back" new'])
 
-    def test_a_recorder_goes_on_from_it(self) -> None:
+    def test_a_recorder_knows_none(self) -> None:
         desk = self.changed()
-        rules = program_of((decode(desk.image or b"").run.rules).decode())
-        state = resumed(desk.image or b"", rules, 100)
-        self.assertEqual(saved(state), desk.image)
-        self.assertRaisesRegex(Refused, "OtherRules", resumed, desk.image, program_of(BRIEF + ASKED), 100)
+        for rules in (SENT, BRIEF + ASKED):
+            self.assertRaisesRegex(Refused, "BadImage", resumed, desk.image, program_of(rules), 100)
+
+    def test_they_are_told_where_they_are_others(self) -> None:
+        """An image whose lives are those of its rules says none, whatever the one before it said."""
+        desk = self.changed()
+        self.assertEqual(desk.under(SENT + ASKED), ['rule "sent" stays', 'rule "asked" new'])
+        self.assertEqual((desk.image or b"")[:4], b"FXC1")
+        self.assertEqual(Desk(PAID + BIG).under(PAID + BIG + HUGE), ['rule "big" stays', 'rule "huge" new'])
+        same = encode(replace(decode(desk.image or b""), lives=(
+            ImageLife(FINITE, 10_000), ImageLife(FINITE, 0), ImageLife(FINITE, 3_000), ImageLife(PLAIN),
+            ImageLife(EXPLICIT, 3_600_000))))
+        told, desk.image = desk.image, same
+        self.assertEqual(desk.under(SENT + ASKED), [])
+        self.assertEqual(desk.image, told)
 
     def test_lives_that_are_not_safe(self) -> None:
         desk = Desk(BRIEF + ASKED, insert("Ask"))
@@ -331,6 +352,68 @@ class Lives(unittest.TestCase):
                          ['rule "long" stays', 'rule "other" stays', 'rule "unpaid" gone', "new #3 Sent",
                           'fire "long" #1 #3'])
         self.assertEqual([e.rule for e in decode(desk.image or b"").extras], [1])
+
+
+class Keep(unittest.TestCase):
+    """Events are kept for rules that are to come."""
+    HELD: Line = {"do": "held"}
+
+    def test_a_change_that_was_prepared(self) -> None:
+        """Those of Paid for an hour, and then a rule that needs them so is taken."""
+        later = BRIEF + ASKED + WITHIN_AN_HOUR
+        desk = Desk(BRIEF + ASKED, insert("Ask"), insert("Paid"), FIRE, at(20_000), self.HELD, keep=later)
+        self.assertEqual(desk.first[3:], ["held Ask 0", "held Paid 1"])
+        self.assertEqual(decode(desk.image or b"").lives, (ImageLife(FINITE, 10_000), ImageLife(FINITE, 3_600_000)))
+        self.assertEqual(desk.under(BRIEF + ASKED, self.HELD, keep=later), ["held Ask 0", "held Paid 1"])
+        self.assertEqual(desk.under(later, insert("Paid"), FIRE), [
+            'rule "asked" stays', 'rule "twice" new', "new #3 Paid", 'fire "twice" #3 #3', 'fire "twice" #2 #3'])
+
+    def test_it_changes_what_is_kept_alone(self) -> None:
+        lines = (insert("Ask"), at(9_000), insert("Paid"), FIRE, at(50_000), insert("Paid"), FIRE)
+        first = Desk(BRIEF + ASKED, *lines).first
+        self.assertEqual(Desk(BRIEF + ASKED, *lines, keep=BRIEF + ASKED + WITHIN_AN_HOUR).first, first)
+        self.assertEqual(first, ["new #1 Ask", "new #2 Paid", 'fire "asked" #1 #2', "new #3 Paid"])
+
+    def test_the_greater_of_both(self) -> None:
+        """By name, and of events whose lives the rules give."""
+        types = ("declare Ask @role( event ) end declare Paid @role( event ) @expires( 1h ) end "
+                 "declare Sent n : long end\n")
+        keep = ("declare Sent @role( event ) end declare Ask @role( event ) end declare Paid @role( event ) end "
+                "declare More @role( event ) end rule r when $a : Ask() Sent( this after[0s,5s] $a ) "
+                "Paid( this after[0s,1d] $a ) More( this after[0s,1s] $a ) then end\n")
+        for own, life in ((1, 86_400), (86_401, 86_401)):
+            rule = f"rule s when $a : Ask() Ask( this after[0s,{own}s] $a ) then end\n"
+            lives = decode(Desk(types + rule, keep=keep).image or b"").lives
+            wanted = (ImageLife(FINITE, life * 1000), ImageLife(EXPLICIT, 3_600_000), ImageLife(PLAIN))
+            self.assertEqual(lives, wanted if life > own else None)
+        ever = BRIEF + "rule r when $a : Ask() Ask( this after[0s] $a ) then end\n"
+        self.assertEqual(decode(Desk(BRIEF + ASKED, keep=ever).image or b"").lives,
+                         (ImageLife(ENDLESS), ImageLife(FINITE, 0)))
+        self.assertIsNone(decode(Desk(ever, keep=BRIEF + ASKED).image or b"").lives)
+
+    def test_behind_an_image_events_were_forgotten(self) -> None:
+        later = BRIEF + ASKED + WITHIN_AN_HOUR
+        desk = Desk(BRIEF + ASKED)
+        before = desk.image
+        self.assertEqual(desk.under(BRIEF + ASKED, keep=later), ["refused checkpoint Longer Paid"])
+        self.assertEqual(desk.under(BRIEF + ASKED + 'rule "any" when Paid() then end', keep=later),
+                         ["refused checkpoint Longer Paid"])
+        self.assertEqual(desk.image, before)
+        others = "declare Paid @role( event ) end declare Ask @role( event ) end declare More @role( event ) end\n"
+        both = ('rule "more" when $m : More() More( this after[0s,1h] $m ) then end\n'
+                'rule "late" when $a : Ask() Ask( this after[0s,1h] $a ) then end\n' + WITHIN_AN_HOUR)
+        self.assertEqual(desk.under(BRIEF + ASKED, keep=others + both), ["refused checkpoint Longer Paid"])
+        self.assertEqual(desk.under(BRIEF + ASKED, keep=others + both.split("\n")[0]), [])
+
+    def test_what_the_rules_themselves_are_refused_for_comes_first(self) -> None:
+        desk = Desk(BRIEF + ASKED, insert("Ask"), insert("Paid"))
+        self.assertEqual(desk.under(BRIEF + WITHIN_AN_HOUR.replace("1h", "0s"), keep=BRIEF + WITHIN_AN_HOUR),
+                         ["refused checkpoint Pending"])
+
+    def test_a_new_type_has_the_life_of_its_rules(self) -> None:
+        new = BRIEF + "declare Sent @role( event ) end\n" + ASKED
+        keep = new + 'rule "sent" when $s : Sent() Sent( this after[0s,1s] $s ) then end\n'
+        self.assertEqual(Desk(BRIEF + ASKED).under(new, keep=keep), ["refused checkpoint Longer Sent"])
 
 
 class Printed(unittest.TestCase):
@@ -388,7 +471,6 @@ class Printed(unittest.TestCase):
         self.assertEqual(self.image, before)
         self.assertEqual(self.ran(PAID + BIG + HUGE, paid(2000))[0].encode(), told)
 
-
     def test_a_client_goes_on(self) -> None:
         self.ran(PAID + BIG, paid(1500), FIRE)
         rules, image = self.folder / "rules.drl", self.folder / "image"
@@ -397,12 +479,26 @@ class Printed(unittest.TestCase):
             session.insert("Paid", {"cents": 2000})
             self.assertEqual([firing.rule for firing in session.fire().firings], ["big", "huge"])
             self.assertEqual([fact.id for fact in session.kept()], [1, 2])
-        self.assertEqual(self.image[:4], b"FXC2")
+        self.assertEqual(self.image[:4], b"FXC1")
+
+    def test_words(self) -> None:
+        """The rules for which events are kept are read behind the rules, before the image."""
+        (self.folder / "image").write_bytes(b"no image")
+        (self.folder / "wrong.drl").write_text("rule when then", encoding="utf-8")
+        keep = ("--image", "image", "--keep")
+        self.assertEqual(self.ran("declare", words=(*keep, "wrong.drl"))[1], 3)
+        self.assertEqual(self.ran(PAID, words=(*keep, "none.drl")), ("refused item 0 line 0 Missing\n", 3))
+        self.assertEqual(self.ran(PAID, words=(*keep, "wrong.drl")), ("refused item 1 line 1 Syntax\n", 3))
+        self.assertEqual(self.ran(PAID, words=(*keep, "rules.drl")), ("refused checkpoint BadImage\n", 9))
+        self.assertEqual(self.ran(PAID + BIG, paid(101), FIRE, words=("--text", "--keep", "rules.drl")),
+                         ('new #1 Paid\ndone 1\nfire "big" #1\ndone 2\n', 0))
+        for words in (("--keep", "rules.drl", "--keep", "rules.drl"), ("--keep",)):
+            self.assertEqual(self.ran(PAID, words=words)[1], 2)
 
 
 class Comparer(unittest.TestCase):
     def first(self, end: int) -> Optional[str]:
-        found = (comparer.first_difference(changes_of(seed), seed % 2 == 0, Counter()) for seed in range(end))
+        found = (comparer.first_difference(parts_of(seed), seed % 2 == 0, Counter()) for seed in range(end))
         return next((said for said in found if said), None)
 
     def test_the_evaluator_is_as_the_definition(self) -> None:
@@ -425,10 +521,13 @@ class Comparer(unittest.TestCase):
             other = changes.changed(w, new)
             return replace(other, program=replace(other.program, lives=None))
 
-        wrong: list[Callable[[Any, Program], Any]] = [marked_by_place, without_marks, without_extras, by_other_lives]
-        for changed in wrong:
-            with mock.patch.object(resume, "changed", changed):
-                self.assertIsNotNone(self.first(20), changed.__name__)
+        wrong: list[tuple[str, Callable]] = [("changed", marked_by_place), ("changed", without_marks),
+                                             ("changed", without_extras), ("changed", by_other_lives),
+                                             ("kept_for", lambda program, keep: program),
+                                             ("longer_types", lambda lives, keep: [])]
+        for name, other in wrong:
+            with mock.patch.object(resume, name, other):
+                self.assertIsNotNone(self.first(60), (name, other.__name__))
 
 
 if __name__ == "__main__":

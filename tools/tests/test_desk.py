@@ -263,7 +263,7 @@ class Words(Case):
     def test_statuses(self) -> None:
         self.write(ENDLESS)
         self.write("rule", "bad.drl")
-        usage = (b"usage: desk [--limit N] [--image NAME] [--text] RULES\n", 2)
+        usage = (b"usage: desk [--limit N] [--image NAME] [--keep RULES2] [--text] RULES\n", 2)
         for words in ("", "--limit 0 rules.drl", "--text=1 rules.drl", "--text --text rules.drl",
                       "--mode run rules.drl", "rules.drl rules.drl", "--image"):
             self.assertEqual(self.ran(*words.split()), usage, words)

@@ -86,6 +86,27 @@ class Case(unittest.TestCase):
         self.assertEqual(b"".join(self.files("answers").values()), self.one_run(*words))
 
 
+class OtherRules(Case):
+    """The rules of a desk are changed between two scripts; events are kept for the second ones."""
+    RULES = "declare Ask @role( event ) end\nrule any when Ask() then end\n"
+    LATER = RULES + "rule two when $a : Ask() Ask( this after[1ms,9s] $a ) then end\n"
+
+    def kept(self, rules: str, *words: str) -> int:
+        name = self.path / "rules.drl"
+        name.write_text(rules, encoding="utf-8")
+        (self.path / "later.drl").write_text(self.LATER, encoding="utf-8")
+        lines = b'{"do":"insert","type":"Ask","fields":{}}\n{"do":"fire"}\n{"do":"advance","by":8000}\n'
+        with mock.patch(f"{__name__}.RULES", name):
+            return self.keep(lines, *words)[0]
+
+    def test_a_change(self) -> None:
+        self.assertEqual(self.kept(self.RULES, "--next", str(self.path / "later.drl")), 0)
+        self.assertEqual(self.kept(self.LATER), 0)
+        first, second = self.files("answers").values()
+        self.assertTrue(second.startswith(b'{"change":"stays","rule":"any"}\n{"change":"new","rule":"two"}\n'))
+        self.assertEqual([answers.count(b'"fire":') for answers in (first, second)], [1, 2])
+
+
 class Words(Case):
     """What is told when the program ends before its script, or is no desk."""
 

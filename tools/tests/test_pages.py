@@ -349,6 +349,24 @@ class Operating(Pages):
         return self.block("LIVE", "python3 examples/live/follow.py").text.strip()
 
 
+class ChangingRules(Pages):
+    """The rows of the page, each over images of its own, and the image that is made by replay."""
+
+    def test_rows(self) -> None:
+        files, replayed, printed = (block.text for block in BLOCKS["CHANGING-RULES"])
+        page = PAGES["CHANGING-RULES"].read_text(encoding="utf-8")
+        rows = [re.split(r"(?<!\\)\|", row)[1:3] for row in re.findall(r"^\|(.*\| `.* run .*)\|$", page, re.M)]
+        self.assertEqual(len(rows), 10)
+        self.assertEqual(self.tree.run(files).stderr, "")
+        functions = "".join(line for line in files.splitlines(keepends=True) if "()" in line and "{ " in line)
+        begin = files.splitlines()[0].partition(";")[0] + "\n" + functions
+        for command, wanted in [(row[0].strip().strip("`").replace("\\|", "|"), re.findall("`([^`]+)`", row[1]))
+                                for row in rows]:
+            with self.subTest(command):
+                self.assertEqual(self.tree.run(begin + command).stdout.splitlines(), wanted)
+        self.assertEqual(self.tree.run(begin + replayed).stdout, printed)
+
+
 class Tables(unittest.TestCase):
     """What tables say of the examples."""
     DESKS = {"The fraud desk": "fraud", "The alarm centre": "alarm", "The plant monitor": "plant",
@@ -406,7 +424,7 @@ class All(unittest.TestCase):
 
     @staticmethod
     def is_run(block: Block) -> bool:
-        if block.language or block.page == "OPERATING" or block.begins("proof ", "$ ", "> "):
+        if block.language or block.page in ("OPERATING", "CHANGING-RULES") or block.begins("proof ", "$ ", "> "):
             return True
         if block.page == "TOOLS" and block.begins("declare Scan", '{"do":"at","ms":5000}'):
             return True  # test_docs

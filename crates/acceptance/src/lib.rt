@@ -9,6 +9,8 @@ mod agreeing;
 #[cfg(test)]
 mod certificates;
 #[cfg(test)]
+mod changes;
+#[cfg(test)]
 mod desks;
 #[cfg(test)]
 mod every_kind;

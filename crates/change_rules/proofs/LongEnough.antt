@@ -8,7 +8,7 @@ use Rattle.std.proofs.Common.{Bool, false, suc, zero, ◌&&◌, ◌^◌, int_le,
 use Rattle.std.proofs.lemmas.Bool.{and_parts}
 use Rattle.std.proofs.lemmas.List.{get_or_default}
 use Rattle.std.specs.Prelude.{slice_get}
-use Rattle.rule_lives.specs.Keeping.{IsLifeOf, IsSafeLife}
+use Rattle.life_meaning.specs.Tables.{IsLifeOf, IsSafeLife}
 use Rattle.rule_model.specs.Lives.{IsShortLife}
 use Rattle.rule_model.specs.declared.life.Life.TheVariants.{Plain, Explicit, Finite, Infinite}
 use Rattle.change_rules.specs.AsLong.{AsLongIsSafe, are_lives_as_long, is_life_as_long}

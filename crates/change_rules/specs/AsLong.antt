@@ -1,7 +1,7 @@
 -- Which lives are as long as others.
 use Rattle.std.specs.Prelude.{◌≡◌, ◌^◌, ◌&&◌, int_le, Bool, true, false, List, [], ◌∷◌, pos}
 use Rattle.std.specs.Ordering.{int_eq}
-use Rattle.rule_lives.specs.Keeping.{AreLives, IsSafeTable}
+use Rattle.life_meaning.specs.Tables.{AreLives, IsSafeTable}
 use Rattle.rule_model.specs.Lives.{AreShort}
 use Rattle.rule_model.specs.declared.life.Life.{Life}
 use Rattle.rule_model.specs.declared.life.Life.TheVariants.{Plain, Explicit, Finite, Infinite}

@@ -4,7 +4,7 @@ use Rattle.std.specs.Int.{int_max}
 use Rattle.change_read.specs.Changes.{type_named}
 use Rattle.rule_change.specs.Alike.{HaveNames}
 use Rattle.rule_change.specs.Refused.{IsLonger}
-use Rattle.rule_lives.specs.Keeping.{AreLives}
+use Rattle.life_meaning.specs.Tables.{AreLives}
 use Rattle.rule_model.specs.Lives.{AreShort}
 use Rattle.rule_model.specs.declared.life.Life.{Life}
 use Rattle.rule_model.specs.declared.life.Life.TheVariants.{Finite, Infinite}

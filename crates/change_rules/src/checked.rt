@@ -1,5 +1,5 @@
 //! What of a program is as in every accepted rule file: names that are apart, and patterns of types and entry points that are there.
-ghost use Rattle.std.specs.Prelude.{◌≡◌, ◌≤◌, ◌^◌, length, option_map, IsTrue};
+ghost use Rattle.std.specs.Prelude.{◌≡◌, ◌≤◌, ◌^◌, length, option_map, false, IsTrue};
 ghost use Rattle.change_read.specs.Changes.{type_named};
 ghost use Rattle.rule_change.specs.Alike.{HaveNames, HavePlaces};
 ghost use Rattle.change_rules.specs.Checked.{AreFirstEntries, AreFirstTypes, HasPlacesIn, HaveConditionPlaces};
@@ -22,7 +22,8 @@ fn first_type(types: &[TypeInfo], name: &Text) -> Option<TypeId>
 // Whether each type is the first of its name.
 fn are_first_types(types: &[TypeInfo]) -> bool
     requires { length types.now ≤ 2 ^ 16 }
-    ensures { IsTrue result → AreFirstTypes types.now }
+    ensures first { IsTrue result → AreFirstTypes types.now }
+    ensures none { result ≡ false → AreFirstTypes types.now → ⊥ }
 {
     for place in 0..types.len() {
         match first_type(types, &types[place].name) {
@@ -36,7 +37,8 @@ fn are_first_types(types: &[TypeInfo]) -> bool
 // Whether each entry point is the first of its name.
 fn are_first_entries(entries: &[EntryInfo]) -> bool
     requires { length entries.now ≤ 2 ^ 16 }
-    ensures { IsTrue result → AreFirstEntries entries.now }
+    ensures first { IsTrue result → AreFirstEntries entries.now }
+    ensures none { result ≡ false → AreFirstEntries entries.now → ⊥ }
 {
     for place in 0..entries.len() {
         match declared_entry(entries, &entries[place].name) {
@@ -51,20 +53,23 @@ fn are_first_entries(entries: &[EntryInfo]) -> bool
 pub fn have_names(program: &Program) -> bool
     requires types { length program.now.types ≤ 2 ^ 16 }
     requires entries { length program.now.entries ≤ 2 ^ 16 }
-    ensures { IsTrue result → HaveNames program.now }
+    ensures names { IsTrue result → HaveNames program.now }
+    ensures none { result ≡ false → HaveNames program.now → ⊥ }
 {
     are_first_types(program.types.as_slice()) && are_first_entries(program.entries.as_slice())
 }
 
 fn has_places(types: usize, entries: usize, condition: &Condition) -> bool
-    ensures { IsTrue result → HasPlacesIn types entries condition.now }
+    ensures places { IsTrue result → HasPlacesIn types entries condition.now }
+    ensures none { result ≡ false → HasPlacesIn types entries condition.now → ⊥ }
 {
     let pattern = condition.pattern();
     usize::from(pattern.ty.0) < types && usize::from(pattern.entry.0) < entries
 }
 
 fn rule_has_places(types: usize, entries: usize, rule: &Rule) -> bool
-    ensures { IsTrue result → HaveConditionPlaces types entries rule.now.conditions }
+    ensures places { IsTrue result → HaveConditionPlaces types entries rule.now.conditions }
+    ensures none { result ≡ false → HaveConditionPlaces types entries rule.now.conditions → ⊥ }
 {
     let conditions = rule.conditions.as_slice();
     for place in 0..conditions.len() {
@@ -77,7 +82,8 @@ fn rule_has_places(types: usize, entries: usize, rule: &Rule) -> bool
 
 /// Whether each pattern names a type and an entry point that are there. Takes no memory.
 pub fn have_places(program: &Program) -> bool
-    ensures { IsTrue result → HavePlaces program.now }
+    ensures places { IsTrue result → HavePlaces program.now }
+    ensures none { result ≡ false → HavePlaces program.now → ⊥ }
 {
     let types = program.types.as_slice().len();
     let entries = program.entries.as_slice().len();

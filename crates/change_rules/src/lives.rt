@@ -1,5 +1,5 @@
 //! The lives by which a world goes on under other rules, and which of them are too short.
-ghost use Rattle.std.specs.Prelude.{◌≡◌, ◌↔◌, ◌≤◌, ◌^◌, length, IsTrue, IfOk};
+ghost use Rattle.std.specs.Prelude.{◌≡◌, ◌↔◌, ◌≤◌, ◌^◌, length, option_and_then, slice_get, IsTrue, IfOk};
 ghost use Rattle.change_read.specs.Changes.{type_named};
 ghost use Rattle.rule_change.specs.Changed.{carried, carried_life as carried_life_of};
 ghost use Rattle.rule_change.specs.Refused.{IsLonger, is_longer as is_longer_than};
@@ -10,16 +10,24 @@ use fx_base::{NoMemory, Seq, Text, TypeId};
 use rule_model::{Life, LifeTable, Program};
 use std::alloc::Global;
 
+// The life of the type of this name, where the program has one.
+pub(crate) fn life_named(program: &Program, table: &LifeTable, name: &Text) -> Option<Life>
+    requires { length program.now.types ≤ 2 ^ 16 }
+    ensures { result ≡ option_and_then (λ there. slice_get table.now.lives there.0) (type_named name.now program.now.types 0) }
+{
+    match declared_type(program.types.as_slice(), name) {
+        Some((there, _)) => table.lives.as_slice().get(there.0 as usize).copied(),
+        None => None,
+    }
+}
+
 // The life that a type of this name goes on with, where it has this one of its own.
 fn carried_life(old: &Program, table: &LifeTable, name: &Text, own: Life) -> Life
     requires { length old.now.types ≤ 2 ^ 16 }
     ensures { result ≡ carried_life_of table.now own (type_named name.now old.now.types 0) }
 {
-    match declared_type(old.types.as_slice(), name) {
-        Some((there, _)) => match table.lives.as_slice().get(there.0 as usize) {
-            Some(life) => *life,
-            None => own,
-        },
+    match life_named(old, table, name) {
+        Some(life) => life,
         None => own,
     }
 }

@@ -3,7 +3,7 @@ ghost use Rattle.std.specs.Prelude.{◌≡◌, ◌≤◌, ◌^◌, length, IfOk}
 ghost use Rattle.change_read.specs.Changes.{type_named};
 ghost use Rattle.change_rules.specs.Longest.{longer_life as longer_of, longest, longest_life as longest_of};
 
-use crate::places::declared_type;
+use crate::lives::life_named;
 use fx_base::{NoMemory, Seq, Text};
 use rule_model::{Life, LifeTable, Program};
 use std::alloc::Global;
@@ -24,11 +24,8 @@ fn longest_life(other: &Program, needs: &LifeTable, name: &Text, own: Life) -> L
     requires { length other.now.types ≤ 2 ^ 16 }
     ensures { result ≡ longest_of needs.now own (type_named name.now other.now.types 0) }
 {
-    match declared_type(other.types.as_slice(), name) {
-        Some((there, _)) => match needs.lives.as_slice().get(there.0 as usize) {
-            Some(life) => longer_life(own, *life),
-            None => own,
-        },
+    match life_named(other, needs, name) {
+        Some(life) => longer_life(own, life),
         None => own,
     }
 }

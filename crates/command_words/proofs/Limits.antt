@@ -80,16 +80,18 @@ rows_within rows =
     parts_within (first_of (codes "gen") rows) (first_of (codes "resume") rows) (mode_of (given_or (codes "mode") (codes "run") rows)) _ (first_of (codes "rules") rows)
     (limit_within (given_or (codes "limit") (codes "100000") rows))
 
-asks_within : (text : Bool) (each : Option ℕ) (image rules : Option Text) → IfSome each IsLimit → IfSome (runs_desk (asks_desk text each image rules)) HasLimit
-asks_within text None image rules within = tt
-asks_within text (Some each) image None within = tt
-asks_within text (Some each) image (Some rules) within = within
+asks_within : (text : Bool) (each : Option ℕ) (image keep rules : Option Text) → IfSome each IsLimit
+    → IfSome (runs_desk (asks_desk text each image keep rules)) HasLimit
+asks_within text None image keep rules within = tt
+asks_within text (Some each) image keep None within = tt
+asks_within text (Some each) image keep (Some rules) within = within
 
 pub desk_within : (rows : List Row) → IfSome (desk_rows rows) HasLimit
 unfolding desk_rows
 desk_within rows =
     told (is_set (first_of (codes "help") rows)) Help _ tt (told (is_set (first_of (codes "version") rows)) Version _ tt
-    (asks_within (is_set (first_of (codes "text") rows)) (limit_written (given_or (codes "limit") (codes "100000") rows)) (first_of (codes "image") rows) (first_of (codes "rules") rows)
+    (asks_within (is_set (first_of (codes "text") rows)) (limit_written (given_or (codes "limit") (codes "100000") rows)) (first_of (codes "image") rows)
+    (first_of (codes "keep") rows) (first_of (codes "rules") rows)
     (limit_within (given_or (codes "limit") (codes "100000") rows))))
   where
     told : (flag : Bool) (words : DeskWords) (asked : Option DeskWords) → HasLimit words → IfSome asked HasLimit → IfSome (if flag then Some words else asked) HasLimit

@@ -26,12 +26,14 @@ replay_app =
     (option_rule (codes "resume")))
     (positional_rule (codes "rules"))
 
--- `desk [--limit LIMIT] [--image IMAGE] [--text] [--help] [--version] [RULES]`
+-- `desk [--limit LIMIT] [--image IMAGE] [--keep RULES2] [--text] [--help] [--version] [RULES]`
 unfoldable pub desk_app : App
 desk_app =
-    with_rule (with_rule (with_rule (with_rule (with_rule (with_rule (on_top (λ s. record s { no_binary_name = true; disable_help_flag = true }) (new_app (codes "desk")))
+    with_rule (with_rule (with_rule (with_rule (with_rule (with_rule (with_rule
+    (on_top (λ s. record s { no_binary_name = true; disable_help_flag = true }) (new_app (codes "desk")))
     (option_rule (codes "limit")))
     (option_rule (codes "image")))
+    (option_rule (codes "keep")))
     (flag_rule (codes "text")))
     (flag_rule (codes "help")))
     (flag_rule (codes "version")))

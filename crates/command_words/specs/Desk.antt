@@ -14,10 +14,10 @@ abbrev pub is_set : Option Text → Bool
 is_set None = false
 is_set (Some value) = bytes_eq value (codes "true")
 
--- whether text is wanted, a limit, the name of an image where one is given, and that of a rule file
-abbrev pub asks_desk : Bool → Option ℕ → Option Text → Option Text → Option DeskAsked
-asks_desk text (Some each) image (Some rules) = Some (record { rules = rules; each = each; image = image; text = text })
-asks_desk text _ image _ = None
+-- whether text is wanted, a limit, the name of an image and that of further rules where they are given, and that of a rule file
+abbrev pub asks_desk : Bool → Option ℕ → Option Text → Option Text → Option Text → Option DeskAsked
+asks_desk text (Some each) image keep (Some rules) = Some (record { rules = rules; each = each; image = image; keep = keep; text = text })
+asks_desk text _ image keep _ = None
 
 -- a live run, where one is asked for
 abbrev pub runs_desk : Option DeskAsked → Option DeskWords
@@ -29,7 +29,7 @@ unfoldable pub desk_rows : List Row → Option DeskWords
 desk_rows rows = if is_set (first_of (codes "help") rows) then Some Help
     else (if is_set (first_of (codes "version") rows) then Some Version
     else runs_desk (asks_desk (is_set (first_of (codes "text") rows)) (limit_written (given_or (codes "limit") (codes "100000") rows))
-    (first_of (codes "image") rows) (first_of (codes "rules") rows)))
+    (first_of (codes "image") rows) (first_of (codes "keep") rows) (first_of (codes "rules") rows)))
 
 -- what words with these bytes ask for, or nothing where they are refused
 unfoldable pub desk_words : List Text → Option DeskWords

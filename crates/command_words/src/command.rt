@@ -51,6 +51,7 @@ pub(crate) fn desk_command<'a>(alloc: Global) -> Result<Command<'a>, NoMemory>
         .disable_help_flag(true)
         .arg(option(alloc, "limit"))?
         .arg(option(alloc, "image"))?
+        .arg(option(alloc, "keep"))?
         .arg(flag(alloc, "text"))?
         .arg(flag(alloc, "help"))?
         .arg(flag(alloc, "version"))?

@@ -18,6 +18,8 @@ pub struct DeskAsked {
     pub each: u64,
     /// The name of the file from which the run goes on, and to which it is saved.
     pub image: Option<Text>,
+    /// The name of the rule file for which events are kept as long as it needs them too.
+    pub keep: Option<Text>,
     /// Whether it answers in lines of text, and not in objects.
     pub text: bool,
 }
@@ -54,15 +56,18 @@ fn asks(
     text: bool,
     each: Option<u64>,
     image: Option<&str>,
+    keep: Option<&str>,
     rules: Option<&str>,
 ) -> Result<Option<DeskWords>, NoMemory>
-    ensures { IfOk result (λ asked. asked ≡ runs_desk (asks_desk text each (option_map (λ text. text.now) image.entry) (option_map (λ text. text.now) rules.entry))) }
+    ensures { IfOk result (λ asked. asked ≡ runs_desk (asks_desk text each (option_map (λ text. text.now) image.entry)
+        (option_map (λ text. text.now) keep.entry) (option_map (λ text. text.now) rules.entry))) }
 {
     match (each, rules) {
         (Some(each), Some(rules)) => Ok(Some(DeskWords::Run(DeskAsked {
             rules: Text::new(alloc, rules)?,
             each,
             image: named(alloc, image)?,
+            keep: named(alloc, keep)?,
             text,
         }))),
         _ => Ok(None),
@@ -86,6 +91,7 @@ fn asked_of(alloc: Global, matches: &ArgMatches) -> Result<Option<DeskWords>, No
         text,
         each,
         given(matches, "image"),
+        given(matches, "keep"),
         given(matches, "rules"),
     )
 }

@@ -48,13 +48,21 @@ pub fn other_words_are_refused()
 
 /// What the words of the program `desk` ask for: options in both forms and in any place; without a rule file they are refused.
 pub fn words_of_a_desk_ask_for_what_they_say()
-    ensures text { desk_words (codes "--text" ∷ codes "r" ∷ []) ≡ Some (Run (record { rules = codes "r"; each = 100000; image = None; text = true })) }
+    ensures text { desk_words (codes "--text" ∷ codes "r" ∷ [])
+        ≡ Some (Run (record { rules = codes "r"; each = 100000; image = None; keep = None; text = true })) }
     ensures all { desk_words (codes "r" ∷ codes "--image=i" ∷ codes "--limit" ∷ codes "7" ∷ codes "--text" ∷ [])
-        ≡ Some (Run (record { rules = codes "r"; each = 7; image = Some (codes "i"); text = true })) }
-    ensures objects { desk_words (codes "r" ∷ []) ≡ Some (Run (record { rules = codes "r"; each = 100000; image = None; text = false })) }
+        ≡ Some (Run (record { rules = codes "r"; each = 7; image = Some (codes "i"); keep = None; text = true })) }
+    ensures keep { desk_words (codes "--keep" ∷ codes "s" ∷ codes "r" ∷ [])
+        ≡ Some (Run (record { rules = codes "r"; each = 100000; image = None; keep = Some (codes "s"); text = false })) }
+    ensures keep_with_image { desk_words (codes "--image=i" ∷ codes "r" ∷ codes "--keep=s" ∷ [])
+        ≡ Some (Run (record { rules = codes "r"; each = 100000; image = Some (codes "i"); keep = Some (codes "s"); text = false })) }
+    ensures objects { desk_words (codes "r" ∷ []) ≡ Some (Run (record { rules = codes "r"; each = 100000; image = None; keep = None; text = false })) }
     ensures help { desk_words (codes "--text" ∷ codes "--help" ∷ []) ≡ Some Help }
     ensures version { desk_words (codes "--version" ∷ []) ≡ Some Version }
     ensures no_rules { desk_words (codes "--text" ∷ []) ≡ None }
     ensures zero { desk_words (codes "--text" ∷ codes "--limit=0" ∷ codes "r" ∷ []) ≡ None }
     ensures two { desk_words (codes "--text" ∷ codes "r" ∷ codes "s" ∷ []) ≡ None }
+    ensures keep_twice { desk_words (codes "--keep=s" ∷ codes "--keep" ∷ codes "s" ∷ codes "r" ∷ []) ≡ None }
+    ensures keep_alone { desk_words (codes "--keep" ∷ codes "s" ∷ []) ≡ None }
+    ensures keep_nothing { desk_words (codes "r" ∷ codes "--keep" ∷ []) ≡ None }
 {}

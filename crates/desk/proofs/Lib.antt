@@ -1,6 +1,10 @@
+pub mod Common
 pub mod Starts
 pub mod Fronts
 pub mod Adding
 pub mod Living
+pub mod Goings
+pub mod Grounding
+pub mod Outcomes
 pub mod Wanting
 pub mod Said

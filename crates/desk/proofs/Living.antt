@@ -28,7 +28,7 @@ use Rattle.replay.specs.Wanted.{Files}
 use Rattle.desk.specs.Keeping.{IsPutFor, IsPutBehind, IsRefusedBehind, IsRefusedFor, IsUnputFor, refusal_code, status_of_part}
 use Rattle.desk.specs.Meanings.{Meanings}
 use Rattle.desk.specs.Report.{AreKept, IsCutShort, IsEndedEarly, IsKept, IsRefusedIn, IsUnkept, LivesBy, first_of, lines_of_run, live_run, live_saves}
-use Rattle.desk.specs.Wanted.{Live}
+use Rattle.desk.specs.declared.live.Live.{Live}
 use Rattle.desk.proofs.Fronts.{all_front, front_behind, no_front}
 
 abbrev no_lines : List (List ℕ)
@@ -157,37 +157,37 @@ module _ (m : Meanings) (it : Live) (table : LifeTable) (before middle after : O
 
 -- ---- what is put, and refused, by the program and the table that an engine was made with
 
-abbrev pub putting : Program → LifeTable → RunPart → Option (List ℕ) → Puts
-putting p table first image s before after = IsPutBehind p table first s before after image
+abbrev pub putting : Program → LifeTable → Option LifeTable → RunPart → Option (List ℕ) → Puts
+putting p table told first image s before after = IsPutBehind p table told first s before after image
 
-abbrev pub refusing : Program → LifeTable → RunPart → RunState → ImageFault → Type 0
-refusing p table first s why = IsRefusedBehind p table first s (refusal_code why)
+abbrev pub refusing : Program → LifeTable → Option LifeTable → RunPart → RunState → ImageFault → Type 0
+refusing p table told first s why = IsRefusedBehind p table told first s (refusal_code why)
 
 module _ (p q : Program) (t u : LifeTable) (programs : p ≡ q) (tables : t ≡ u) where
   by_both : (P : Program → LifeTable → Type 0) → P p t → P q u
   by_both P h = subst (P q) tables (subst (λ (z : Program). P z t) programs h)
 
-  pub alike_put : (first : RunPart) (image : Option (List ℕ)) (states : List RunState) (files files' : Option Files) → ArePut (putting p t first image) states files files' → ArePut (putting q u first image) states files files'
-  alike_put first image states files files' = by_both (λ z v. ArePut (putting z v first image) states files files')
+  pub alike_put : (told : Option LifeTable) (first : RunPart) (image : Option (List ℕ)) (states : List RunState) (files files' : Option Files) → ArePut (putting p t told first image) states files files' → ArePut (putting q u told first image) states files files'
+  alike_put told first image states files files' = by_both (λ z v. ArePut (putting z v told first image) states files files')
 
-  pub alike_front : (first : RunPart) (image : Option (List ℕ)) (outcome : List (List ℕ) → Outcome) (saved : List (List ℕ) → List RunState) (script : List ℕ) (before after : Option (List ℕ)) (files files' : Option Files)
-      → KeptFront (putting p t first image) outcome saved script before after files files' → KeptFront (putting q u first image) outcome saved script before after files files'
-  alike_front first image outcome saved script before after files files' = by_both (λ z v. KeptFront (putting z v first image) outcome saved script before after files files')
+  pub alike_front : (told : Option LifeTable) (first : RunPart) (image : Option (List ℕ)) (outcome : List (List ℕ) → Outcome) (saved : List (List ℕ) → List RunState) (script : List ℕ) (before after : Option (List ℕ)) (files files' : Option Files)
+      → KeptFront (putting p t told first image) outcome saved script before after files files' → KeptFront (putting q u told first image) outcome saved script before after files files'
+  alike_front told first image outcome saved script before after files files' = by_both (λ z v. KeptFront (putting z v told first image) outcome saved script before after files files')
 
-  pub alike_stopped : (first : RunPart) (image : Option (List ℕ)) (outcome : List (List ℕ) → Outcome) (saved : List (List ℕ) → List RunState) (script : List ℕ) (left before after : Option (List ℕ)) (files files' : Option Files)
-      → StoppedKept (putting p t first image) outcome saved script left before after files files' → StoppedKept (putting q u first image) outcome saved script left before after files files'
-  alike_stopped first image outcome saved script left before after files files' = by_both (λ z v. StoppedKept (putting z v first image) outcome saved script left before after files files')
+  pub alike_stopped : (told : Option LifeTable) (first : RunPart) (image : Option (List ℕ)) (outcome : List (List ℕ) → Outcome) (saved : List (List ℕ) → List RunState) (script : List ℕ) (left before after : Option (List ℕ)) (files files' : Option Files)
+      → StoppedKept (putting p t told first image) outcome saved script left before after files files' → StoppedKept (putting q u told first image) outcome saved script left before after files files'
+  alike_stopped told first image outcome saved script left before after files files' = by_both (λ z v. StoppedKept (putting z v told first image) outcome saved script left before after files files')
 
-  pub alike_refused : (first : RunPart) (image : Option (List ℕ)) (why : ImageFault) (steps : Steps) (outcome : List (List ℕ) → Outcome) (saved : List (List ℕ) → List RunState) (script : List ℕ) (before after : Option (List ℕ)) (files files' : Option Files)
-      → RefusedAt (putting p t first image) (refusing p t first) why steps outcome saved script before after files files' → RefusedAt (putting q u first image) (refusing q u first) why steps outcome saved script before after files files'
-  alike_refused first image why steps outcome saved script before after files files' =
-      by_both (λ z v. RefusedAt (putting z v first image) (refusing z v first) why steps outcome saved script before after files files')
+  pub alike_refused : (told : Option LifeTable) (first : RunPart) (image : Option (List ℕ)) (why : ImageFault) (steps : Steps) (outcome : List (List ℕ) → Outcome) (saved : List (List ℕ) → List RunState) (script : List ℕ) (before after : Option (List ℕ)) (files files' : Option Files)
+      → RefusedAt (putting p t told first image) (refusing p t told first) why steps outcome saved script before after files files' → RefusedAt (putting q u told first image) (refusing q u told first) why steps outcome saved script before after files files'
+  alike_refused told first image why steps outcome saved script before after files files' =
+      by_both (λ z v. RefusedAt (putting z v told first image) (refusing z v told first) why steps outcome saved script before after files files')
 
 -- ---- the run came to its end
 
 module _ (it : Live) (table : LifeTable) (files files' : Option Files) (last : World → Type 0) (run : RunPart) (at : Progress) (run-is : run ≡ run_part_at most_firings (part_of it.beginning) at) where
-  kept_in : (image : Option (List ℕ)) (s : RunState) → at ≡ s.progress → last s.world → IsPutFor last it.program table run files files' image
-      → IsPutBehind it.program table (part_of it.beginning) s files files' image
+  kept_in : (image : Option (List ℕ)) (s : RunState) → at ≡ s.progress → last s.world → IsPutFor last it.program table it.told run files files' image
+      → IsPutBehind it.program table it.told (part_of it.beginning) s files files' image
   kept_in None s at-is st h = h
   kept_in (Some name) s at-is st h = (h.0, h.2 s.world st, h.1 ∙ run-is ∙ ap (run_part_at most_firings (part_of it.beginning)) at-is, h.3)
 
@@ -203,13 +203,13 @@ reached stands left at (Some s) h = h
 -- what was put for the engine that a run left is kept of the state to which it came
 kept_of : (last : World → Type 0) (it : Live) (table : LifeTable) (files files' : Option Files) (run : RunPart) (at : Progress)
     → run ≡ run_part_at most_firings (part_of it.beginning) at → (to : Option RunState) → Reached last at to
-    → IsPutFor last it.program table run files files' it.image → IfSome to (λ s. IsKept it table s files files')
+    → IsPutFor last it.program table it.told run files files' it.image → IfSome to (λ s. IsKept it table s files files')
 kept_of last it table files files' run at is None reaches h = tt
 kept_of last it table files files' run at is (Some s) reaches h = kept_in it table files files' last run at is it.image s reaches.0 reaches.1 h
 
 -- the state to which it came, whose image is refused
 unkept_of : (last : World → Type 0) (it : Live) (table : LifeTable) (run : RunPart) (at : Progress) → run ≡ run_part_at most_firings (part_of it.beginning) at
-    → (to : Option RunState) → Reached last at to → (code : CheckpointCode) → IsRefusedFor last it.program table run code
+    → (to : Option RunState) → Reached last at to → (code : CheckpointCode) → IsRefusedFor last it.program table it.told run code
     → (s : RunState) × (to ≡ Some s) × IsUnkept it table s code
 unkept_of last it table run at is None reaches code h = absurd reaches
 unkept_of last it table run at is (Some s) reaches code h =
@@ -227,10 +227,10 @@ module _ (last : World → Type 0) (m : Meanings) (it : Live) (table : LifeTable
   all_lines bytes = sym (append-nil (lines_of bytes))
 
   pub ended : (told : Option (List ℕ)) (status : ℕ) → CanBegin it.program table it.beginning → Each it table (λ w. IfSome told (λ bytes. Ran bytes w))
-      → (status ≤ 1 → (status ≡ status_of_part run.faulty) × (after ≡ middle) × IsPutFor last it.program table run put files' it.image)
-      → (status ≡ 9 → (code : CheckpointCode) × (after ≡ append middle (checkpoint_text code)) × IsRefusedFor last it.program table run code × (it.image ≢ None))
+      → (status ≤ 1 → (status ≡ status_of_part run.faulty) × (after ≡ middle) × IsPutFor last it.program table it.told run put files' it.image)
+      → (status ≡ 9 → (code : CheckpointCode) × (after ≡ append middle (checkpoint_text code)) × IsRefusedFor last it.program table it.told run code × (it.image ≢ None))
       → (status ≡ 9 → files' ≡ put)
-      → (5 ≤ status → status ≤ 8 → IsUnputFor last it.program table run middle after put files' it.image)
+      → (5 ≤ status → status ≤ 8 → IsUnputFor last it.program table it.told run middle after put files' it.image)
       → (status ≤ 1) ⊎ ((6 ≤ status) × (status ≤ 7)) ⊎ (status ≡ 9)
       → IfSome told (λ bytes. LivesBy m it table bytes before after files files' status)
   ended None status can ran is_put refused stays failed answers = tt
@@ -257,7 +257,7 @@ module _ (last : World → Type 0) (m : Meanings) (it : Live) (table : LifeTable
     used_up = λ e. absurd (grind (arith, e, answers));
   }
     where
-      refused_in : (P : List ℕ → Type 0) (bytes : List ℕ) (w : World) → Ran bytes w → (code : CheckpointCode) → IsRefusedFor last it.program table run code → it.image ≢ None → files' ≡ put
+      refused_in : (P : List ℕ → Type 0) (bytes : List ℕ) (w : World) → Ran bytes w → (code : CheckpointCode) → IsRefusedFor last it.program table it.told run code → it.image ≢ None → files' ≡ put
           → P ((live_run m it table w (lines_of bytes)).bytes ++ checkpoint_text code) → IsRefusedIn (lines_of_run m it table) it table (first_of it w) code bytes P files files'
       refused_in P bytes w o code is_refused named same is = let there = unkept_of last it table run at run-is _ o.0.2 code is_refused in record {
         lines = lines_of bytes;
@@ -270,12 +270,12 @@ module _ (last : World → Type 0) (m : Meanings) (it : Live) (table : LifeTable
         is_refused = (there.2, named);
       }
 
-      put_or_not : (bytes : List ℕ) (w : World) → Ran bytes w → (files' ≡ put) ⊎ IsPutFor last it.program table run put files' it.image
+      put_or_not : (bytes : List ℕ) (w : World) → Ran bytes w → (files' ≡ put) ⊎ IsPutFor last it.program table it.told run put files' it.image
           → ArePut (IsKept it table) (live_saves m it table w (lines_of bytes)) files files' ⊎ ((no_lines ≡ []) × AreKept it table (live_saves m it table w (lines_of bytes)) (live_run m it table w (lines_of bytes)).comes_to files files')
       put_or_not bytes w o (inl same) = inl (rw same o.1)
       put_or_not bytes w o (inr h) = inr (refl, (put, o.1, kept_of last it table put files' run at run-is _ o.0.2 h))
 
-      early : (bytes : List ℕ) (w : World) → Ran bytes w → IsUnputFor last it.program table run middle after put files' it.image → IsEndedEarly m it table bytes before after files files' w
+      early : (bytes : List ℕ) (w : World) → Ran bytes w → IsUnputFor last it.program table it.told run middle after put files' it.image → IsEndedEarly m it table bytes before after files files' w
       early bytes w o (inl h) = inl (record {
         lines = lines_of bytes;
         rest = [];

@@ -1,18 +1,16 @@
 -- What is said where no run is wanted, or none begins.
-use Rattle.std.proofs.Common.{◌≡◌, ◌⊎◌, inl, inr, ◌≤◌, ℕ, List, [], Option, Some, refl, sym, ap, ◌∙◌, arith}
+use Rattle.std.proofs.Common.{◌≡◌, ◌⊎◌, inl, inr, ◌≤◌, ℕ, List, Option, Some, refl, sym, subst, arith}
 use Rattle.fx_io.specs.Outside.{append, AppendsFront}
-use Rattle.line_run.specs.declared.turn.Ended.TheVariants.{Script, Limit}
-use Rattle.line_run.specs.Run.{Outcome, RunState, Steps, at_end, run as run_lines, saved_states}
-use Rattle.line_run.specs.Saves.{Puts}
-use Rattle.line_run.specs.Unfinished.{StoppedKept}
-use Rattle.line_run.proofs.Ahead.{append_nothing, none_saved, run_ended}
-use Rattle.script_run.specs.Live.{live_step}
+use Rattle.line_run.proofs.Ahead.{append_nothing}
 use Rattle.replay.specs.Checkpoints.{checkpoint_text}
 use Rattle.replay.specs.Refusals.{refusal_text}
 use Rattle.replay.specs.Wanted.{Files}
-use Rattle.desk.specs.Meanings.{Engines, meanings}
-use Rattle.desk.specs.Report.{IsKept, IsSaid, IsServed, IsStopped, first_of, lines_of_run, usage}
-use Rattle.desk.specs.Wanted.{Wanted, usage_line, says, refuses, refuses_image, runs}
+use Rattle.replay.specs.declared.refusal.Refusal.{Refusal}
+use Rattle.desk.specs.declared.reading.RulesFault.{RulesFault}
+use Rattle.desk.specs.declared.reading.RulesFault.TheVariants.{Refused, ReadFault, NoMemory}
+use Rattle.desk.specs.Meanings.{Engines}
+use Rattle.desk.specs.Report.{IsSaid, IsServed, IsStopped, usage}
+use Rattle.desk.specs.Wanted.{Wanted, usage_line, says, refuses, refuses_image, runs, runs_over}
 
 -- the line was written, or a front of it
 pub said : (line : List ℕ) (wanted : ℕ) (before after : Option (List ℕ)) (files files' : Option Files) (status : ℕ) → files' ≡ files → (status ≡ wanted → after ≡ append before line)
@@ -33,32 +31,25 @@ unbegun engines usage_line script before files status low high = said_nothing us
 unbegun engines (says text) script before files status low high = said_nothing text 0 before files status low high
 unbegun engines (refuses refusal) script before files status low high = said_nothing (refusal_text refusal) 3 before files status low high
 unbegun engines (refuses_image code) script before files status low high = said_nothing (checkpoint_text code) 9 before files status low high
-unbegun engines (runs it) script before files status low high = inr (low, high, refl, refl)
+unbegun engines (runs b) script before files status low high = inr (inr (low, high, refl, refl))
+unbegun engines (runs_over c) script before files status low high = inr (inr (low, high, refl, refl))
 
 -- nothing was taken of the script where a read failed before the run began
-at_once : (puts : Puts) (steps : Steps) (begin : RunState) (script : List ℕ) (left before : Option (List ℕ)) (files : Option Files) → left ≡ Some script
-    → StoppedKept puts (run_lines steps begin) (saved_states steps begin) script left before before files files
-at_once puts steps begin script left before files tells =
-    let none : run_lines steps begin [] ≡ at_end begin = run_ended steps begin in
-    record {
-      stop = record {
-        lines = [];
-        piece = [];
-        rest = script;
-        parts = refl;
-        ends = inl refl;
-        no_end = refl;
-        is_left = tells;
-        not_met = λ met. let k : Script begin.progress.faulted ≡ Limit = sym (ap (λ (o : Outcome). o.ended) none) ∙ met in absurd cc;
-        is_written = sym (append_nothing before) ∙ ap (append before) (sym (ap (λ (o : Outcome). o.bytes) none));
-      };
-      are_put = rw (none_saved steps begin) refl;
-    }
-
 pub unasked : (engines : Engines) (w : Wanted) (script : List ℕ) (left before : Option (List ℕ)) (files : Option Files) → left ≡ Some script → IsStopped engines w script left before before files files
 unasked engines usage_line script left before files is = (refl, refl)
 unasked engines (says text) script left before files is = (refl, refl)
 unasked engines (refuses refusal) script left before files is = (refl, refl)
 unasked engines (refuses_image code) script left before files is = (refl, refl)
-unasked engines (runs it) script left before files is = λ table are w begins.
-    at_once (IsKept it table) (live_step (lines_of_run (meanings engines it.form) it table)) (first_of it w) script left before files is
+unasked engines (runs b) script left before files is = inr (is, refl, refl)
+unasked engines (runs_over c) script left before files is = inr (is, refl, refl)
+
+-- there are no rules to run
+pub unruled : (engines : Engines) (w : Wanted) (script : List ℕ) (before after : Option (List ℕ)) (files files' : Option Files) (status : ℕ) (fault : RulesFault)
+    → ((refusal : Refusal) → fault ≡ Refused refusal → w ≡ refuses refusal) → ((refusal : Refusal) → fault ≡ Refused refusal → IsSaid (refusal_text refusal) 3 before after files files' status)
+    → (((refusal : Refusal) → fault ≡ Refused refusal → ⊥) → (5 ≤ status) × (status ≤ 7) × (after ≡ before) × (files' ≡ files)) → IsServed engines w script before after files files' status
+unruled engines w script before after files files' status (Refused refusal) is told silent =
+    subst (λ (w : Wanted). IsServed engines w script before after files files' status) (sym (is refusal refl)) (told refusal refl)
+unruled engines w script before after files files' status ReadFault is told silent =
+    let q = silent (λ refusal e. absurd cc) in rw (q.2, q.3) (unbegun engines w script before files status q.0 q.1)
+unruled engines w script before after files files' status NoMemory is told silent =
+    let q = silent (λ refusal e. absurd cc) in rw (q.2, q.3) (unbegun engines w script before files status q.0 q.1)

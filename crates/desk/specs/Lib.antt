@@ -1,6 +1,10 @@
+pub mod Meanings
 pub mod Wanted
 pub mod Keeping
-pub mod Meanings
+pub mod Going
+pub mod Changes
 pub mod Report
+pub mod Bars
+pub mod Starts
+pub mod Rules
 pub mod Causes
-pub mod Lives

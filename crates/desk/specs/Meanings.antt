@@ -1,4 +1,5 @@
 -- What engines answer: the one whose answers are written as text, and the one whose answers are written as objects.
+use Rattle.std.specs.Prelude.{Bool, true, false}
 use Rattle.script_run.specs.Firings.{Gives, Fires, Counts}
 use Rattle.script_run.specs.declared.form.Form.{Form}
 use Rattle.script_run.specs.declared.form.Form.TheVariants.{Text, Objects}
@@ -23,3 +24,8 @@ both gives fires counts gives' fires' counts' = record {
 abbrev pub meanings : Engines → Form → Meanings
 meanings engines Text = engines.text
 meanings engines (Objects names) = engines.objects
+
+-- the answers are lines of text
+abbrev pub is_text : Form → Bool
+is_text Text = true
+is_text (Objects names) = false

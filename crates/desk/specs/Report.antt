@@ -3,7 +3,7 @@ use Rattle.std.specs.Prelude.{◌≡◌, ◌≢◌, ◌⊎◌, ◌≤◌, ◌++�
 use Rattle.fx_io.specs.Outside.{append, AppendsFront}
 use Rattle.fx_io.specs.Lines.{lines_of}
 use Rattle.rule_model.specs.declared.life.LifeTable.{LifeTable}
-use Rattle.rule_lives.specs.Keeping.{AreLives}
+use Rattle.rule_change.specs.declared.code.ChangeCode.{ChangeCode}
 use Rattle.rule_world.specs.Worlds.{World}
 use Rattle.line_run.specs.declared.turn.Ended.TheVariants.{Limit}
 use Rattle.line_run.specs.Parts.{progress_behind}
@@ -21,11 +21,17 @@ use Rattle.replay.specs.Report.{run_status}
 use Rattle.replay.specs.Wanted.{Files}
 use Rattle.desk.specs.Keeping.{IsPutBehind, IsRefusedBehind}
 use Rattle.desk.specs.Meanings.{Engines, Meanings, meanings}
-use Rattle.desk.specs.Wanted.{Live, Wanted, usage_line, says, refuses, refuses_image, runs}
+use Rattle.desk.specs.declared.live.Live.{Live}
+use Rattle.desk.specs.declared.wanted.Begun.{Begun}
+use Rattle.desk.specs.declared.wanted.Changing.{Changing}
+use Rattle.desk.specs.declared.going.Inferred.{Inferred}
+use Rattle.desk.specs.Changes.{Changed, IsRefusedOver, IsUnfit, begun_over}
+use Rattle.desk.specs.Going.{AreInferred, IsBarred, IsTold, MayGoBy, change_text, table_in}
+use Rattle.desk.specs.Wanted.{Wanted, usage_line, says, refuses, refuses_image, runs, runs_over}
 
 -- the usage line
 abbrev pub usage : List ℕ
-usage = codes "usage: desk [--limit N] [--image NAME] [--text] RULES" ++ 10 ∷ []
+usage = codes "usage: desk [--limit N] [--image NAME] [--keep RULES2] [--text] RULES" ++ 10 ∷ []
 
 -- one line is written, and nothing is put, or the call ends in the middle of that
 abbrev pub IsSaid : List ℕ → ℕ → Option (List ℕ) → Option (List ℕ) → Option Files → Option Files → ℕ → Type 0
@@ -50,11 +56,11 @@ live_saves m it table w = saved_live (lines_of_run m it table) (first_of it w)
 
 -- the file of the image, where one is named, is that of this state, and all others stay
 abbrev pub IsKept : Live → LifeTable → RunState → Option Files → Option Files → Type 0
-IsKept it table s before after = IsPutBehind it.program table (part_of it.beginning) s before after it.image
+IsKept it table s before after = IsPutBehind it.program table it.told (part_of it.beginning) s before after it.image
 
 -- the image of a state is refused with a code
 abbrev pub IsUnkept : Live → LifeTable → RunState → CheckpointCode → Type 0
-IsUnkept it table s code = IsRefusedBehind it.program table (part_of it.beginning) s code
+IsUnkept it table s code = IsRefusedBehind it.program table it.told (part_of it.beginning) s code
 
 -- the images of these states are put one after the other, and then that of the state to which the run came, where it came to the end of its script
 abbrev pub AreKept : Live → LifeTable → List RunState → Option RunState → Option Files → Option Files → Type 0
@@ -119,18 +125,63 @@ pub record LivesBy (m : Meanings) (it : Live) (table : LifeTable) (script : List
       → (after ≡ append before (live_run m it table w (lines_of script)).bytes) × ((live_run m it table w (lines_of script)).ended ≡ Limit)
       × ArePut (IsKept it table) (live_saves m it table w (lines_of script)) files files')
 
-abbrev pub IsLive : Meanings → Live → List ℕ → Option (List ℕ) → Option (List ℕ) → Option Files → Option Files → ℕ → Type 0
-IsLive m it script before after files files' status =
-    (table : LifeTable) × AreLives it.program table × LivesBy m it table script before after files files' status
-
 -- the run did not begin: a read failed, or memory was refused
 abbrev pub IsUnbegun : Option (List ℕ) → Option (List ℕ) → Option Files → Option Files → ℕ → Type 0
 IsUnbegun before after files files' status = (5 ≤ status) × (status ≤ 7) × (after ≡ before) × (files' ≡ files)
 
+-- ---- by which lives it goes
+
+-- a run by a table, of which its images say these lives
+abbrev pub live_in : Begun → Option LifeTable → Live
+live_in b told = record { program = b.setting.program; beginning = b.beginning; each = b.setting.each; form = b.setting.form; image = b.setting.image; told = told }
+
+-- the table by which it goes, given the lives that are inferred
+abbrev pub table_by : Begun → Inferred → LifeTable
+table_by b inferred = table_in b.setting.program inferred b.beginning b.lives
+
+-- the lives by which it goes
+pub record GoesBy (b : Begun) (inferred : Inferred) (told : Option LifeTable) : Type 0 where
+  pub inferred_so : AreInferred b.setting.program b.setting.later inferred
+  pub told_so : IsTold inferred.own (table_by b inferred) told
+  pub may_go : MayGoBy b.setting.program inferred (table_by b inferred)
+
+-- it goes by them
+abbrev pub IsGoing : Meanings → Begun → List ℕ → Option (List ℕ) → Option (List ℕ) → Option Files → Option Files → ℕ → Type 0
+IsGoing m b script before after files files' status =
+    (inferred : Inferred) × (told : Option LifeTable) × GoesBy b inferred told × LivesBy m (live_in b told) (table_by b inferred) script before after files files' status
+
+-- no run may go by them, and a line says so
+abbrev pub IsKeptOut : Begun → Option (List ℕ) → Option (List ℕ) → Option Files → Option Files → ℕ → Type 0
+IsKeptOut b before after files files' status =
+    (inferred : Inferred) × AreInferred b.setting.program b.setting.later inferred × (line : List ℕ) × IsBarred b.setting.program inferred (table_by b inferred) line
+    × IsSaid line 9 before after files files' status
+
 -- what a desk does where a live run is wanted, with what the engine for the form of its answers means
-abbrev pub IsRun : Meanings → Live → List ℕ → Option (List ℕ) → Option (List ℕ) → Option Files → Option Files → ℕ → Type 0
-IsRun m it script before after files files' status =
-    IsLive m it script before after files files' status ⊎ IsUnbegun before after files files' status
+abbrev pub IsRun : Meanings → Begun → List ℕ → Option (List ℕ) → Option (List ℕ) → Option Files → Option Files → ℕ → Type 0
+IsRun m b script before after files files' status =
+    IsGoing m b script before after files files' status ⊎ IsKeptOut b before after files files' status ⊎ IsUnbegun before after files files' status
+
+-- ---- behind an image of other rules
+
+-- The rules are taken over its worlds: before its first answer it tells what becomes of each rule. Or the call ends in the middle of that.
+abbrev pub IsRunOver : Meanings → (c : Changing) → Changed c → List ℕ → Option (List ℕ) → Option (List ℕ) → Option Files → Option Files → ℕ → Type 0
+IsRunOver m c to script before after files files' status =
+    IsGoing m (begun_over c to) script (append before to.lines) after files files' status
+    ⊎ IsKeptOut (begun_over c to) before after files files' status
+    ⊎ ((5 ≤ status) × (status ≤ 7) × AppendsFront before after to.lines × (files' ≡ files))
+
+-- they are refused over them, or the image fits no world of the old rules
+abbrev pub IsNotTaken : Changing → Option (List ℕ) → Option (List ℕ) → Option Files → Option Files → ℕ → Type 0
+IsNotTaken c before after files files' status =
+    ((code : ChangeCode) × IsRefusedOver c code × IsSaid (change_text c.setting.program code) 9 before after files files' status)
+    ⊎ (IsUnfit c × IsSaid (checkpoint_text Unfit) 9 before after files files' status)
+
+-- what a desk does where a live run is wanted behind an image of other rules
+abbrev pub IsChange : Meanings → Changing → List ℕ → Option (List ℕ) → Option (List ℕ) → Option Files → Option Files → ℕ → Type 0
+IsChange m c script before after files files' status =
+    ((to : Changed c) × IsRunOver m c to script before after files files' status)
+    ⊎ IsNotTaken c before after files files' status
+    ⊎ IsUnbegun before after files files' status
 
 -- what a desk does where this is wanted
 abbrev pub IsServed : Engines → Wanted → List ℕ → Option (List ℕ) → Option (List ℕ) → Option Files → Option Files → ℕ → Type 0
@@ -138,29 +189,48 @@ IsServed engines usage_line script before after files files' status = IsSaid usa
 IsServed engines (says text) script before after files files' status = IsSaid text 0 before after files files' status
 IsServed engines (refuses refusal) script before after files files' status = IsSaid (refusal_text refusal) 3 before after files files' status
 IsServed engines (refuses_image code) script before after files files' status = IsSaid (checkpoint_text code) 9 before after files files' status
-IsServed engines (runs it) script before after files files' status = IsRun (meanings engines it.form) it script before after files files' status
+IsServed engines (runs b) script before after files files' status = IsRun (meanings engines b.setting.form) b script before after files files' status
+IsServed engines (runs_over c) script before after files files' status = IsChange (meanings engines c.setting.form) c script before after files files' status
 
 -- ---- when the script may be asked for more
 
 -- Whenever it is asked, of which these bytes were taken: what was written is what the lines print that end in them, and nothing else, and the images
 -- are put of those of them that save, from each world in which the run begins. Where no run is wanted, nothing was written or put.
-abbrev pub IsPromptRun : Meanings → Live → List ℕ → Option (List ℕ) → Option (List ℕ) → Option Files → Option Files → Type 0
-IsPromptRun m it bytes before now files files' = (table : LifeTable) × AreLives it.program table
-    × ((w : World) → BeginsIn it.program table it.beginning w → (now ≡ append before (live_run m it table w (whole_lines bytes)).bytes)
-    × ArePut (IsKept it table) (live_saves m it table w (whole_lines bytes)) files files')
+abbrev pub IsPromptBy : Meanings → Live → LifeTable → List ℕ → Option (List ℕ) → Option (List ℕ) → Option Files → Option Files → Type 0
+IsPromptBy m it table bytes before now files files' =
+    (w : World) → BeginsIn it.program table it.beginning w → (now ≡ append before (live_run m it table w (whole_lines bytes)).bytes)
+    × ArePut (IsKept it table) (live_saves m it table w (whole_lines bytes)) files files'
+
+abbrev pub IsPromptRun : Meanings → Begun → List ℕ → Option (List ℕ) → Option (List ℕ) → Option Files → Option Files → Type 0
+IsPromptRun m b bytes before now files files' =
+    (inferred : Inferred) × (told : Option LifeTable) × GoesBy b inferred told × IsPromptBy m (live_in b told) (table_by b inferred) bytes before now files files'
 
 abbrev pub IsPrompt : Engines → Wanted → List ℕ → Option (List ℕ) → Option (List ℕ) → Option Files → Option Files → Type 0
-IsPrompt engines (runs it) bytes before now files files' = IsPromptRun (meanings engines it.form) it bytes before now files files'
+IsPrompt engines (runs b) bytes before now files files' = IsPromptRun (meanings engines b.setting.form) b bytes before now files files'
+IsPrompt engines (runs_over c) bytes before now files files' =
+    (to : Changed c) × IsPromptRun (meanings engines c.setting.form) (begun_over c to) bytes (append before to.lines) now files files'
 IsPrompt engines _ bytes before now files files' = (now ≡ before) × (files' ≡ files)
 
 -- ---- where a read fails
 
 -- of a run of which the rest of the script is left: what was written is what the lines print that were taken with their ends, and exactly their images
 -- are put
-abbrev pub IsStoppedRun : Meanings → Live → List ℕ → Option (List ℕ) → Option (List ℕ) → Option (List ℕ) → Option Files → Option Files → Type 0
-IsStoppedRun m it script left before after files files' = (table : LifeTable) → AreLives it.program table → (w : World) → BeginsIn it.program table it.beginning w
+abbrev pub IsStoppedBy : Meanings → Live → LifeTable → List ℕ → Option (List ℕ) → Option (List ℕ) → Option (List ℕ) → Option Files → Option Files → Type 0
+IsStoppedBy m it table script left before after files files' = (w : World) → BeginsIn it.program table it.beginning w
     → StoppedKept (IsKept it table) (live_run m it table w) (live_saves m it table w) script left before after files files'
 
+-- or it did not begin
+abbrev pub IsStoppedRun : Meanings → Begun → List ℕ → Option (List ℕ) → Option (List ℕ) → Option (List ℕ) → Option Files → Option Files → Type 0
+IsStoppedRun m b script left before after files files' =
+    ((inferred : Inferred) × (told : Option LifeTable) × GoesBy b inferred told × IsStoppedBy m (live_in b told) (table_by b inferred) script left before after files files')
+
+abbrev pub IsUntaken : List ℕ → Option (List ℕ) → Option (List ℕ) → Option (List ℕ) → Option Files → Option Files → Type 0
+IsUntaken script left before after files files' = (left ≡ Some script) × (after ≡ before) × (files' ≡ files)
+
 abbrev pub IsStopped : Engines → Wanted → List ℕ → Option (List ℕ) → Option (List ℕ) → Option (List ℕ) → Option Files → Option Files → Type 0
-IsStopped engines (runs it) script left before after files files' = IsStoppedRun (meanings engines it.form) it script left before after files files'
+IsStopped engines (runs b) script left before after files files' =
+    IsStoppedRun (meanings engines b.setting.form) b script left before after files files' ⊎ IsUntaken script left before after files files'
+IsStopped engines (runs_over c) script left before after files files' =
+    ((to : Changed c) × IsStoppedRun (meanings engines c.setting.form) (begun_over c to) script left (append before to.lines) after files files')
+    ⊎ IsUntaken script left before after files files'
 IsStopped engines _ script left before after files files' = (after ≡ before) × (files' ≡ files)

@@ -1,11 +1,18 @@
 -- What the words of a desk, its rule file and its image ask for.
-use Rattle.std.specs.Prelude.{ℕ, ◌++◌, Bool, true, false, List, [], ◌∷◌, Option, Some, None, codes}
+use Rattle.std.specs.Prelude.{ℕ, ◌++◌, Bool, true, false, List, [], ◌∷◌, length, nat_lt, Option, Some, None, codes, if◌then◌else◌}
+use Rattle.std.specs.Str.{bytes_eq}
 use Rattle.std.proofs.Common.{String, Global}
 use Rattle.command_words.specs.declared.desk.DeskAsked.{DeskAsked}
 use Rattle.command_words.specs.declared.desk.DeskWords.{DeskWords}
 use Rattle.command_words.specs.declared.desk.DeskWords.TheVariants.{Run, Help, Version}
 use Rattle.command_words.specs.Desk.{desk_by}
 use Rattle.drl_names.specs.declared.rule_names.RuleNames.{RuleNames}
+use Rattle.checkpoint.specs.declared.image.Image.{Image}
+use Rattle.desk.specs.declared.wanted.Begun.{Begun}
+use Rattle.desk.specs.declared.wanted.Changing.{Changing}
+use Rattle.desk.specs.declared.wanted.Setting.{Setting}
+use Rattle.desk_image.specs.Reading.{desk_decoded}
+use Rattle.rule_model.specs.declared.life.LifeTable.{LifeTable}
 use Rattle.rule_model.specs.declared.program.Program.{Program}
 use Rattle.script_run.specs.declared.form.Form.{Form}
 use Rattle.script_run.specs.declared.form.Form.TheVariants.{Text, Objects}
@@ -14,10 +21,10 @@ use Rattle.replay.specs.declared.beginning.Beginning.TheVariants.{First, Behind}
 use Rattle.replay.specs.declared.refusal.Refusal.{Refusal}
 use Rattle.replay.specs.declared.refusal.RefusalCode.TheVariants.{Missing}
 use Rattle.replay.specs.declared.refused_checkpoint.CheckpointCode.{CheckpointCode}
-use Rattle.replay.specs.declared.refused_checkpoint.CheckpointCode.TheVariants as code
+use Rattle.replay.specs.declared.refused_checkpoint.CheckpointCode.TheVariants.{TooLong, BadImage, Unfit}
 use Rattle.replay.specs.declared.rule_file.Reading.{Reading}
 use Rattle.replay.specs.declared.rule_file.Reading.TheVariants.{Accepted, Refused}
-use Rattle.replay.specs.Checkpoints.{Checkpoint, has_image, is_refused, checkpoint_in, rules_shown}
+use Rattle.replay.specs.Checkpoints.{image_limit, rules_shown}
 use Rattle.replay.specs.Names.{names_read}
 use Rattle.replay.specs.Refusals.{reading, whole_file}
 use Rattle.replay.specs.Wanted.{Files}
@@ -29,10 +36,11 @@ line text = text ++ 10 ∷ []
 
 abbrev pub help : List ℕ
 help = line (codes "Runs rules over the lines of a script from standard input, without an end.")
-    ++ line (codes "usage: desk [--limit N] [--image NAME] [--text] RULES")
+    ++ line (codes "usage: desk [--limit N] [--image NAME] [--keep RULES2] [--text] RULES")
     ++ line (codes "  RULES         the rule file")
     ++ line (codes "  --limit N     the most firings of one fire line, from 1 to 1000000; 100000 if it is not given")
     ++ line (codes "  --image NAME  the file from which the run goes on, if it is there, and to which it is saved")
+    ++ line (codes "  --keep RULES2 keeps events for as long as these rules need them, which are to come later")
     ++ line (codes "  --text        answers in lines of text, and not in JSON")
     ++ line (codes "  --help        this text")
     ++ line (codes "  --version     the version")
@@ -42,34 +50,58 @@ version = line (codes "desk 0.1.0")
 
 -- ---- where a live run begins
 
+-- with what the file of an image is
 pub data Start : Type 0 where
-  begins : Beginning → Start
+  -- in the empty world, or behind an image of the same rules, with the lives that it says
+  begins : Beginning → Option LifeTable → Start
+  -- behind an image of rules with another text, with the lives that it says
+  changes : Option LifeTable → Image → Start
   -- the image is refused
   cannot_begin : CheckpointCode → Start
 
--- with what the file of an image is to rules with this text: in the empty world, where it is not there yet
-abbrev pub start_in : List ℕ → Checkpoint → Start
-start_in rules (has_image image) = begins (Behind image)
-start_in rules (is_refused code.Missing) = begins (First rules)
-start_in rules (is_refused code.TooLong) = cannot_begin code.TooLong
-start_in rules (is_refused code.BadImage) = cannot_begin code.BadImage
-start_in rules (is_refused code.OtherRules) = cannot_begin code.OtherRules
-start_in rules (is_refused code.Unfit) = cannot_begin code.Unfit
+abbrev pub start_behind : List ℕ → Option LifeTable → Image → Start
+start_behind rules lives image = if bytes_eq image.run.rules rules then begins (Behind image) lives else changes lives image
+
+abbrev pub start_by : List ℕ → Option (Option LifeTable × Image) → Start
+start_by rules None = cannot_begin BadImage
+start_by rules (Some found) = start_behind rules found.0 found.1
+
+-- with these bytes of the file, of rules with this text
+unfoldable pub start_of : List ℕ → List ℕ → Start
+start_of rules bytes = if nat_lt image_limit (length bytes) then cannot_begin TooLong else start_by rules (desk_decoded bytes)
+
+-- in the empty world, where the file is not there yet
+abbrev pub start_in : List ℕ → Option (List ℕ) → Start
+start_in rules None = begins (First rules) None
+start_in rules (Some bytes) = start_of rules bytes
 
 -- of rules with this text, with the name of an image where one is given
 abbrev pub start : List ℕ → Option (List ℕ) → Files → Start
-start rules None files = begins (First rules)
-start rules (Some name) files = start_in rules (checkpoint_in rules (files name))
+start rules None files = begins (First rules) None
+start rules (Some name) files = start_in rules (files name)
+
+-- ---- the rules that are to come
+
+pub data ToCome : Type 0 where
+  none_come : ToCome
+  come : Program → ToCome
+  -- their file is missing or not accepted
+  cannot_come : Refusal → ToCome
+
+abbrev pub coming : Reading → ToCome
+coming (Accepted program) = come program
+coming (Refused refusal) = cannot_come refusal
+
+abbrev pub coming_in : Option (List ℕ) → ToCome
+coming_in None = cannot_come (whole_file Missing)
+coming_in (Some file) = coming (reading file)
+
+-- with the name of their file, where one is given
+abbrev pub to_come : Option (List ℕ) → Files → ToCome
+to_come None files = none_come
+to_come (Some name) files = coming_in (files name)
 
 -- ---- what is wanted
-
--- a live run: the form of its answers, the most firings of each fire command, the name of its image, where it begins, and its program
-pub record Live : Type 0 where
-  pub form : Form
-  pub each : ℕ
-  pub image : Option (List ℕ)
-  pub beginning : Beginning
-  pub program : Program
 
 pub data Wanted : Type 0 where
   -- the usage line: the words are refused
@@ -78,28 +110,43 @@ pub data Wanted : Type 0 where
   says : List ℕ → Wanted
   -- the refusal of a rule file, which is missing or not accepted
   refuses : Refusal → Wanted
-  -- the refusal of an image, which is there and none of the rules
+  -- the refusal of an image, which is there and none, or one of rules that are not accepted
   refuses_image : CheckpointCode → Wanted
-  runs : Live → Wanted
+  -- a live run
+  runs : Begun → Wanted
+  -- a live run behind an image of other rules
+  runs_over : Changing → Wanted
 
 -- lines of text, or objects with the names of the variables in a rule file
 abbrev pub form_of : Bool → List RuleNames → Form
 form_of true names = Text
 form_of false names = Objects names
 
-abbrev pub wanted_from : DeskAsked → List RuleNames → Program → Start → Wanted
-wanted_from asked names p (begins beginning) =
-    runs (record { form = form_of asked.text names; each = asked.each; image = asked.image; beginning = beginning; program = p })
-wanted_from asked names p (cannot_begin code) = refuses_image code
+abbrev pub over_old : Setting → List ℕ → Option LifeTable → Image → Reading → Wanted
+over_old setting rules lives image (Accepted old) = runs_over (record { setting = setting; rules = rules; old = old; lives = lives; image = image })
+over_old setting rules lives image (Refused refusal) = refuses_image Unfit
 
-abbrev pub wanted_by_reading : DeskAsked → List RuleNames → Start → Reading → Wanted
-wanted_by_reading asked names from (Accepted program) = wanted_from asked names program from
-wanted_by_reading asked names from (Refused refusal) = refuses refusal
+abbrev pub wanted_from : Setting → List ℕ → Start → Wanted
+wanted_from setting rules (begins beginning lives) = runs (record { setting = setting; beginning = beginning; lives = lives })
+wanted_from setting rules (changes lives image) = over_old setting rules lives image (reading image.run.rules)
+wanted_from setting rules (cannot_begin code) = refuses_image code
+
+abbrev pub setting_of : DeskAsked → List RuleNames → Program → Option Program → Setting
+setting_of asked names p later = record { form = form_of asked.text names; each = asked.each; image = asked.image; program = p; later = later }
+
+abbrev pub wanted_with : DeskAsked → Files → List RuleNames → List ℕ → Program → ToCome → Wanted
+wanted_with asked files names rules p none_come = wanted_from (setting_of asked names p None) rules (start rules asked.image files)
+wanted_with asked files names rules p (come later) = wanted_from (setting_of asked names p (Some later)) rules (start rules asked.image files)
+wanted_with asked files names rules p (cannot_come refusal) = refuses refusal
+
+abbrev pub wanted_by_reading : DeskAsked → Files → List RuleNames → List ℕ → Reading → Wanted
+wanted_by_reading asked files names rules (Accepted program) = wanted_with asked files names rules program (to_come asked.keep files)
+wanted_by_reading asked files names rules (Refused refusal) = refuses refusal
 
 -- of a rule file, where the shelf has it
 abbrev pub wanted_by_file : DeskAsked → Files → Option (List ℕ) → Wanted
 wanted_by_file asked files None = refuses (whole_file Missing)
-wanted_by_file asked files (Some file) = wanted_by_reading asked (names_read file) (start (rules_shown file) asked.image files) (reading file)
+wanted_by_file asked files (Some file) = wanted_by_reading asked files (names_read file) (rules_shown file) (reading file)
 
 abbrev pub wanted_by_words : DeskWords → Files → Wanted
 wanted_by_words (Run asked) files = wanted_by_file asked files (files asked.rules)

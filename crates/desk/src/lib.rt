@@ -4,10 +4,15 @@
 //! Calls that allocate answer `NoMemory` where memory is refused, the top call status 7.
 #![tactic(auto)]
 
+mod changing;
 mod ending;
+mod going;
 mod live;
+mod reading;
+mod running;
 mod serving;
 mod start;
 mod taking;
+mod wanted;
 
 pub use serving::desk;

@@ -5,38 +5,42 @@ ghost use Rattle.replay.specs.Wanted.{Files};
 ghost use Rattle.command_words.specs.declared.desk.DeskAsked.{DeskAsked as AskedData};
 ghost use Rattle.command_words.specs.declared.desk.DeskWords.TheVariants.{Run};
 ghost use Rattle.desk.specs.Causes.{ReadFails};
-ghost use Rattle.desk.specs.Report.{IsPrompt, IsServed, IsStopped, usage};
+ghost use Rattle.desk.specs.Report.{IsPrompt, IsSaid, IsServed, IsStopped, usage};
+ghost use Rattle.desk.specs.Starts.{wanted_as};
 ghost use Rattle.script_run.specs.Live.{most_firings};
-ghost use Rattle.desk.specs.Lives.{live_of};
 ghost use Rattle.desk.specs.Meanings.{both};
-ghost use Rattle.desk.specs.Wanted.{form_of, runs, wanted, wanted_by};
+ghost use Rattle.desk.specs.Wanted.{form_of, over_old, runs, runs_over, wanted, wanted_by};
+ghost use Rattle.replay.specs.declared.refusal.Refusal.{Refusal as RefusalData};
+ghost use Rattle.replay.specs.Refusals.{reading, refusal_text};
 ghost use Rattle.fx_io.specs.Outside.{Rose};
 ghost use Rattle.rule_world.specs.Programs.{IsRunnable};
 
-use crate::live::{Live, run};
-use crate::start::start;
+use crate::reading::{Rules, RulesFault, later_rules, rules_in, rules_of};
+use crate::running::{run, run_over};
+use crate::start::{Start, find_start};
+use crate::wanted::{Begun, Changing, Setting};
+use checkpoint::Image;
 use command_words::{DeskAsked, DeskWords, desk_asked};
 use drl_names::RuleNames;
 use engine::Inspect;
 use fx_base::{Seq, Text};
 use fx_io::{Shelf, Source};
 use fx_store::FileSink;
-use replay::{
-    CheckpointFault, FILE_MAX, FileFault, Reading, RefusalCode, RulesRead, read_named_rules,
-    read_whole, refuse, refuse_checkpoint, say, whole_file,
-};
+use replay::{CheckpointCode, CheckpointFault, refuse, refuse_checkpoint, say};
+use rule_model::LifeTable;
 use script_run::Form;
 use std::alloc::Global;
 
 /// What is written where the words are refused.
-const USAGE: &[u8] = b"usage: desk [--limit N] [--image NAME] [--text] RULES\n";
+const USAGE: &[u8] = b"usage: desk [--limit N] [--image NAME] [--keep RULES2] [--text] RULES\n";
 
 /// What is written where the words ask what they mean.
 const HELP: &[u8] = b"Runs rules over the lines of a script from standard input, without an end.
-usage: desk [--limit N] [--image NAME] [--text] RULES
+usage: desk [--limit N] [--image NAME] [--keep RULES2] [--text] RULES
   RULES         the rule file
   --limit N     the most firings of one fire line, from 1 to 1000000; 100000 if it is not given
   --image NAME  the file from which the run goes on, if it is there, and to which it is saved
+  --keep RULES2 keeps events for as long as these rules need them, which are to come later
   --text        answers in lines of text, and not in JSON
   --help        this text
   --version     the version
@@ -67,25 +71,145 @@ fn form_of(text: bool, names: Seq<RuleNames>) -> Form
 // Runs it with the engine for the form of its answers.
 fn run_by_form<E: Inspect, D: Inspect, S: Source<K>, K: FileSink>(
     alloc: Global,
-    live: Live,
+    begun: Begun,
     script: &mut S,
     out: &mut K,
 ) -> u8
-    requires runnable { IsRunnable live.program }
+    requires runnable { IsRunnable begun.setting.program }
+    requires later { IfSome begun.setting.later IsRunnable }
     requires prompt { (bytes : List ℕ) (now : K)
-        → IsPrompt (both E.gives E.fires E.counts D.gives D.fires D.counts) (runs (live_of live)) bytes (K.written out.old) (K.written now) (K.files out.old) (K.files now) → S.may_ask script.old bytes now }
-    ensures served { IfSome (S.left script.old) (λ bytes. IsServed (both E.gives E.fires E.counts D.gives D.fires D.counts) (runs (live_of live)) bytes
+        → IsPrompt (both E.gives E.fires E.counts D.gives D.fires D.counts) (runs begun) bytes (K.written out.old) (K.written now) (K.files out.old) (K.files now) → S.may_ask script.old bytes now }
+    ensures served { IfSome (S.left script.old) (λ bytes. IsServed (both E.gives E.fires E.counts D.gives D.fires D.counts) (runs begun) bytes
         (K.written out.old) (K.written out.new) (K.files out.old) (K.files out.new) result) }
-    ensures stopped { result ≡ 5 → IfSome (S.left script.old) (λ bytes. IsStopped (both E.gives E.fires E.counts D.gives D.fires D.counts) (runs (live_of live)) bytes
+    ensures stopped { result ≡ 5 → IfSome (S.left script.old) (λ bytes. IsStopped (both E.gives E.fires E.counts D.gives D.fires D.counts) (runs begun) bytes
         (S.left script.new) (K.written out.old) (K.written out.new) (K.files out.old) (K.files out.new)) }
     ensures long { result ≡ 8 → IfSome (S.left script.old) (λ bytes. most_firings < length bytes) }
     ensures answers { (result ≤ 1) ⊎ ((5 ≤ result) × (result ≤ 9)) ⊎ (result ≡ 11) }
     ensures read { result ≡ 5 → Rose (S.faults script.old) (S.faults script.new) }
     ensures write { result ≡ 6 → Rose (K.faults out.old) (K.faults out.new) }
 {
-    match &live.form {
-        Form::Text => run::<E, S, K>(alloc, live, script, out),
-        Form::Objects(_) => run::<D, S, K>(alloc, live, script, out),
+    match &begun.setting.form {
+        Form::Text => run::<E, S, K>(alloc, begun, script, out),
+        Form::Objects(_) => run::<D, S, K>(alloc, begun, script, out),
+    }
+}
+
+// Runs it so behind an image of other rules.
+fn run_over_by_form<E: Inspect, D: Inspect, S: Source<K>, K: FileSink>(
+    alloc: Global,
+    changing: Changing,
+    script: &mut S,
+    out: &mut K,
+) -> u8
+    requires runnable { IsRunnable changing.setting.program }
+    requires old { IsRunnable changing.old }
+    requires later { IfSome changing.setting.later IsRunnable }
+    requires prompt { (bytes : List ℕ) (now : K)
+        → IsPrompt (both E.gives E.fires E.counts D.gives D.fires D.counts) (runs_over changing) bytes (K.written out.old) (K.written now) (K.files out.old) (K.files now) → S.may_ask script.old bytes now }
+    ensures served { IfSome (S.left script.old) (λ bytes. IsServed (both E.gives E.fires E.counts D.gives D.fires D.counts) (runs_over changing) bytes
+        (K.written out.old) (K.written out.new) (K.files out.old) (K.files out.new) result) }
+    ensures stopped { result ≡ 5 → IfSome (S.left script.old) (λ bytes. IsStopped (both E.gives E.fires E.counts D.gives D.fires D.counts) (runs_over changing) bytes
+        (S.left script.new) (K.written out.old) (K.written out.new) (K.files out.old) (K.files out.new)) }
+    ensures long { result ≡ 8 → IfSome (S.left script.old) (λ bytes. most_firings < length bytes) }
+    ensures answers { (result ≤ 1) ⊎ ((5 ≤ result) × (result ≤ 9)) ⊎ (result ≡ 11) }
+    ensures read { result ≡ 5 → Rose (S.faults script.old) (S.faults script.new) }
+    ensures write { result ≡ 6 → Rose (K.faults out.old) (K.faults out.new) }
+{
+    match &changing.setting.form {
+        Form::Text => run_over::<E, S, K>(alloc, changing, script, out),
+        Form::Objects(_) => run_over::<D, S, K>(alloc, changing, script, out),
+    }
+}
+
+// Runs a live run behind an image of other rules, where these are accepted.
+fn run_changed<E: Inspect, D: Inspect, S: Source<K>, K: FileSink>(
+    alloc: Global,
+    setting: Setting,
+    rules: Seq<u8>,
+    lives: Option<LifeTable>,
+    image: Image,
+    script: &mut S,
+    out: &mut K,
+) -> u8
+    requires runnable { IsRunnable setting.program }
+    requires later { IfSome setting.later IsRunnable }
+    requires prompt { (bytes : List ℕ) (now : K)
+        → IsPrompt (both E.gives E.fires E.counts D.gives D.fires D.counts) (over_old setting rules lives image (reading image.run.rules)) bytes
+        (K.written out.old) (K.written now) (K.files out.old) (K.files now) → S.may_ask script.old bytes now }
+    ensures served { IfSome (S.left script.old) (λ bytes. IsServed (both E.gives E.fires E.counts D.gives D.fires D.counts)
+        (over_old setting rules lives image (reading image.run.rules)) bytes (K.written out.old) (K.written out.new) (K.files out.old) (K.files out.new) result) }
+    ensures stopped { result ≡ 5 → IfSome (S.left script.old) (λ bytes. IsStopped (both E.gives E.fires E.counts D.gives D.fires D.counts)
+        (over_old setting rules lives image (reading image.run.rules)) bytes (S.left script.new) (K.written out.old) (K.written out.new) (K.files out.old) (K.files out.new)) }
+    ensures long { result ≡ 8 → IfSome (S.left script.old) (λ bytes. most_firings < length bytes) }
+    ensures answers { (result ≤ 1) ⊎ ((5 ≤ result) × (result ≤ 9)) ⊎ (result ≡ 11) }
+    ensures read { result ≡ 5 → Rose (S.faults script.old) (S.faults script.new) }
+    ensures write { result ≡ 6 → Rose (K.faults out.old) (K.faults out.new) }
+{
+    match rules_of(alloc, image.run.rules.as_slice(), false, false) {
+        Ok(Rules { program, .. }) => {
+            let changing = Changing {
+                setting,
+                rules,
+                old: program,
+                lives,
+                image,
+            };
+            run_over_by_form::<E, D, S, K>(alloc, changing, script, out)
+        }
+        Err(RulesFault::Refused(_)) => refuse_checkpoint(alloc, out, CheckpointCode::Unfit),
+        Err(_) => 7,
+    }
+}
+
+// Runs a live run with what its image is.
+fn run_from<E: Inspect, D: Inspect, S: Source<K>, K: FileSink>(
+    alloc: Global,
+    setting: Setting,
+    start: Start,
+    script: &mut S,
+    out: &mut K,
+) -> u8
+    requires runnable { IsRunnable setting.program }
+    requires later { IfSome setting.later IsRunnable }
+    requires prompt { (bytes : List ℕ) (now : K)
+        → IsPrompt (both E.gives E.fires E.counts D.gives D.fires D.counts) (wanted_as setting start) bytes (K.written out.old) (K.written now)
+        (K.files out.old) (K.files now) → S.may_ask script.old bytes now }
+    ensures served { IfSome (S.left script.old) (λ bytes. IsServed (both E.gives E.fires E.counts D.gives D.fires D.counts) (wanted_as setting start) bytes
+        (K.written out.old) (K.written out.new) (K.files out.old) (K.files out.new) result) }
+    ensures stopped { result ≡ 5 → IfSome (S.left script.old) (λ bytes. IsStopped (both E.gives E.fires E.counts D.gives D.fires D.counts) (wanted_as setting start) bytes
+        (S.left script.new) (K.written out.old) (K.written out.new) (K.files out.old) (K.files out.new)) }
+    ensures long { result ≡ 8 → IfSome (S.left script.old) (λ bytes. most_firings < length bytes) }
+    ensures answers { (result ≤ 1) ⊎ ((5 ≤ result) × (result ≤ 9)) ⊎ (result ≡ 11) }
+    ensures read { result ≡ 5 → Rose (S.faults script.old) (S.faults script.new) }
+    ensures write { result ≡ 6 → Rose (K.faults out.old) (K.faults out.new) }
+{
+    match start {
+        Start::Begins(beginning, lives) => {
+            let begun = Begun {
+                setting,
+                beginning,
+                lives,
+            };
+            run_by_form::<E, D, S, K>(alloc, begun, script, out)
+        }
+        Start::Changes(rules, lives, image) => {
+            run_changed::<E, D, S, K>(alloc, setting, rules, lives, image, script, out)
+        }
+    }
+}
+
+// Says why there are no rules to run.
+fn refuse_rules<K: FileSink>(alloc: Global, fault: RulesFault, out: &mut K) -> u8
+    ensures refused { (refusal : RefusalData) → fault ≡ RulesFault.Refused refusal → IsSaid (refusal_text refusal) 3 (K.written out.old) (K.written out.new) (K.files out.old) (K.files out.new) result }
+    ensures silent { ((refusal : RefusalData) → fault ≡ RulesFault.Refused refusal → ⊥) → (5 ≤ result) × (result ≤ 7) × (K.written out.new ≡ K.written out.old) × (K.files out.new ≡ K.files out.old) }
+    ensures answers { (result ≡ 3) ⊎ ((5 ≤ result) × (result ≤ 7)) }
+    ensures read { result ≡ 5 → (fault ≡ RulesFault.ReadFault) × (K.written out.new ≡ K.written out.old) × (K.files out.new ≡ K.files out.old) }
+    ensures write { result ≡ 6 → Rose (K.faults out.old) (K.faults out.new) }
+{
+    match fault {
+        RulesFault::Refused(refusal) => refuse(alloc, out, refusal),
+        RulesFault::ReadFault => 5,
+        RulesFault::NoMemory => 7,
     }
 }
 
@@ -109,51 +233,36 @@ fn serve<E: Inspect, D: Inspect, F: Shelf, S: Source<K>, K: FileSink>(
     ensures read { result ≡ 5 → ReadFails (F.faults shelf.old) (F.faults shelf.new) (S.faults script.old) (S.faults script.new) asked }
     ensures write { result ≡ 6 → Rose (K.faults out.old) (K.faults out.new) }
 {
-    let DeskAsked {
-        rules: name,
-        each,
-        image,
-        text: as_text,
-    } = asked;
-    let file = match read_whole(alloc, shelf, name.as_str(), FILE_MAX + 1) {
-        Ok(file) => file,
-        Err(FileFault::Missing) => return refuse(alloc, out, whole_file(RefusalCode::Missing)),
-        Err(FileFault::ReadFault) => return 5,
-        Err(FileFault::NoMemory) => return 7,
+    let rules = match rules_in(alloc, shelf, asked.rules.as_str(), true, !asked.text) {
+        Ok(rules) => rules,
+        Err(fault) => return refuse_rules(alloc, fault, out),
     };
-    let RulesRead {
-        reading,
-        text: rules,
-        names,
-    } = match read_named_rules(alloc, &file, true, !as_text) {
-        Ok(read) => read,
-        Err(_) => return 7,
+    let later = match later_rules(alloc, shelf, &asked.keep) {
+        Ok(later) => later,
+        Err(fault) => return refuse_rules(alloc, fault, out),
     };
-    let program = match reading {
-        Reading::Accepted(program) => program,
-        Reading::Refused(refusal) => return refuse(alloc, out, refusal),
-    };
-    let beginning = match start(alloc, rules, lent(&image), shelf) {
-        Ok(beginning) => beginning,
+    let start = match find_start(alloc, rules.text, lent(&asked.image), shelf) {
+        Ok(start) => start,
         Err(CheckpointFault::Refused(code)) => return refuse_checkpoint(alloc, out, code),
         Err(CheckpointFault::ReadFault) => return 5,
         Err(CheckpointFault::NoMemory) => return 7,
     };
-    let live = Live {
-        program,
-        beginning,
-        each,
-        form: form_of(as_text, names),
-        image,
+    let setting = Setting {
+        program: rules.program,
+        each: asked.each,
+        form: form_of(asked.text, rules.names),
+        image: asked.image,
+        later,
     };
-    run_by_form::<E, D, S, K>(alloc, live, script, out)
+    run_from::<E, D, S, K>(alloc, setting, start, script, out)
 }
 
 /// Does all that the program `desk` does for the words behind its own name, and answers the status: with an engine of the first type, where its
 /// answers are lines of text, and with one of the second, where they are objects.
 ///
 /// It runs a live script over a rule file: from the image of the file that is named, where that is there, to the end of the script, and puts the
-/// image of what the run comes to in its place. Besides the commands of every script a line may ask to put the image of that moment, for the facts that
+/// image of what the run comes to in its place. Where that image is one of other rules, the rules of the file are taken over its worlds, and lines tell
+/// what becomes of each rule, or they are refused. Rules that are to come may be named, and events are kept for as long as these need them too. Besides the commands of every script a line may ask to put the image of that moment, for the facts that
 /// are kept, and for counts. A fire command makes at most so many firings; where it wants more, and a match is pending still, a line says so, and the
 /// run goes on. Each line of the script is closed by a line of its own.
 ///

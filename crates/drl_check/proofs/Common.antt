@@ -55,7 +55,7 @@ pub use Rattle.drl_uses.specs.Kinds.{modify_misfits, number_where, part_misfits,
 pub use Rattle.drl_uses.specs.Uses.{has_unknown_type, has_unknown_variable, any_condition, inserts_unknown_type, is_type_unknown, action_unseen, leaf_unseen}
 pub use Rattle.drl_uses.specs.Uses.{part_unseen, source_unseen, target_unseen, test_unseen}
 pub use Rattle.life_edges.specs.Edges.{HaveNetwork, condition_edges, edges_of_conditions, net_edge, test_edges}
-pub use Rattle.rule_lives.specs.Networks.{AreSolvable}
+pub use Rattle.life_meaning.specs.Networks.{AreSolvable}
 pub use Rattle.rule_model.specs.Expressions.{Expression}
 pub use Rattle.rule_model.specs.Types.{is_event_type, is_point_type, is_reference_type}
 pub use Rattle.rule_model.specs.declared.condition.Condition.{Condition}

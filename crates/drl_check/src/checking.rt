@@ -1,7 +1,7 @@
 ghost use Rattle.std.specs.Prelude.{◌≡◌, ℕ, [], Err, IfOk};
 ghost use Rattle.std.specs.List.{All};
 ghost use Rattle.rule_world.specs.Programs.{IsRunnable};
-ghost use Rattle.rule_lives.specs.Networks.{AreSolvable};
+ghost use Rattle.life_meaning.specs.Networks.{AreSolvable};
 ghost use Rattle.drl_check.specs.declared.fault.CheckCode.{CheckCode};
 ghost use Rattle.drl_check.specs.Checks.{failure_from, IsAcceptedFile, IsFirstFailure};
 ghost use Rattle.drl_sight.specs.Declarations.{types_of};

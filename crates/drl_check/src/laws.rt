@@ -4,7 +4,7 @@ ghost use Rattle.drl_grammar.specs.declared.file.File.{File};
 ghost use Rattle.drl_grammar.specs.declared.file.Body.TheVariants as body;
 ghost use Rattle.drl_grammar.specs.declared.file.Item.{Item};
 ghost use Rattle.drl_grammar.specs.declared.file.RuleTree.{RuleTree};
-ghost use Rattle.rule_lives.specs.Networks.{AreSolvable};
+ghost use Rattle.life_meaning.specs.Networks.{AreSolvable};
 ghost use Rattle.drl_sight.specs.Declarations.{types_of};
 ghost use Rattle.drl_sight.specs.EntryPoints.{entry_names};
 ghost use Rattle.drl_program.specs.Programs.{program_of, rule_of};

@@ -9,7 +9,7 @@ use Rattle.rule_model.specs.Distinct.{tag_cmp}
 use Rattle.rule_model.proofs.Once.{marked_once_filter}
 use Rattle.rule_world.specs.Lawful.{IsLawful}
 use Rattle.rule_world.specs.Worlds.{World}
-use Rattle.keeping.specs.Kept.{is_kept, kept_facts}
+use Rattle.kept_meaning.specs.Kept.{is_kept, kept_facts}
 use Rattle.engine.specs.KeptFacts.{kept_by_tag}
 use Rattle.engine.proofs.Sorting.{by_tag_sorted, by_tag_members}
 

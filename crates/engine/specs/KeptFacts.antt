@@ -6,7 +6,7 @@ use Rattle.rule_model.specs.declared.life.LifeTable.{LifeTable}
 use Rattle.rule_model.specs.declared.program.Program.{Program}
 use Rattle.rule_model.specs.Distinct.{tag_cmp}
 use Rattle.rule_world.specs.Worlds.{World}
-use Rattle.keeping.specs.Kept.{kept_facts}
+use Rattle.kept_meaning.specs.Kept.{kept_facts}
 
 -- facts, whose tags differ, in the order of their tags
 abbrev pub by_tag : List Fact → List Fact

@@ -6,7 +6,7 @@ use Rattle.rule_model.specs.declared.life.LifeTable.{LifeTable}
 use Rattle.rule_model.specs.declared.program.Program.{Program}
 use Rattle.rule_model.specs.Snapshots.{floor}
 use Rattle.rule_world.specs.Worlds.{World, snapshot, pending}
-use Rattle.keeping.specs.Kept.{kept_facts}
+use Rattle.kept_meaning.specs.Kept.{kept_facts}
 use Rattle.engine.specs.declared.world_counts.WorldCounts.{WorldCounts}
 
 -- how many of these facts are of a type

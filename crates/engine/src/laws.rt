@@ -8,7 +8,7 @@ ghost use Rattle.rule_model.specs.declared.program.Program.{Program};
 ghost use Rattle.rule_model.specs.Distinct.{tag_cmp};
 ghost use Rattle.rule_world.specs.Lawful.{IsLawful};
 ghost use Rattle.rule_world.specs.Worlds.{World, pending};
-ghost use Rattle.keeping.specs.Kept.{kept_facts};
+ghost use Rattle.kept_meaning.specs.Kept.{kept_facts};
 ghost use Rattle.engine.specs.KeptFacts.{kept_by_tag};
 
 /// The kept facts by tag are the kept facts of a lawful world, in the strict order of their tags.

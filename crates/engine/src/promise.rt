@@ -1,7 +1,7 @@
 ghost use Rattle.std.specs.Prelude.{◌≡◌, ◌+◌, ◌≤◌, ◌<◌, ◌^◌, ℕ, true, List, Option, IfOk, OnOk, IsErrOf, is_some};
 ghost use Rattle.rule_model.specs.declared.life.LifeTable.{LifeTable as LifeTableData};
 ghost use Rattle.rule_model.specs.declared.program.Program.{Program as ProgramData};
-ghost use Rattle.rule_lives.specs.Keeping.{IsSafeTable};
+ghost use Rattle.life_meaning.specs.Tables.{IsSafeTable};
 ghost use Rattle.rule_world.specs.Lawful.{IsLawful};
 ghost use Rattle.rule_world.specs.Programs.{IsRunnable};
 ghost use Rattle.rule_world.specs.Worlds.{World, empty_world};

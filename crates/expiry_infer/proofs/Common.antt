@@ -16,9 +16,9 @@ pub use Rattle.life_edges.proofs.Places.{false_is, the_same}
 pub use Rattle.life_edges.specs.Edges.{edges_of_conditions, HaveNetwork}
 pub use Rattle.life_edges.specs.Places.{placed, StandsIn}
 pub use Rattle.life_edges.specs.Tails.{limit_of, IsSmallLimit, HaveLives, IsShortLimit, HasShortWindow, IsShortSpan}
-pub use Rattle.rule_lives.specs.Lifetimes.{tail, Adds, AddsSome, IsLife, LivesFor, PatternLife, of_event, of_fact}
-pub use Rattle.rule_lives.specs.Networks.{AreSolvable, Occurrence, SolvesConditions}
-pub use Rattle.rule_lives.specs.Reach.{finite, plus, Limit, infinite, Below, IsReach, Placed, SolvesWith}
+pub use Rattle.life_meaning.specs.Lifetimes.{tail, Adds, AddsSome, IsLife, LivesFor, PatternLife, of_event, of_fact}
+pub use Rattle.life_meaning.specs.Networks.{AreSolvable, Occurrence, SolvesConditions}
+pub use Rattle.life_meaning.specs.Reach.{finite, plus, Limit, infinite, Below, IsReach, Placed, SolvesWith}
 pub use Rattle.rule_model.proofs.RuleOf.{in_place}
 pub use Rattle.rule_model.specs.Rows.{pattern_of}
 pub use Rattle.rule_model.specs.Types.{is_reference, expiry_in, is_event, is_event_type}

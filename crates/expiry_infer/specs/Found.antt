@@ -6,8 +6,8 @@ use Rattle.temporal_net.specs.declared.edge.NetEdge.{NetEdge}
 use Rattle.temporal_net.specs.Networks.{Network, IsSolvable}
 use Rattle.rule_model.specs.declared.condition.Condition.{Condition}
 use Rattle.rule_model.specs.declared.program.Program.{Program}
-use Rattle.rule_lives.specs.Networks.{Occurrence}
-use Rattle.rule_lives.specs.Reach.{Placed, SolvesWith, IsReach}
+use Rattle.life_meaning.specs.Networks.{Occurrence}
+use Rattle.life_meaning.specs.Reach.{Placed, SolvesWith, IsReach}
 use Rattle.life_edges.specs.Tails.{limit_of}
 
 -- the network of 16 points with these edges, which has a solution, or nothing where it has none

@@ -5,8 +5,8 @@ use Rattle.rule_model.specs.declared.program.Program.{Program}
 use Rattle.rule_model.specs.declared.program.Rule.{Rule}
 use Rattle.rule_model.specs.Rows.{pattern_of}
 use Rattle.rule_model.specs.Types.{is_reference}
-use Rattle.rule_lives.specs.Lifetimes.{Adds, LivesFor}
-use Rattle.rule_lives.specs.Reach.{Limit, Placed}
+use Rattle.life_meaning.specs.Lifetimes.{Adds, LivesFor}
+use Rattle.life_meaning.specs.Reach.{Limit, Placed}
 use Rattle.expiry_infer.specs.declared.lifetimes.Placed as lent_placed
 use Rattle.life_edges.specs.Places.{placed}
 use Rattle.expiry_infer.specs.Tops.{Among}

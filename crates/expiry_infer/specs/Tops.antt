@@ -1,6 +1,6 @@
 -- The greatest of limits.
 use Rattle.std.specs.Prelude.{◌≡◌, ◌<◌, ◌⊎◌, ℕ, List, Some, slice_get}
-use Rattle.rule_lives.specs.Reach.{Limit, Below}
+use Rattle.life_meaning.specs.Reach.{Limit, Below}
 
 -- the greatest of a limit and of those of a set
 pub record IsTop (of : Limit → Type 0) (least : Limit) (top : Limit) : Type 0 where

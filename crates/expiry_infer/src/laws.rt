@@ -3,7 +3,7 @@ ghost use Rattle.std.specs.Prelude.{List};
 ghost use Rattle.std.specs.Bool.{Decides};
 ghost use Rattle.rule_model.specs.declared.condition.Condition.{Condition};
 ghost use Rattle.rule_model.specs.declared.program.Program.{Program};
-ghost use Rattle.rule_lives.specs.Networks.{AreSolvable};
+ghost use Rattle.life_meaning.specs.Networks.{AreSolvable};
 ghost use Rattle.life_edges.specs.Edges.{HaveNetwork};
 ghost use Rattle.expiry_infer.specs.Solvable.{can_match};
 

@@ -3,10 +3,10 @@ ghost use Rattle.std.specs.Prelude.{◌≡◌, ◌<◌, ◌≤◌, length, slice
 ghost use Rattle.rule_model.specs.Lives.{AreShort, IsShortLife};
 ghost use Rattle.rule_model.specs.Rows.{pattern_of};
 ghost use Rattle.rule_model.specs.Types.{is_event, expiry_of};
-ghost use Rattle.rule_lives.specs.Lifetimes.{AddsSome, IsLife, LivesFor};
+ghost use Rattle.life_meaning.specs.Lifetimes.{AddsSome, IsLife, LivesFor};
 ghost use Rattle.life_edges.specs.Tails.{limit_of, HaveLives, IsSmallLimit};
 ghost use Rattle.expiry_infer.specs.Tops.{Among, IsTop};
-ghost use Rattle.rule_lives.specs.Keeping.{AreLives, IsLifeOf, IsSafeTable};
+ghost use Rattle.life_meaning.specs.Tables.{AreLives, IsLifeOf, IsSafeTable};
 ghost use Rattle.rule_world.specs.Programs.{IsRunnable};
 ghost use Rattle.expiry_infer.specs.Tables.{lent, AddsBy, GivesAt};
 ghost use Rattle.life_edges.specs.Places.{StandsIn};

@@ -1,7 +1,7 @@
 //! Limits of time in milliseconds: their greatest and their sum.
 ghost use Rattle.std.specs.Prelude.{◌≡◌};
 ghost use Rattle.temporal_net.specs.Networks.{IsWithinNetwork};
-ghost use Rattle.rule_lives.specs.Reach.{plus};
+ghost use Rattle.life_meaning.specs.Reach.{plus};
 ghost use Rattle.life_edges.specs.Tails.{limit_of, IsShortLimit};
 ghost use Rattle.expiry_infer.specs.Tops.{IsTop};
 

@@ -2,7 +2,7 @@ ghost use Rattle.std.specs.Prelude.{◌≡◌, ◌<◌, length, slice_get, Some,
 ghost use Rattle.std.specs.Bool.{Decides};
 ghost use Rattle.temporal_net.specs.Networks.{IsWithinNetwork};
 ghost use Rattle.rule_model.specs.declared.condition.Condition.{Condition as AnyCondition};
-ghost use Rattle.rule_lives.specs.Networks.{AreSolvable};
+ghost use Rattle.life_meaning.specs.Networks.{AreSolvable};
 ghost use Rattle.life_edges.specs.Edges.{edges_of_conditions, HaveNetwork};
 ghost use Rattle.expiry_infer.specs.Found.{IsReachFound, IsSolved};
 ghost use Rattle.expiry_infer.specs.Solvable.{can_match};

@@ -9,12 +9,12 @@ use Rattle.std.proofs.lemmas.Bool.{and_parts, eq-eqb, eqb-true}
 use Rattle.rule_model.specs.declared.life.Life.{Life}
 use Rattle.rule_model.specs.declared.life.Life.TheVariants.{Plain, Explicit, Finite, Infinite}
 use Rattle.rule_world.specs.Worlds.{step_fault}
-use Rattle.rule_lives.specs.Keeping.{AreSafe}
-use Rattle.rule_lives.proofs.Safe.{plain_unlisted}
+use Rattle.life_meaning.specs.Tables.{AreSafe}
+use Rattle.life_meaning.proofs.Safe.{plain_unlisted}
 use Rattle.rule_lives.proofs.Still.{always_present}
 use Rattle.pair_memory.specs.Joined.{has_name}
 use Rattle.condition_rows.proofs.Ends.{in_name, name_in}
-use Rattle.keeping.specs.Kept.{is_alive, is_pending_named, is_kept as is_kept_in, is_forgotten as is_forgotten_in}
+use Rattle.kept_meaning.specs.Kept.{is_alive, is_pending_named, is_kept as is_kept_in, is_forgotten as is_forgotten_in}
 use Rattle.forgetting.proofs.Before.{chosen}
 use Rattle.forgetting.proofs.Forgotten.{two_tests}
 use Rattle.forgetting.proofs.Naming.{some_in, one_in, holds_of}

@@ -8,9 +8,9 @@ use Rattle.rule_world.specs.Worlds.{stepped}
 use Rattle.rule_world.proofs.Steps.{step_in_order, firing_in_order}
 use Rattle.rule_world.proofs.Vain.{next_tag}
 use Rattle.rule_lives.proofs.Remains.{match_names_kept}
-use Rattle.keeping.specs.Kept.{is_kept as is_kept_in, is_forgotten as is_forgotten_in}
+use Rattle.kept_meaning.specs.Kept.{is_kept as is_kept_in, is_forgotten as is_forgotten_in}
 use Rattle.keeping.specs.Steps.{IsLawfulStep}
-use Rattle.keeping.proofs.Decided.{is_tested}
+use Rattle.kept_meaning.proofs.Decided.{is_tested}
 use Rattle.forgetting.proofs.Agreeing.{present_at, same_kept, same_clean}
 use Rattle.forgetting.proofs.Firing.{fire_law}
 use Rattle.forgetting.proofs.Naming.{one_in}

@@ -18,7 +18,7 @@ pub use Rattle.forgetting.specs.WorldSights.{fact_at, sight_of, comes, goes, Ret
 pub use Rattle.fx_base.specs.Lists.{In}
 pub use Rattle.fx_base.specs.declared.fact.Fact.{Fact}
 pub use Rattle.fx_base.specs.declared.value.Value.{Value}
-pub use Rattle.keeping.proofs.Versions.{forgotten_fact, lost}
+pub use Rattle.kept_meaning.proofs.Versions.{forgotten_fact, lost}
 pub use Rattle.pair_memory.specs.Standing.{clean}
 pub use Rattle.retention.proofs.Calls.{later_law, same_covered, same_watched, hold_law, new_law, release_law}
 pub use Rattle.retention.specs.Retentions.{lingers, is_named}

@@ -14,10 +14,10 @@ use Rattle.rule_model.specs.Matches.{matches, has_match}
 use Rattle.rule_model.specs.Types.{is_event}
 use Rattle.rule_world.specs.Lawful.{IsOrdered}
 use Rattle.rule_world.specs.Worlds.{World, snapshot, pending, stepped, step_fault, marked}
-use Rattle.rule_lives.specs.Keeping.{AreSafe}
+use Rattle.life_meaning.specs.Tables.{AreSafe}
 use Rattle.agenda.specs.Agendas.{names_tag}
 use Rattle.pair_memory.specs.Standing.{clean}
-use Rattle.keeping.specs.Kept.{is_kept, is_forgotten}
+use Rattle.kept_meaning.specs.Kept.{is_kept, is_forgotten}
 use Rattle.keeping.specs.Steps.{IsLawfulStep}
 use Rattle.forgetting.specs.Sights.{Holding, HoldsKept, ends_by, only, kept, is_clean}
 use Rattle.forgetting.specs.Steps.{ComeClean, TakesChanges, HasLeft, Forgets}

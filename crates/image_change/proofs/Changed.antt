@@ -7,8 +7,8 @@ use Rattle.image_change.proofs.Common.{◌∙◌, ◌≡◌}
 use Rattle.image_laws.proofs.Fit.{image_fits}
 use Rattle.image_laws.proofs.Imaged.{image_facts}
 use Rattle.image_laws.specs.Fitting.{IsNextNumber}
-use Rattle.keeping.proofs.Decided.{kept_decided, kept_inside}
-use Rattle.keeping.specs.Kept.{is_forgotten, is_kept}
+use Rattle.kept_meaning.proofs.Decided.{kept_decided, kept_inside}
+use Rattle.kept_meaning.specs.Kept.{is_forgotten, is_kept}
 use Rattle.pair_memory.specs.Memories.{made}
 use Rattle.rule_change.specs.Changed.{changed, entry_in, moment_or_zero}
 use Rattle.rule_model.proofs.Sorted.{sorted_marked, tag_total, tags_apart}

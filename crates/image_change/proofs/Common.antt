@@ -9,8 +9,8 @@ pub use Rattle.image_change.specs.Images.{IsChangedImage}
 pub use Rattle.image_laws.specs.Fitting.{IsLadenMatch}
 pub use Rattle.image_laws.specs.Images.{AreMoments, IsImageOf, has_fired, match_fired, snapshot_of}
 pub use Rattle.join_tests.specs.Joins.{version_at}
-pub use Rattle.keeping.proofs.Versions.{forgotten_fact}
-pub use Rattle.keeping.specs.Kept.{is_alive}
+pub use Rattle.kept_meaning.proofs.Versions.{forgotten_fact}
+pub use Rattle.kept_meaning.specs.Kept.{is_alive}
 pub use Rattle.laden_rows.specs.Extras.{AreExtras, IsFirstWith, lost_partners, values_gathered}
 pub use Rattle.laden_rows.specs.Laden.{AreOwners, IsKeptOf}
 pub use Rattle.pair_memory.specs.Standing.{clean}
@@ -20,7 +20,7 @@ pub use Rattle.rule_change.proofs.Carrying.{life_stays}
 pub use Rattle.rule_change.proofs.Changing.{filtered}
 pub use Rattle.rule_change.specs.Alike.{as_old}
 pub use Rattle.rule_change.specs.Changed.{carried, is_marked, moved_condition, moved_fact, new_type, was_fired}
-pub use Rattle.rule_lives.specs.Keeping.{AreSafe, IsKept, IsSafeTable}
+pub use Rattle.life_meaning.specs.Tables.{AreSafe, IsKept, IsSafeTable}
 pub use Rattle.rule_model.proofs.Listed.{in_map, of_map}
 pub use Rattle.rule_model.proofs.RuleOf.{rule_of}
 pub use Rattle.rule_model.specs.Candidates.{fits}

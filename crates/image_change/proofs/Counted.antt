@@ -9,7 +9,7 @@ use Rattle.change_read.specs.Changes.{type_named}
 use Rattle.condition_rows.specs.Sets.{partners}
 use Rattle.fx_base.proofs.Sequences.{get-below}
 use Rattle.fx_base.specs.declared.ids.RuleId.{RuleId}
-use Rattle.keeping.specs.Kept.{is_forgotten}
+use Rattle.kept_meaning.specs.Kept.{is_forgotten}
 use Rattle.laden_rows.proofs.Extras.{first_of_some}
 use Rattle.laden_rows.proofs.Rows.{in_lost}
 use Rattle.laden_rows.specs.Extras.{IsExtraIn}

@@ -7,7 +7,7 @@ use Rattle.condition_rows.proofs.Holding.{version_in}
 use Rattle.condition_rows.specs.Sets.{held}
 use Rattle.fx_base.proofs.Sequences.{list_any-In}
 use Rattle.join_tests.specs.Joins.{is_named_version}
-use Rattle.keeping.specs.Kept.{is_forgotten, is_kept, is_lost, is_pending_named}
+use Rattle.kept_meaning.specs.Kept.{is_forgotten, is_kept, is_lost, is_pending_named}
 use Rattle.pair_memory.specs.Joined.{has_name}
 use Rattle.rule_change.proofs.Carrying.{carried_is_safe}
 use Rattle.rule_change.proofs.Changing.{alike_at_change}
@@ -17,7 +17,7 @@ use Rattle.rule_change.proofs.Rows.{AreMoved, HasPlace, present_same}
 use Rattle.rule_change.specs.Alike.{AreAlike, AreOver}
 use Rattle.rule_change.specs.Changed.{changed}
 use Rattle.rule_change.specs.Refused.{IsVerdict}
-use Rattle.rule_lives.specs.Keeping.{AreLives}
+use Rattle.life_meaning.specs.Tables.{AreLives}
 use Rattle.rule_model.proofs.RuleOf.{has_in, in_has}
 use Rattle.rule_model.specs.Lives.{AreShort}
 use Rattle.rule_model.specs.Matches.{match_of}

@@ -5,7 +5,7 @@ use Rattle.image_change.proofs.Common.{option_map, pattern_of, refl, snapshot, v
 use Rattle.condition_rows.specs.Sets.{held, partners}
 use Rattle.fold_fn.specs.Order.{in_rising_order}
 use Rattle.join_tests.specs.Joins.{joins, passes_given, tuple_at, versions_at}
-use Rattle.keeping.specs.Kept.{is_forgotten}
+use Rattle.kept_meaning.specs.Kept.{is_forgotten}
 use Rattle.rule_change.proofs.Rows.{arguments_same, candidates_same, filter_mapped, passes_same}
 use Rattle.rule_change.proofs.Tests.{moved_tuple}
 use Rattle.rule_change.specs.Changed.{changed, moved_pattern}

@@ -5,10 +5,10 @@ use Rattle.image_change.proofs.Common.{has_fired, has_match, has_pending, matche
 use Rattle.image_change.proofs.Common.{◌≡◌}
 use Rattle.fx_base.proofs.Sequences.{list_any-none}
 use Rattle.image_laws.proofs.Imaged.{image_kept}
-use Rattle.keeping.proofs.Decided.{is_tested}
-use Rattle.keeping.specs.Kept.{is_forgotten}
+use Rattle.kept_meaning.proofs.Decided.{is_tested}
+use Rattle.kept_meaning.specs.Kept.{is_forgotten}
 use Rattle.rule_change.specs.Refused.{NonePending}
-use Rattle.rule_lives.specs.Keeping.IsKept.{named}
+use Rattle.life_meaning.specs.Tables.IsKept.{named}
 use Rattle.rule_model.proofs.Named.{named_of}
 use Rattle.image_change.proofs.Matched.{of_laden, to_laden}
 use Rattle.image_change.proofs.Owners.{owners}

@@ -12,7 +12,7 @@ use Rattle.rule_model.specs.Lives.{AreShort}
 use Rattle.rule_model.specs.Moments.{moment_in}
 use Rattle.rule_world.specs.Lawful.{IsLawful}
 use Rattle.rule_world.specs.Worlds.{World}
-use Rattle.rule_lives.specs.Keeping.{AreLives, IsSafeTable}
+use Rattle.life_meaning.specs.Tables.{AreLives, IsSafeTable}
 use Rattle.laden_rows.specs.Extras.{IsFirstWith, extra_cmp}
 use Rattle.laden_rows.specs.Laden.{AreOwners}
 use Rattle.image_laws.specs.Images.{AreMoments, IsImageOf, fired_cmp, has_fired, match_fired}

@@ -29,7 +29,7 @@ pub use Rattle.rule_model.specs.Distinct.{tag_cmp, HaveDistinctIds, HaveDistinct
 pub use Rattle.laden_rows.specs.Laden.{AreOwners, extra_at, laden_with, laden_gives, laden_line, extra_values_of}
 pub use Rattle.row_delta.specs.declared.extra.Extra.{Extra}
 pub use Rattle.row_delta.specs.declared.row.Row.{Row}
-pub use Rattle.rule_lives.specs.Keeping.{AreSafe}
+pub use Rattle.life_meaning.specs.Tables.{AreSafe}
 pub use Rattle.rule_model.proofs.Listed.{in_map, of_map}
 pub use Rattle.rule_model.specs.Candidates.{fits, is_candidate, is_inside, is_present, is_within}
 pub use Rattle.rule_model.specs.Snapshots.{Snapshot}

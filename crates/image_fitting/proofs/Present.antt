@@ -25,7 +25,7 @@ use Rattle.pair_memory.proofs.Valued.{valued_from}
 use Rattle.condition_rows.specs.Lines.{is_ripe, empty_row, is_empty_row}
 use Rattle.condition_rows.specs.Sets.{held, candidates_of, has_partner}
 use Rattle.condition_rows.proofs.Joined.{candidate_of}
-use Rattle.keeping.specs.Kept.{is_alive}
+use Rattle.kept_meaning.specs.Kept.{is_alive}
 use Rattle.laden_rows.specs.Laden.{laden}
 use Rattle.fx_base.proofs.Sequences.{In-append}
 

@@ -10,7 +10,7 @@ use Rattle.rule_model.specs.declared.life.LifeTable.{LifeTable}
 use Rattle.rule_model.specs.declared.program.Program.{Program}
 use Rattle.rule_model.specs.Candidates.{is_present}
 use Rattle.rule_world.specs.Lawful.{IsLawful}
-use Rattle.rule_lives.specs.Keeping.{AreSafe}
+use Rattle.life_meaning.specs.Tables.{AreSafe}
 use Rattle.laden_rows.specs.Extras.{extra_cmp}
 use Rattle.image_laws.specs.Fitting.{world_of, IsNextNumber, IsForgettable, IsLadenRow, IsLadenMatch, IsNeeded, Fits}
 use Rattle.laden_rows.specs.Placed.{IsSmall}

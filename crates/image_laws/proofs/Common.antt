@@ -12,14 +12,14 @@ pub use Rattle.fx_base.specs.Lists.{EachOnce, In}
 pub use Rattle.fx_base.specs.declared.fact.Fact.{Fact}
 pub use Rattle.fx_base.specs.declared.ids.Tag.{Tag}
 pub use Rattle.image_laws.specs.Images.{AreMoments, IsImageOf, fired_cmp, has_fired, match_fired, snapshot_of}
-pub use Rattle.keeping.proofs.Decided.{is_so, is_tested, kept_inside}
-pub use Rattle.keeping.proofs.Staying.{not_alive}
-pub use Rattle.keeping.specs.Kept.{is_alive, is_forgotten, is_kept, is_pending_named}
+pub use Rattle.kept_meaning.proofs.Decided.{is_so, is_tested, kept_inside}
+pub use Rattle.kept_meaning.proofs.Decided.{not_alive}
+pub use Rattle.kept_meaning.specs.Kept.{is_alive, is_forgotten, is_kept, is_pending_named}
 pub use Rattle.laden_rows.proofs.Rows.{in_lost, laden_rows}
 pub use Rattle.laden_rows.specs.Extras.{IsExtraIn, extra_cmp}
 pub use Rattle.laden_rows.specs.Laden.{AreOwners, IsKeptOf, laden}
 pub use Rattle.row_delta.specs.declared.extra.Extra.{Extra}
-pub use Rattle.rule_lives.specs.Keeping.{AreSafe, IsKept, named}
+pub use Rattle.life_meaning.specs.Tables.{AreSafe, IsKept, named}
 pub use Rattle.rule_model.proofs.Listed.{in_map, of_map}
 pub use Rattle.rule_model.proofs.Order.{Same, passed}
 pub use Rattle.rule_model.proofs.RuleOf.{has_in, in_has, rule_of}

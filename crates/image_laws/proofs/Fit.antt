@@ -18,7 +18,7 @@ use Rattle.rule_model.proofs.Named.{of_filter, named_of}
 use Rattle.rule_model.proofs.Once.{once_filter, once_facts, once_map, one_fact}
 use Rattle.pair_memory.specs.Standing.{clean, cleaned}
 use Rattle.condition_rows.specs.Sets.{rows_of, partners}
-use Rattle.keeping.specs.Kept.{is_kept}
+use Rattle.kept_meaning.specs.Kept.{is_kept}
 use Rattle.fx_base.proofs.Sequences.{list_any-In, list_any-none}
 use Rattle.laden_rows.specs.Extras.{lost_partners, values_gathered}
 use Rattle.fold_fn.proofs.ResultLemmas.{length-rising}

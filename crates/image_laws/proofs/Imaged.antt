@@ -7,9 +7,9 @@ use Rattle.image_laws.proofs.Common.{false_from_ne_true, not-false, not-true, so
 use mathlib.Core.Path.{fun_ext}
 use Rattle.rule_model.specs.declared.condition.WindowTag.TheVariants.{Length}
 use Rattle.rule_model.specs.Snapshots.{Reached}
-use Rattle.rule_lives.specs.Reach.{infinite}
-use Rattle.rule_lives.proofs.Limits.{lives_below}
-use Rattle.keeping.proofs.Versions.{forgotten_fact}
+use Rattle.life_meaning.specs.Reach.{infinite}
+use Rattle.life_meaning.proofs.Limits.{lives_below}
+use Rattle.kept_meaning.proofs.Versions.{forgotten_fact}
 
 module _ (p : Program) (table : LifeTable) (w : World) (image : Image) (safe : AreSafe p table) (l : IsLawful p w) (is : IsImageOf p table w image) where
   pub image_tags : HaveDistinctTags image.facts

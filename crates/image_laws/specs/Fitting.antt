@@ -17,7 +17,7 @@ use Rattle.rule_model.specs.Tuples.{name_of}
 use Rattle.row_delta.specs.declared.row.Row.{Row}
 use Rattle.rule_world.specs.Lawful.{IsLawful}
 use Rattle.rule_world.specs.Worlds.{World}
-use Rattle.keeping.specs.Kept.{is_alive}
+use Rattle.kept_meaning.specs.Kept.{is_alive}
 use Rattle.laden_rows.specs.Extras.{extra_cmp}
 use Rattle.rule_model.specs.Distinct.{tag_cmp}
 use Rattle.image_laws.specs.Images.{fired_cmp, has_fired, snapshot_of}

@@ -14,9 +14,9 @@ use Rattle.rule_model.specs.Matches.{match_cmp, has_match}
 use Rattle.rule_model.specs.Moments.{moment_in, reached_in}
 use Rattle.rule_model.specs.Snapshots.{Snapshot}
 use Rattle.rule_world.specs.Worlds.{World, snapshot}
-use Rattle.rule_lives.specs.Keeping.{IsKept}
+use Rattle.life_meaning.specs.Tables.{IsKept}
 use Rattle.pair_memory.specs.Standing.{clean}
-use Rattle.keeping.specs.Kept.{is_forgotten}
+use Rattle.kept_meaning.specs.Kept.{is_forgotten}
 use Rattle.laden_rows.specs.Extras.{AreExtras}
 
 -- the moments of so many entry points, by their places, and of no further one

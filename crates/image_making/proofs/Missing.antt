@@ -13,7 +13,7 @@ use Rattle.rete_net.specs.Loading.{IsThere}
 use Rattle.row_delta.specs.declared.extra.Extra.{Extra}
 use Rattle.rule_change.specs.Alike.{AreOver}
 use Rattle.rule_change.specs.Refused.{IsVerdict}
-use Rattle.rule_lives.specs.Keeping.{AreLives}
+use Rattle.life_meaning.specs.Tables.{AreLives}
 use Rattle.rule_model.specs.Lives.{AreShort}
 use Rattle.rule_model.specs.declared.life.LifeTable.{LifeTable}
 use Rattle.rule_model.specs.declared.program.Program.{Program}

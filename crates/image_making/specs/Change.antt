@@ -9,7 +9,7 @@ use Rattle.rule_change.specs.declared.code.ChangeCode.{ChangeCode}
 use Rattle.rule_change.specs.Alike.{AreOver, HaveNames, HavePlaces}
 use Rattle.rule_change.specs.Changed.{AreFrom, carried, changed}
 use Rattle.rule_change.specs.Refused.{IsVerdict}
-use Rattle.rule_lives.specs.Keeping.{AreLives, IsSafeTable}
+use Rattle.life_meaning.specs.Tables.{AreLives, IsSafeTable}
 use Rattle.rule_model.specs.Lives.{AreShort}
 use Rattle.rule_model.specs.declared.life.LifeTable.{LifeTable}
 use Rattle.rule_model.specs.declared.program.Program.{Program}

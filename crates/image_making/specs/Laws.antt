@@ -8,7 +8,7 @@ use Rattle.image_making.specs.Loads.{CanBeLoaded}
 use Rattle.image_change.specs.Images.{IsMovedImage}
 use Rattle.image_making.specs.Moved.{MovesApart}
 use Rattle.image_laws.specs.Fitting.{Fits}
-use Rattle.rule_lives.specs.Keeping.{AreSafe}
+use Rattle.life_meaning.specs.Tables.{AreSafe}
 use Rattle.rule_world.specs.Programs.{IsRunnable}
 
 abbrev pub ChangedCanBeLoaded : Type 0

@@ -1,4 +1,4 @@
-//! The image of a world under other rules, made of its image under the old ones.
+//! Makes the image of a world under other rules of its image under the old ones, or says why these are refused.
 #![tactic(auto)]
 
 mod at_hand;

@@ -4,7 +4,7 @@ ghost use Rattle.change_rules.specs.Staying.{place_in};
 ghost use Rattle.image_change.specs.Images.{IsChangedImage};
 ghost use Rattle.rule_change.specs.Alike.{AreOver};
 ghost use Rattle.rule_change.specs.Refused.{IsVerdict};
-ghost use Rattle.rule_lives.specs.Keeping.{AreLives};
+ghost use Rattle.life_meaning.specs.Tables.{AreLives};
 ghost use Rattle.rule_model.specs.Lives.{AreShort};
 ghost use Rattle.rule_model.specs.declared.life.LifeTable.{LifeTable as LifeTableData};
 ghost use Rattle.rule_world.specs.Worlds.{World};

@@ -9,7 +9,7 @@ ghost use Rattle.image_laws.specs.Images.{IsImageOf, snapshot_of};
 ghost use Rattle.laden_rows.specs.Laden.{AreOwners};
 ghost use Rattle.rete_net.specs.Loading.{IsThere};
 ghost use Rattle.rule_change.specs.Refused.{NonePending};
-ghost use Rattle.rule_lives.specs.Keeping.{IsSafeTable};
+ghost use Rattle.life_meaning.specs.Tables.{IsSafeTable};
 ghost use Rattle.rule_world.specs.Lawful.{IsLawful};
 ghost use Rattle.rule_world.specs.Worlds.{World};
 ghost use Rattle.image_making.specs.Loads.{CanBeLoaded};

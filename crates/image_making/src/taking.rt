@@ -8,7 +8,7 @@ ghost use Rattle.laden_rows.specs.Laden.{AreOwners};
 ghost use Rattle.rete_net.specs.Loading.{IsThere};
 ghost use Rattle.row_delta.specs.declared.extra.Extra.{Extra as ExtraData};
 ghost use Rattle.rule_change.specs.Refused.{HaveEntries, HaveTypes};
-ghost use Rattle.rule_lives.specs.Keeping.{AreLives};
+ghost use Rattle.life_meaning.specs.Tables.{AreLives};
 ghost use Rattle.rule_model.specs.Lives.{AreShort};
 ghost use Rattle.rule_world.specs.Programs.{IsRunnable};
 ghost use Rattle.rule_world.specs.Worlds.{World};

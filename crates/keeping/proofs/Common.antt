@@ -11,15 +11,16 @@ pub use Rattle.fx_base.proofs.Sequences.{In-place, list_any-In, list_any-from, l
 pub use Rattle.fx_base.specs.Lists.{In}
 pub use Rattle.fx_base.specs.declared.fact.Fact.{Fact}
 pub use Rattle.join_tests.specs.Joins.{Look, joins, version_at}
-pub use Rattle.keeping.specs.Kept.{is_alive, is_forgotten, is_kept, is_lost, is_pending_named, kept_facts}
+pub use Rattle.kept_meaning.specs.Kept.{is_alive, is_forgotten, is_kept, is_lost, is_pending_named, kept_facts}
 pub use Rattle.keeping.specs.Steps.{IsLawfulStep, RowComes, behind}
 pub use Rattle.pair_memory.specs.Joined.{has_name}
 pub use Rattle.row_delta.specs.declared.row.Named.{Named}
-pub use Rattle.rule_lives.proofs.Limits.{lives_below}
+pub use Rattle.life_meaning.proofs.Limits.{lives_below}
 pub use Rattle.rule_lives.proofs.Matched.{operators_of, same_fact}
-pub use Rattle.rule_lives.specs.Keeping.{AreSafe, Comes, IsKept, endless, living, named, plain, unexpired}
-pub use Rattle.rule_lives.specs.Lifetimes.{IsLife}
-pub use Rattle.rule_lives.specs.Reach.{finite, infinite}
+pub use Rattle.life_meaning.specs.Tables.{AreSafe, IsKept, endless, living, named, plain, unexpired}
+pub use Rattle.rule_lives.specs.Keeping.{Comes}
+pub use Rattle.life_meaning.specs.Lifetimes.{IsLife}
+pub use Rattle.life_meaning.specs.Reach.{finite, infinite}
 pub use Rattle.rule_model.proofs.Firsts.{or_split}
 pub use Rattle.rule_model.proofs.Listed.{in_left, in_map, listed_makes, makes_listed, of_map}
 pub use Rattle.rule_model.proofs.Named.{of_filter}

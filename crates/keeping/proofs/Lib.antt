@@ -1,6 +1,4 @@
 mod Common
-pub mod Decided
-pub mod Versions
 pub mod Coming
 pub mod Staying
 pub mod Later

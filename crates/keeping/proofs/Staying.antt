@@ -9,14 +9,14 @@ use Rattle.keeping.proofs.Common.{in_map, in_left, stays, and_parts, eqb-true, f
 use Rattle.std.proofs.lemmas.Int.{ints}
 use Rattle.rule_model.specs.Candidates.{is_present}
 use Rattle.rule_world.specs.Worlds.{moved, step_fault}
-use Rattle.keeping.specs.Kept.{is_kept}
+use Rattle.kept_meaning.specs.Kept.{is_kept}
 use Rattle.std.proofs.Math.Bool.{or-true}
 use Rattle.fx_base.specs.declared.value.Value.{Value}
 use Rattle.rule_model.specs.declared.step.Step.TheVariants.{Insert, Modify, Retract, Advance, At, Promise, Begin}
 use Rattle.rule_world.proofs.Fresh.{revise}
 use Rattle.rule_lives.proofs.Laws.{observed_of}
 use Rattle.rule_lives.proofs.Moves.{plain_there, retracted_is_not_observed, clock_on}
-use Rattle.keeping.proofs.Versions.{lost, tags_behind}
+use Rattle.kept_meaning.proofs.Versions.{lost, tags_behind}
 use Rattle.fx_base.proofs.Tests.{or_first_false, same_test}
 
 -- ---- no step takes away an observed event
@@ -113,21 +113,6 @@ module _ (p : Program) (s o : Snapshot) (from : s.clock ≤ℤ o.clock) (rule : 
 -- ---- what is not kept
 
 module _ (p : Program) (table : LifeTable) (w : World) (are : AreSafe p table) where
-  pub not_alive : (f : Fact) → is_kept p table w f ≡ false → is_alive p (slice_get table.lives f.ty.0) w.clock f ≡ false
-  unfolding is_kept
-  not_alive f e = or_first_false (is_alive p (slice_get table.lives f.ty.0) w.clock f) (is_pending_named p w f) e
-
-  -- what is not kept is an event
-  event_by : (f : Fact) (life : Option Life) → slice_get table.lives f.ty.0 ≡ life → is_alive p life w.clock f ≡ false → is_event p f.ty.0 ≡ true
-  event_by f None at e = absurd (let n : true ≡ false = e in cc)
-  event_by f (Some Plain) at e = absurd (let n : true ≡ false = e in cc)
-  event_by f (Some (Explicit expiry)) at e = (are.each f.ty.0 (Explicit expiry) at).0
-  event_by f (Some (Finite n)) at e = (are.each f.ty.0 (Finite n) at).1.event
-  event_by f (Some Infinite) at e = absurd (let n : true ≡ false = e in cc)
-
-  pub lost_event : (f : Fact) → is_kept p table w f ≡ false → is_event p f.ty.0 ≡ true
-  lost_event f e = event_by f (slice_get table.lives f.ty.0) refl (not_alive f e)
-
   module _ (law : IsLawful p w) (o : Snapshot) (from : w.clock ≤ℤ o.clock) (rule : Rule) (in_rules : In rule p.rules) (k : ℕ) (c : Condition) (at_k : slice_get rule.conditions k ≡ Some c)
       (f : Fact) (inside : In f w.facts) where
     same_by : (life : Option Life) → slice_get table.lives f.ty.0 ≡ life → is_alive p life w.clock f ≡ false → is_candidate p (pattern_of c) o f ≡ is_candidate p (pattern_of c) (snapshot w) f

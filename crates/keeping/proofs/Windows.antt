@@ -3,7 +3,8 @@ use Rattle.keeping.proofs.Common.{◌≡◌, ◌∙◌, ◌&&◌, ◌==◌, ℤ,
 use Rattle.keeping.proofs.Common.{Fact, Condition, WindowTag, Time, Life, Plain, Explicit, Finite, Infinite, LifeTable, Program, Rule, is_inside, is_candidate}
 use Rattle.keeping.proofs.Common.{is_present, pattern_of, Snapshot, tests_hold, unbound, IsLawful, World, was_present, AreSafe, IsLife, finite, lives_below}
 use Rattle.keeping.proofs.Common.{is_alive, is_kept, eqb-true, false_from_ne_true, In-place}
-use Rattle.keeping.proofs.Staying.{after_life, after_less, not_below, too_old, later_too, not_alive}
+use Rattle.keeping.proofs.Staying.{after_life, after_less, not_below, too_old, later_too}
+use Rattle.kept_meaning.proofs.Decided.{not_alive}
 
 -- no candidate, where the facts of the type are not inside
 none_by : (a t r c : Bool) → (t ≡ true → c ≡ false) → ((a && (t && r)) && c) ≡ false

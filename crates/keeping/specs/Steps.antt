@@ -9,7 +9,7 @@ use Rattle.rule_model.specs.Snapshots.{Snapshot}
 use Rattle.rule_world.specs.Lawful.{IsLawful}
 use Rattle.rule_world.specs.Programs.{UseOperators}
 use Rattle.rule_world.specs.Worlds.{World, snapshot, moved, step_fault}
-use Rattle.rule_lives.specs.Keeping.{AreSafe}
+use Rattle.life_meaning.specs.Tables.{AreSafe}
 use Rattle.rule_lives.specs.Law.{IsFlagged}
 use Rattle.condition_rows.specs.Sets.{rows_of}
 

@@ -1,5 +1,5 @@
-//! Laws of what is kept: each function's contract is the law, and its body is empty.
-ghost use Rattle.std.specs.Prelude.{◌≡◌, ◌≤ℤ◌, ◌↔◌, ◌&&◌, not, ℕ, ℤ, true, false, take, Some, slice_get};
+//! Laws of what is kept over steps: each function's contract is the law, and its body is empty.
+ghost use Rattle.std.specs.Prelude.{◌≡◌, ◌≤ℤ◌, ◌&&◌, not, ℕ, ℤ, true, false, take, Some, slice_get};
 ghost use Rattle.fx_base.specs.Lists.{In};
 ghost use Rattle.fx_base.specs.declared.fact.Fact.{Fact};
 ghost use Rattle.row_delta.specs.declared.row.Named.{Named};
@@ -12,38 +12,19 @@ ghost use Rattle.rule_model.specs.declared.program.Program.{Program};
 ghost use Rattle.rule_model.specs.declared.program.Rule.{Rule};
 ghost use Rattle.rule_model.specs.declared.step.Step.{Step};
 ghost use Rattle.rule_model.specs.Candidates.{is_candidate};
-ghost use Rattle.rule_model.specs.Distinct.{HaveDistinctTags};
 ghost use Rattle.rule_model.specs.Rows.{pattern_of};
 ghost use Rattle.rule_model.specs.Snapshots.{Snapshot};
 ghost use Rattle.rule_model.specs.Tuples.{name_of};
 ghost use Rattle.rule_world.specs.Lawful.{IsLawful};
 ghost use Rattle.rule_world.specs.Worlds.{World, snapshot, stepped, marked};
-ghost use Rattle.rule_lives.specs.Keeping.{AreSafe, IsKept};
+ghost use Rattle.life_meaning.specs.Tables.{AreSafe};
 ghost use Rattle.rule_model.specs.Rows.{binds};
 ghost use Rattle.join_tests.specs.Joins.{Look, joins};
 ghost use Rattle.pair_memory.specs.Standing.{clean, no_names};
 ghost use Rattle.condition_rows.specs.Looks.{HasAllOf};
 ghost use Rattle.condition_rows.specs.Sets.{candidates_of};
-ghost use Rattle.keeping.specs.Kept.{is_kept, kept_facts, is_forgotten};
+ghost use Rattle.kept_meaning.specs.Kept.{is_kept, is_forgotten};
 ghost use Rattle.keeping.specs.Steps.{IsLawfulStep, behind, RowComes};
-
-/// With a safe table of lives the test is true of a fact of a world exactly where it is kept, and the list has exactly what is
-/// kept.
-pub fn kept_is_decided()
-    ensures fact { (p : Program) (table : LifeTable) (w : World) → AreSafe p table → (f : Fact) → In f w.facts
-        → (is_kept p table w f ≡ true) ↔ IsKept p table w f }
-    ensures facts { (p : Program) (table : LifeTable) (w : World) → AreSafe p table → (f : Fact)
-        → In f (kept_facts p table w) ↔ IsKept p table w f }
-{}
-
-/// What is forgotten is a fact of the world, by its name, that is not kept; over facts with distinct tags a fact of the world is
-/// forgotten exactly where it is not kept.
-pub fn what_is_not_kept_is_forgotten()
-    ensures named { (p : Program) (table : LifeTable) (w : World) (who : Named) → is_forgotten p table w who ≡ true
-        → (f : Fact) × In f w.facts × (name_of f ≡ who) × (is_kept p table w f ≡ false) }
-    ensures fact { (p : Program) (table : LifeTable) (w : World) → HaveDistinctTags w.facts → (f : Fact) → In f w.facts
-        → is_forgotten p table w (name_of f) ≡ not (is_kept p table w f) }
-{}
 
 /// For a row of the conditions before a `not`, an `exists` or an `accumulate` that comes in a step, what was forgotten before the step
 /// is behind it no candidate that passes, whatever look has all versions of the snapshot there.

@@ -12,9 +12,9 @@ pub use Rattle.fx_base.specs.declared.times.Times.{Times}
 pub use Rattle.life_edges.specs.Edges.{edges_of_conditions, end_of, pattern_edges, place_of, start_point_of, net_edge, test_edges, event_edges, point_of}
 pub use Rattle.life_edges.specs.Edges.{stands_in_network, HaveNetwork, RulesHaveNetworks, condition_edges}
 pub use Rattle.life_edges.specs.Tails.{HaveLives, HasShortWindow, IsShortLimit, IsShortSpan, limit_of}
-pub use Rattle.rule_lives.specs.Lifetimes.{scope, tail_by}
-pub use Rattle.rule_lives.specs.Networks.{bindings, Occurrence, MeetsTests, SolvesConditions, bound, occurrence, IsMember, aside, is_test_met}
-pub use Rattle.rule_lives.specs.Reach.{Placed, infinite, IsGreatestReach, IsReach, distance, occurrence_of}
+pub use Rattle.life_meaning.specs.Lifetimes.{scope, tail_by}
+pub use Rattle.life_meaning.specs.Networks.{bindings, Occurrence, MeetsTests, SolvesConditions, bound, occurrence, IsMember, aside, is_test_met}
+pub use Rattle.life_meaning.specs.Reach.{Placed, infinite, IsGreatestReach, IsReach, distance, occurrence_of}
 pub use Rattle.rule_model.specs.Rows.{pattern_of, HaveOperators}
 pub use Rattle.rule_model.specs.Types.{is_point, expiry_in, is_event, lateness_in}
 pub use Rattle.rule_model.specs.declared.condition.Condition.{Condition}

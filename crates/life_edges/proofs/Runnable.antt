@@ -17,7 +17,7 @@ use Rattle.rule_model.specs.Types.{expiry_of, lateness_of}
 use Rattle.rule_model.proofs.RuleOf.{in_place}
 use Rattle.rule_world.specs.Events.{most_millis}
 use Rattle.rule_world.proofs.Acting.{all_of}
-use Rattle.rule_lives.specs.Lifetimes.{tail}
+use Rattle.life_meaning.specs.Lifetimes.{tail}
 use Rattle.fx_base.proofs.Orders.{int_le-true}
 
 few : (rule : Rule) → has_conditions rule ≡ true → length rule.conditions ≤ 8

@@ -1,7 +1,7 @@
 -- Conditions by their places.
 use Rattle.std.specs.Prelude.{◌≡◌, ℕ, List, Some, slice_get}
 use Rattle.rule_model.specs.declared.condition.Condition.{Condition}
-use Rattle.rule_lives.specs.Reach.{Placed}
+use Rattle.life_meaning.specs.Reach.{Placed}
 
 abbrev pub placed : ℕ → Condition → Placed
 placed place c = record { place = place; condition = c }

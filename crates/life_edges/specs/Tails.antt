@@ -8,8 +8,8 @@ use Rattle.rule_model.specs.declared.condition.WindowTag.TheVariants.{Whole, Tim
 use Rattle.rule_model.specs.declared.program.Program.{Program}
 use Rattle.rule_model.specs.Rows.{pattern_of}
 use Rattle.rule_world.specs.Events.{most_millis}
-use Rattle.rule_lives.specs.Lifetimes.{tail}
-use Rattle.rule_lives.specs.Reach.{Limit, finite, infinite}
+use Rattle.life_meaning.specs.Lifetimes.{tail}
+use Rattle.life_meaning.specs.Reach.{Limit, finite, infinite}
 use Rattle.life_edges.specs.Edges.{HaveNetwork}
 
 abbrev pub limit_of : Bound → Limit

@@ -1,6 +1,6 @@
 ghost use Rattle.std.specs.Prelude.{◌∷◌, [], ◌≡◌, ◌<◌, ◌≤◌, ◌==◌, ◌++◌, length, map, IfOk};
 ghost use Rattle.std.specs.List.{All, list_any};
-ghost use Rattle.rule_lives.specs.Networks.{bindings};
+ghost use Rattle.life_meaning.specs.Networks.{bindings};
 ghost use Rattle.rule_world.specs.Programs.{NameEarlier};
 ghost use Rattle.life_edges.specs.Edges.{start_point_of, end_of, point_of, net_edge, place_of as place_in, test_edges, event_edges, pattern_edges, stands_in_network as is_inside, edges_of_conditions};
 

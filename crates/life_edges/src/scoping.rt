@@ -1,5 +1,5 @@
 ghost use Rattle.std.specs.Prelude.{◌≡◌};
-ghost use Rattle.rule_lives.specs.Lifetimes.{scope as scope_of};
+ghost use Rattle.life_meaning.specs.Lifetimes.{scope as scope_of};
 ghost use Rattle.life_edges.specs.Places.{placed, StandsIn};
 
 use rule_model::Condition;

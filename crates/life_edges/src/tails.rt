@@ -1,5 +1,5 @@
 ghost use Rattle.std.specs.Prelude.{◌≡◌};
-ghost use Rattle.rule_lives.specs.Lifetimes.{at_least as least_of, tail as tail_of, tail_by};
+ghost use Rattle.life_meaning.specs.Lifetimes.{at_least as least_of, tail as tail_of, tail_by};
 ghost use Rattle.life_edges.specs.Tails.{limit_of};
 
 use fx_base::{Bound, Millis};
@@ -25,7 +25,7 @@ fn event_tail(window: WindowTag, expiry: Option<Millis>, lateness: Millis) -> Bo
 }
 
 /// How long behind its start an event of a pattern can still come, or still leave.
-#[tactic(auto, unfolding(rule_lives::specs::Lifetimes::tail))]
+#[tactic(auto, unfolding(life_meaning::specs::Lifetimes::tail))]
 pub fn tail(program: &Program, pattern: &Pattern) -> Bound
     ensures { limit_of result ≡ tail_of program.now pattern.now }
 {

@@ -9,8 +9,8 @@ use Rattle.life_proof.proofs.Common.{of_times, same_distance}
 use Rattle.fx_base.specs.declared.times.Times.{Times}
 use Rattle.temporal_net.proofs.Sums.{adds_up}
 use Rattle.rule_model.specs.declared.condition.Pattern.{Pattern}
-use Rattle.rule_lives.specs.Lifetimes.{tail}
-use Rattle.rule_lives.specs.Networks.{Occurrence}
+use Rattle.life_meaning.specs.Lifetimes.{tail}
+use Rattle.life_meaning.specs.Networks.{Occurrence}
 use Rattle.life_edges.proofs.Solved.{points_of, points_agree}
 use Rattle.life_proof.specs.Laws.{BoundsHold, LivesSuffice, GoodIsSafe}
 use Rattle.life_proof.proofs.Asked.{is_asked, scope_is}

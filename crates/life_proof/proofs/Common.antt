@@ -25,9 +25,9 @@ pub use Rattle.life_proof.specs.Tables.{is_unexpired, spans, spans_by}
 pub use Rattle.life_proof.specs.declared.part.Asked.{Asked}
 pub use Rattle.life_proof.specs.declared.part.Part.{Part}
 pub use Rattle.life_proof.specs.declared.part.Proof.{Proof}
-pub use Rattle.rule_lives.specs.Keeping.{IsLifeOf, AreLives, IsSafeLife}
-pub use Rattle.rule_lives.specs.Lifetimes.{Adds, IsLife, LivesFor, of_event, of_fact, scope, PatternLife, tail}
-pub use Rattle.rule_lives.specs.Reach.{Below, Limit, finite, infinite, plus, IsReach, Placed, IsGreatestReach, SolvesWith, distance}
+pub use Rattle.life_meaning.specs.Tables.{IsLifeOf, AreLives, IsSafeLife}
+pub use Rattle.life_meaning.specs.Lifetimes.{Adds, IsLife, LivesFor, of_event, of_fact, scope, PatternLife, tail}
+pub use Rattle.life_meaning.specs.Reach.{Below, Limit, finite, infinite, plus, IsReach, Placed, IsGreatestReach, SolvesWith, distance}
 pub use Rattle.rule_model.proofs.RuleOf.{in_place}
 pub use Rattle.rule_model.specs.Rows.{pattern_of}
 pub use Rattle.rule_model.specs.Types.{is_event, expiry_in, is_event_type, is_reference}

@@ -11,7 +11,7 @@ use Rattle.rule_model.specs.declared.program.Program.{Program}
 use Rattle.rule_model.specs.declared.program.Rule.{Rule}
 use Rattle.rule_model.specs.Rows.{pattern_of}
 use Rattle.rule_model.specs.Types.{is_reference}
-use Rattle.rule_lives.specs.Lifetimes.{scope}
+use Rattle.life_meaning.specs.Lifetimes.{scope}
 use Rattle.life_edges.specs.Places.{placed}
 use Rattle.life_proof.specs.declared.part.Asked.{Asked}
 

@@ -12,8 +12,8 @@ use Rattle.rule_model.specs.declared.program.Program.{Program}
 use Rattle.rule_model.specs.declared.program.Rule.{Rule}
 use Rattle.rule_model.specs.Rows.{pattern_of}
 use Rattle.rule_model.specs.Types.{is_event}
-use Rattle.rule_lives.specs.Lifetimes.{scope, tail}
-use Rattle.rule_lives.specs.Reach.{Limit, finite, infinite, Below, plus}
+use Rattle.life_meaning.specs.Lifetimes.{scope, tail}
+use Rattle.life_meaning.specs.Reach.{Limit, finite, infinite, Below, plus}
 use Rattle.life_edges.specs.Edges.{start_point_of, end_of, edges_of_conditions}
 use Rattle.life_edges.specs.Places.{placed}
 use Rattle.life_proof.specs.declared.part.Asked.{Asked}

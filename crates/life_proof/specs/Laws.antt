@@ -6,10 +6,10 @@ use Rattle.rule_model.specs.declared.life.LifeTable.{LifeTable}
 use Rattle.rule_model.specs.declared.program.Program.{Program}
 use Rattle.rule_model.specs.Rows.{pattern_of}
 use Rattle.rule_world.specs.Programs.{IsRunnable}
-use Rattle.rule_lives.specs.Keeping.{AreLives, AreSafe}
-use Rattle.rule_lives.specs.Lifetimes.{scope, tail, PatternLife}
-use Rattle.rule_lives.specs.Networks.{Occurrence}
-use Rattle.rule_lives.specs.Reach.{Limit, finite, Below, SolvesWith, distance}
+use Rattle.life_meaning.specs.Tables.{AreLives, AreSafe}
+use Rattle.life_meaning.specs.Lifetimes.{scope, tail, PatternLife}
+use Rattle.life_meaning.specs.Networks.{Occurrence}
+use Rattle.life_meaning.specs.Reach.{Limit, finite, Below, SolvesWith, distance}
 use Rattle.life_edges.specs.Places.{placed}
 use Rattle.life_proof.specs.declared.part.Asked.{Asked}
 use Rattle.life_proof.specs.declared.part.Proof.{Proof}

@@ -3,7 +3,7 @@ ghost use Rattle.std.specs.Prelude.{◌≡◌, ◌<◌, length, map, IfOk};
 ghost use Rattle.std.specs.List.{All};
 ghost use Rattle.temporal_net.specs.Networks.{edge_at, IsShortestPath, IsUnboundedDifference};
 ghost use Rattle.rule_world.specs.Programs.{IsRunnable};
-ghost use Rattle.rule_lives.specs.Keeping.{AreLives};
+ghost use Rattle.life_meaning.specs.Tables.{AreLives};
 ghost use Rattle.life_edges.specs.Edges.{start_point_of, end_of, HaveNetwork};
 ghost use Rattle.life_proof.specs.Asked.{IsReachAsked};
 ghost use Rattle.life_proof.specs.Good.{edges_for, AreGoodParts, IsGood, IsGoodPart};

@@ -45,7 +45,7 @@ pub use Rattle.replay.specs.declared.refused_checkpoint.CheckpointCode.{Checkpoi
 pub use Rattle.replay.specs.declared.refused_checkpoint.CheckpointCode.TheVariants.{Unfit, TooLong, BadImage, OtherRules}
 pub use Rattle.replay.specs.declared.rule_file.Reading.{Reading}
 pub use Rattle.replay.specs.declared.rule_file.Reading.TheVariants.{Accepted, Refused}
-pub use Rattle.rule_lives.specs.Keeping.{AreLives, IsLifeOf}
+pub use Rattle.life_meaning.specs.Tables.{AreLives, IsLifeOf}
 pub use Rattle.rule_model.specs.declared.life.Life.{Life}
 pub use Rattle.rule_model.specs.declared.life.LifeTable.{LifeTable}
 pub use Rattle.rule_model.specs.declared.program.Program.{Program}

@@ -14,8 +14,8 @@ use Rattle.checkpoint.proofs.Structs.{fields_exact}
 use Rattle.image_laws.specs.Fitting.{Fits}
 use Rattle.image_laws.specs.Images.{IsImageOf}
 use Rattle.image_laws.proofs.Fit.{image_fits}
-use Rattle.rule_lives.specs.Keeping.{AreSafe}
-use Rattle.rule_lives.proofs.Safe.{safe_life}
+use Rattle.life_meaning.specs.Tables.{AreSafe}
+use Rattle.life_meaning.proofs.Safe.{safe_life}
 use Rattle.rule_world.specs.Programs.{IsRunnable}
 use Rattle.line_run.specs.Parts.{EndsLine}
 use Rattle.replay.specs.Behind.{IsSoundWorld, KeepWorlds, AreTaken, IsTakenAgain}

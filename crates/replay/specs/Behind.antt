@@ -9,7 +9,7 @@ use Rattle.image_laws.specs.Fitting.{Fits}
 use Rattle.image_laws.specs.Images.{IsImageOf}
 use Rattle.rule_model.specs.declared.life.LifeTable.{LifeTable}
 use Rattle.rule_model.specs.declared.program.Program.{Program}
-use Rattle.rule_lives.specs.Keeping.{AreLives}
+use Rattle.life_meaning.specs.Tables.{AreLives}
 use Rattle.rule_world.specs.Lawful.{IsLawful}
 use Rattle.rule_world.specs.Programs.{IsRunnable}
 use Rattle.rule_world.specs.Worlds.{World}

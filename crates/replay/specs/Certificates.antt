@@ -8,7 +8,7 @@ use Rattle.temporal_net.specs.Networks.{total}
 use Rattle.rule_model.specs.declared.condition.Condition.{Condition}
 use Rattle.rule_model.specs.declared.program.Program.{Program}
 use Rattle.rule_model.specs.declared.program.Rule.{Rule}
-use Rattle.rule_lives.specs.Reach.{Limit, finite, infinite}
+use Rattle.life_meaning.specs.Reach.{Limit, finite, infinite}
 use Rattle.script_run.specs.Texts.{quoted_byte, rule_name}
 use Rattle.life_proof.specs.declared.part.Part.{Part}
 use Rattle.life_proof.specs.declared.part.Proof.{Proof}

@@ -3,7 +3,7 @@ use Rattle.std.specs.Prelude.{◌≡◌, ◌⊎◌, ℕ, List, Option}
 use Rattle.fx_io.specs.Outside.{AppendsFront}
 use Rattle.rule_model.specs.declared.life.LifeTable.{LifeTable}
 use Rattle.rule_model.specs.declared.program.Program.{Program}
-use Rattle.rule_lives.specs.Keeping.{AreLives}
+use Rattle.life_meaning.specs.Tables.{AreLives}
 use Rattle.life_proof.specs.declared.part.Proof.{Proof}
 use Rattle.life_proof.specs.Good.{IsGood}
 use Rattle.replay.specs.Certificates.{proof_text}

@@ -3,7 +3,7 @@ use Rattle.std.specs.Prelude.{◌≡◌, ◌⊎◌, ◌<◌, ◌≤◌, ◌+◌,
 use Rattle.fx_io.specs.Outside.{append, AppendsFront}
 use Rattle.fx_io.specs.Lines.{lines_of}
 use Rattle.rule_model.specs.declared.life.LifeTable.{LifeTable}
-use Rattle.rule_lives.specs.Keeping.{AreLives}
+use Rattle.life_meaning.specs.Tables.{AreLives}
 use Rattle.gen_load.specs.Script.{script_text}
 use Rattle.script_run.specs.declared.run_fault.RunFault.{RunFault}
 use Rattle.script_run.specs.declared.run_fault.RunFault.TheVariants.{ReadFault, WriteFault, NoMemory, ScriptLong}

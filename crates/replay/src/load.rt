@@ -3,7 +3,7 @@ ghost use Rattle.std.specs.Prelude.{◌≡◌, ◌⊎◌, ◌<◌, ◌≤◌, �
 ghost use Rattle.fx_io.specs.Outside.{Rose, append, AppendsFront};
 ghost use Rattle.fx_io.specs.Lines.{lines_of};
 ghost use Rattle.command_words.specs.declared.asking.Asked.TheVariants.{Load};
-ghost use Rattle.rule_lives.specs.Keeping.{AreLives, IsSafeTable};
+ghost use Rattle.life_meaning.specs.Tables.{AreLives, IsSafeTable};
 ghost use Rattle.rule_model.specs.declared.life.LifeTable.{LifeTable as TableOfLives};
 ghost use Rattle.rule_world.specs.Programs.{IsRunnable};
 ghost use Rattle.script_run.specs.Run.{setting_of, whole_run};

@@ -1,7 +1,7 @@
 //! What is done with an accepted rule file where no script is run.
 ghost use Rattle.std.specs.Prelude.{◌≡◌, ◌⊎◌, ◌≤◌, ◌++◌, codes, OnOk, IfOk};
 ghost use Rattle.fx_io.specs.Outside.{Rose, append, AppendsFront};
-ghost use Rattle.rule_lives.specs.Keeping.{AreLives};
+ghost use Rattle.life_meaning.specs.Tables.{AreLives};
 ghost use Rattle.rule_model.specs.declared.life.LifeTable.{LifeTable as TableOfLives};
 ghost use Rattle.rule_world.specs.Programs.{IsRunnable};
 ghost use Rattle.replay.specs.Notices.{accepted_text, life_text, lives_text};

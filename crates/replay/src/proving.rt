@@ -2,7 +2,7 @@
 ghost use Rattle.std.specs.Prelude.{◌≡◌, ◌⊎◌, ◌≤◌, ◌++◌, slice_get, OnOk, IfOk};
 ghost use Rattle.std.specs.List.{flat_map};
 ghost use Rattle.fx_io.specs.Outside.{Rose, append};
-ghost use Rattle.rule_lives.specs.Keeping.{AreLives};
+ghost use Rattle.life_meaning.specs.Tables.{AreLives};
 ghost use Rattle.rule_model.specs.declared.life.LifeTable.{LifeTable as TableOfLives};
 ghost use Rattle.rule_world.specs.Programs.{IsRunnable};
 ghost use Rattle.life_edges.specs.Tails.{limit_of};

@@ -1,7 +1,7 @@
 //! A run over a program, from its beginning.
 ghost use Rattle.std.specs.Prelude.{◌≡◌, ◌≤◌, ◌^◌, List, Option, ℕ, Some, IfOk, OnOk, IsErrOf};
 ghost use Rattle.command_words.specs.declared.asking.Asked.TheVariants.{RuleFile};
-ghost use Rattle.rule_lives.specs.Keeping.{AreLives, IsSafeTable};
+ghost use Rattle.life_meaning.specs.Tables.{AreLives, IsSafeTable};
 ghost use Rattle.rule_model.specs.declared.life.LifeTable.{LifeTable as TableOfLives};
 ghost use Rattle.rule_world.specs.Programs.{IsRunnable};
 ghost use Rattle.rule_world.specs.Worlds.{World};

@@ -5,7 +5,7 @@ ghost use Rattle.checkpoint.specs.Bytes.{image_bytes, IsImage};
 ghost use Rattle.checkpoint.specs.declared.image.Image.{Image as ImageData};
 ghost use Rattle.command_words.specs.declared.asking.Asked.TheVariants.{RuleFile};
 ghost use Rattle.image_laws.specs.Images.{IsImageOf};
-ghost use Rattle.rule_lives.specs.Keeping.{AreLives, IsSafeTable};
+ghost use Rattle.life_meaning.specs.Tables.{AreLives, IsSafeTable};
 ghost use Rattle.rule_model.specs.declared.life.LifeTable.{LifeTable as TableOfLives};
 ghost use Rattle.rule_world.specs.Programs.{IsRunnable};
 ghost use Rattle.rule_world.specs.Worlds.{World};

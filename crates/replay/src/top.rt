@@ -5,7 +5,7 @@ ghost use Rattle.command_words.specs.declared.asking.Asked.TheVariants.{RuleFile
 ghost use Rattle.command_words.specs.declared.asking.Asked.{Asked as AskedFor};
 ghost use Rattle.command_words.specs.Asked.{asked_by, IsWithinBounds};
 ghost use Rattle.rule_model.specs.declared.life.LifeTable.{LifeTable as LifeTableData};
-ghost use Rattle.rule_lives.specs.Keeping.{AreLives};
+ghost use Rattle.life_meaning.specs.Tables.{AreLives};
 ghost use Rattle.rule_world.specs.Programs.{IsRunnable};
 ghost use Rattle.replay.specs.Behind.{GoesOn, IsRefusedOn, IsTakenAgain, IsUnread, KeepWorlds};
 ghost use Rattle.replay.specs.Beginnings.{CanBegin, IsBeginningFor, RunsIn};

@@ -3,8 +3,8 @@ use Rattle.rule_change.proofs.Common.{◌≡◌, ℕ, zero, suc, Bool, true, fal
 use Rattle.rule_change.proofs.Common.{option_and_then, length, slice_get, get-below, slice_get_within, is_event_type, expiry_in, Program, TypeInfo, carried}
 use Rattle.rule_change.proofs.Common.{carried_life, life_or, IsLonger, is_longer, AreOver, some_is}
 use Rattle.fx_base.proofs.Orders.{int_lt-false}
-use Rattle.rule_lives.proofs.Safe.{safe_life}
-use Rattle.rule_lives.specs.Keeping.{AreLives, IsLifeOf, IsSafeLife, IsSafeTable}
+use Rattle.life_meaning.proofs.Safe.{safe_life}
+use Rattle.life_meaning.specs.Tables.{AreLives, IsLifeOf, IsSafeLife, IsSafeTable}
 use Rattle.rule_model.specs.Lives.{AreShort, IsShortLife}
 use Rattle.rule_model.specs.Types.{is_event, expiry_of}
 use Rattle.rule_model.specs.declared.life.Life.{Life}

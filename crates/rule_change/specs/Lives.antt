@@ -4,7 +4,7 @@ use Rattle.rule_model.specs.declared.life.LifeTable.{LifeTable}
 use Rattle.rule_model.specs.declared.program.Program.{Program}
 use Rattle.rule_model.specs.Lives.{AreShort}
 use Rattle.rule_world.specs.Worlds.{World}
-use Rattle.rule_lives.specs.Keeping.{AreLives, IsSafeTable}
+use Rattle.life_meaning.specs.Tables.{AreLives, IsSafeTable}
 use Rattle.rule_change.specs.Changed.{carried}
 use Rattle.rule_change.specs.Refused.{IsVerdict}
 use Rattle.rule_change.specs.Alike.{AreOver}

@@ -8,7 +8,7 @@ use Rattle.rule_lives.proofs.Flagged.{Steady}
 use Rattle.rule_lives.proofs.Still.{Settled, Still, old, steady}
 use Rattle.rule_lives.proofs.Shifts.{Aged, Calm, aged, fixed}
 use Rattle.rule_lives.proofs.Transfers.{AllAged}
-use Rattle.rule_lives.proofs.Limits.{Limits, times_of, HasBound, solves_of}
+use Rattle.life_meaning.proofs.Limits.{Limits, times_of, HasBound, solves_of}
 
 -- condition i has an event with the times z that is past its life of n at c
 pub record Anchor (p : Program) (c n : ℤ) (cs : List Condition) (i : Placed) (t : Tuple) (z : Times) : Type 0 where

@@ -9,13 +9,15 @@ pub use Rattle.fx_base.specs.Lists.{In}
 pub use Rattle.fx_base.specs.declared.fact.Fact.{Fact}
 pub use Rattle.fx_base.specs.declared.times.Times.{Times}
 pub use Rattle.fx_base.specs.declared.value.Value.{Value}
-pub use Rattle.rule_lives.specs.Keeping.{AreSafe, IsKept, endless, living, plain, unexpired, EndlessAreSafe, IsLifeOf, IsSafeLife, KeptBefore, LivesAreSafe}
-pub use Rattle.rule_lives.specs.Keeping.{MatchNamesKept, TupleMeetsKept, TupleNamesKept, named}
+pub use Rattle.life_meaning.specs.Tables.{AreSafe, IsKept, endless, living, plain, unexpired, EndlessAreSafe, IsLifeOf, IsSafeLife, LivesAreSafe}
+pub use Rattle.rule_lives.specs.Keeping.{KeptBefore}
+pub use Rattle.life_meaning.specs.Tables.{named}
+pub use Rattle.rule_lives.specs.Keeping.{MatchNamesKept, TupleMeetsKept, TupleNamesKept}
 pub use Rattle.rule_lives.specs.Law.{Made, IsFlagged, KeepsTuple, OfPrefix, OfRule}
-pub use Rattle.rule_lives.specs.Lifetimes.{IsLife, scope, Adds, LivesFor, of_event, of_fact, tail, tail_by}
-pub use Rattle.rule_lives.specs.Networks.{bindings, MeetsTests, Occurrence, SolvesConditions, aside, bound, is_test_met, occurrence}
+pub use Rattle.life_meaning.specs.Lifetimes.{IsLife, scope, Adds, LivesFor, of_event, of_fact, tail, tail_by}
+pub use Rattle.life_meaning.specs.Networks.{bindings, MeetsTests, Occurrence, SolvesConditions, aside, bound, is_test_met, occurrence}
 pub use Rattle.rule_model.specs.Rows.{binds, pattern_of, Makes, HaveOperators, result_of, rows}
-pub use Rattle.rule_lives.specs.Reach.{finite, Placed, infinite, SolvesWith, Below, Limit, distance, occurrence_of}
+pub use Rattle.life_meaning.specs.Reach.{finite, Placed, infinite, SolvesWith, Below, Limit, distance, occurrence_of}
 pub use Rattle.rule_model.proofs.Listed.{in_left, in_map, in_right, listed_row, of_map, row_listed}
 pub use Rattle.rule_model.proofs.Order.{passed, in_filter}
 pub use Rattle.rule_model.proofs.RuleOf.{in_place, has_in, rule_of}

@@ -7,7 +7,7 @@ use Rattle.rule_lives.proofs.Common.{AreSafe, IsKept, plain, unexpired, endless,
 use Rattle.std.proofs.lemmas.Bool.{and_from, eq-eqb}
 use Rattle.rule_model.specs.declared.life.Life.TheVariants as lives
 use Rattle.rule_world.specs.Worlds.{moved}
-use Rattle.rule_lives.proofs.Safe.{plain_unlisted}
+use Rattle.life_meaning.proofs.Safe.{plain_unlisted}
 use Rattle.rule_lives.proofs.Shifts.{of_counted}
 use Rattle.rule_lives.proofs.Moves.{clock_on}
 use Rattle.rule_lives.proofs.Laws.{of_rule, of_prefix}

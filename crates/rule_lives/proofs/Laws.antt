@@ -8,7 +8,7 @@ use Rattle.rule_lives.proofs.Common.{OfPrefix}
 use Rattle.std.proofs.lemmas.Bool.{and_from, eq-eqb}
 use Rattle.rule_lives.proofs.Shifts.{of_counted, Timed, timed_in}
 use Rattle.rule_lives.proofs.Transfers.{Turns, turned, transfer}
-use Rattle.rule_lives.proofs.Limits.{Limits, limits_of, lives_below, times_or, times_of, HasBound}
+use Rattle.life_meaning.proofs.Limits.{Limits, limits_of, lives_below, times_or, times_of, HasBound}
 use Rattle.rule_lives.proofs.Anchors.{Anchor, aged_at, all_aged}
 use Rattle.rule_lives.proofs.Places.{Stands, stands_at, standing}
 use Rattle.rule_lives.proofs.Flagged.{steady_of, quiet_of}

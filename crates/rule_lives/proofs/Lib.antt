@@ -4,7 +4,6 @@ pub mod Flagged
 pub mod Still
 pub mod Shifts
 pub mod Transfers
-pub mod Limits
 pub mod Anchors
 pub mod Places
 pub mod Moves
@@ -12,4 +11,3 @@ pub mod Laws
 pub mod Keeps
 pub mod Matched
 pub mod Remains
-pub mod Safe

@@ -7,7 +7,7 @@ use Rattle.std.proofs.lemmas.Bool.{and_from, and_parts, eq-eqb, eqb-true}
 use Rattle.std.proofs.Math.Bool.{or-true}
 use Rattle.std.specs.Int.{int_max}
 use Rattle.rule_model.specs.Candidates.{is_present}
-use Rattle.rule_lives.specs.Lifetimes.{tail}
+use Rattle.life_meaning.specs.Lifetimes.{tail}
 use Rattle.rule_lives.proofs.Flagged.{Steady}
 use Rattle.fx_base.proofs.Orders.{int_lt-true}
 

@@ -17,8 +17,8 @@ use Rattle.rule_model.specs.Tuples.{Tuple, empty_tuple}
 use Rattle.rule_model.specs.Types.{is_event, is_reference, is_observed}
 use Rattle.rule_world.specs.Worlds.{World, snapshot, moved, step_fault}
 use Rattle.rule_world.specs.Lawful.{IsLawful}
-use Rattle.rule_lives.specs.Reach.{finite}
-use Rattle.rule_lives.specs.Lifetimes.{IsLife}
+use Rattle.life_meaning.specs.Reach.{finite}
+use Rattle.life_meaning.specs.Lifetimes.{IsLife}
 
 -- ---- what comes and goes
 

@@ -1,6 +1,3 @@
 pub use Rattle.fx_base.specs.Lists
-pub mod Networks
-pub mod Reach
-pub mod Lifetimes
 pub mod Law
 pub mod Keeping

@@ -1,7 +1,7 @@
 ghost use Rattle.std.specs.Prelude.{◌≡◌, ◌+◌, ◌<◌, ◌≤◌, ◌^◌, [], length, List, ℕ, true, IfOk, IfSome, OnErr, IsErrOf};
 ghost use Rattle.fx_io.specs.Outside.{Rose, append, AppendsFront, count_after};
 ghost use Rattle.fx_io.specs.Lines.{lines_of};
-ghost use Rattle.rule_lives.specs.Keeping.{IsSafeTable};
+ghost use Rattle.life_meaning.specs.Tables.{IsSafeTable};
 ghost use Rattle.rule_world.specs.Programs.{IsRunnable};
 ghost use Rattle.rule_world.specs.Worlds.{World};
 ghost use Rattle.line_run.specs.Prompt.{heard, whole_lines, IsPromptRun};

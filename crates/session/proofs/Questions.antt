@@ -17,7 +17,7 @@ use Rattle.rule_model.proofs.Order.{Same, same_length}
 use Rattle.rule_model.proofs.RuleOf.{in_has, has_in}
 use Rattle.rule_model.proofs.Sorted.{sorted_once, sorted_same, tag_total}
 use Rattle.rule_world.specs.Worlds.{pending}
-use Rattle.keeping.specs.Kept.{is_kept, kept_facts}
+use Rattle.kept_meaning.specs.Kept.{is_kept, kept_facts}
 use Rattle.engine.specs.WorldCounts.{count_of_type, kept_counts, floors, pending_count, world_counts}
 use Rattle.engine.specs.KeptFacts.{kept_by_tag}
 use Rattle.engine.specs.declared.world_counts.WorldCounts.{WorldCounts}

@@ -8,7 +8,7 @@ use Rattle.rule_model.specs.declared.matched.Match.{Match}
 use Rattle.rule_model.specs.Matches.{has_match}
 use Rattle.rule_model.specs.Tuples.{name_of}
 use Rattle.rule_world.specs.Worlds.{World, pending}
-use Rattle.rule_lives.specs.Keeping.{IsKept}
+use Rattle.life_meaning.specs.Tables.{IsKept}
 use Rattle.session_laws.specs.Standing.{Runs}
 use Rattle.session.specs.declared.session.Session.{Session}
 use Rattle.session.specs.Sessions.{SessionStands}

@@ -2,7 +2,7 @@ ghost use Rattle.std.specs.Prelude.{◌≡◌, ℕ, List, map as list_map, IfOk,
 ghost use Rattle.std.specs.List.Sorted.{IsStrictlySortedBy};
 ghost use Rattle.fact_store.specs.Held.{facts_of};
 ghost use Rattle.fx_base.specs.declared.fact.Fact.{Fact as FactData};
-ghost use Rattle.rule_lives.specs.Keeping.{IsSafeTable};
+ghost use Rattle.life_meaning.specs.Tables.{IsSafeTable};
 ghost use Rattle.rule_world.specs.Lawful.{IsLawful};
 ghost use Rattle.rule_world.specs.Programs.{IsRunnable};
 ghost use Rattle.rule_world.specs.Worlds.{World};

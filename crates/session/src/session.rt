@@ -41,7 +41,7 @@ pub struct Session {
 }
 
 impl Session {
-    ghost use Rattle.rule_lives.specs.Keeping.{IsSafeTable};
+    ghost use Rattle.life_meaning.specs.Tables.{IsSafeTable};
     ghost use Rattle.rule_world.specs.Programs.{IsRunnable};
     ghost use Rattle.rule_world.specs.Worlds.{World, empty_world};
     ghost use Rattle.engine.specs.Answers.{FiringAnswers};

@@ -64,11 +64,12 @@ pub use Rattle.image_laws.specs.Images.{snapshot_of, match_fired, IsImageOf, has
 pub use Rattle.rule_model.specs.Distinct.{tag_cmp, HaveDistinctTags, HaveDistinctIds}
 pub use Rattle.laden_rows.specs.Laden.{AreOwners, IsKeptOf, extra_at, laden_gives, laden_line, laden_with}
 pub use Rattle.join_tests.specs.Joins.{joins, Look}
-pub use Rattle.keeping.proofs.Decided.{kept_listed, kept_inside}
-pub use Rattle.keeping.proofs.Staying.{not_alive, lost_event, there_same}
-pub use Rattle.keeping.proofs.Versions.{forgotten_fact, lost, tags_behind}
+pub use Rattle.kept_meaning.proofs.Decided.{kept_listed, kept_inside}
+pub use Rattle.keeping.proofs.Staying.{there_same}
+pub use Rattle.kept_meaning.proofs.Decided.{not_alive, lost_event}
+pub use Rattle.kept_meaning.proofs.Versions.{forgotten_fact, lost, tags_behind}
 pub use Rattle.keeping.proofs.Windows.{in_no_window}
-pub use Rattle.keeping.specs.Kept.{is_forgotten, is_alive, kept_facts}
+pub use Rattle.kept_meaning.specs.Kept.{is_forgotten, is_alive, kept_facts}
 pub use Rattle.keeping.specs.Steps.{IsLawfulStep, RowComes}
 pub use Rattle.pair_memory.specs.Joined.{has_name, joined}
 pub use Rattle.pair_memory.specs.Standing.{clean, cleaned, either, no_names}
@@ -93,7 +94,7 @@ pub use Rattle.row_delta.specs.declared.extra.Extra.{Extra}
 pub use Rattle.row_delta.specs.declared.row.Named.{Named}
 pub use Rattle.row_delta.specs.declared.row.Row.{Row}
 pub use Rattle.rule_lives.proofs.Flagged.{flagged}
-pub use Rattle.rule_lives.specs.Keeping.{IsKept, AreSafe}
+pub use Rattle.life_meaning.specs.Tables.{IsKept, AreSafe}
 pub use Rattle.rule_model.proofs.Exact.{fire_exact, match_exact, match_parts}
 pub use Rattle.rule_model.proofs.Firsts.{or_split, first_in, first_alike}
 pub use Rattle.rule_model.proofs.Floors.{floor_on}

@@ -9,7 +9,7 @@ use Rattle.session_laws.proofs.Common.{any_alike, clean_is, at_filter, fact_in, 
 use Rattle.std.proofs.lemmas.Bool.{and_from}
 use Rattle.std.specs.Prelude.{◌≤◌, slice_get}
 use Rattle.std.specs.FinMap as map_of
-use Rattle.keeping.specs.Kept.{is_kept as is_kept_in}
+use Rattle.kept_meaning.specs.Kept.{is_kept as is_kept_in}
 use Rattle.laden_rows.proofs.Rows.{laden_rows}
 use Rattle.retention.specs.Watching.{without}
 use Rattle.retention.proofs.Calls.{same_watched}

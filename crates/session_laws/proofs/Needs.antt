@@ -15,7 +15,7 @@ use Rattle.rule_model.specs.declared.condition.Condition.TheVariants.{Plain}
 use Rattle.rule_world.specs.Worlds.{stepped}
 use Rattle.rule_model.specs.Rows.{binds}
 use Rattle.condition_rows.proofs.Holding.{version_of as version_named}
-use Rattle.keeping.specs.Kept.{is_kept}
+use Rattle.kept_meaning.specs.Kept.{is_kept}
 use Rattle.keeping.proofs.Coming.{row_meets_kept}
 use Rattle.session_laws.proofs.Leads.{leads_move}
 use Rattle.session_laws.proofs.Needing.{stored_present, distinct_here, of_world, world_rows, world_candidates}

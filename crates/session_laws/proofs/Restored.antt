@@ -16,7 +16,7 @@ use Rattle.std.specs.List.Sorted.{IsStrictlySortedBy}
 use Rattle.fact_store.proofs.Members.{tags_rise as held_rise}
 use Rattle.rule_world.specs.Events.{most_millis}
 use Rattle.condition_rows.specs.Sets.{held}
-use Rattle.keeping.specs.Kept.{is_kept}
+use Rattle.kept_meaning.specs.Kept.{is_kept}
 use Rattle.session_laws.proofs.Kept_parts.{holds_kept_parts, image_holds, store_is}
 use Rattle.session_laws.proofs.Forgotten.{same_version}
 use Rattle.session_laws.proofs.Members.{Holds, all_listed, listed, own_tags, version_found, versions}

@@ -16,7 +16,7 @@ use Rattle.rule_model.specs.Simple.{is_observed_in}
 use Rattle.rule_world.specs.Worlds.{step_fault, stepped, moved}
 use Rattle.rule_world.proofs.Vain.{vain_retraction}
 use Rattle.pattern_gate.proofs.Arriving.{is_other}
-use Rattle.keeping.specs.Kept.{is_kept}
+use Rattle.kept_meaning.specs.Kept.{is_kept}
 use Rattle.rete_net.proofs.Unmissed.{net_less, clean_rows_less}
 use Rattle.session_laws.proofs.Exactly.{Exact, exact, after_without}
 use Rattle.session_laws.proofs.Members.{Holds, held_distinct, is_out, not_out, of_remove}

@@ -12,7 +12,7 @@ use Rattle.std.specs.FinMap as map_of
 use Rattle.std.proofs.lemmas.Map.Made.{length-from_same_keys}
 use Rattle.fact_store.specs.Ids.{AreIds}
 use Rattle.fact_store.proofs.Counting.{nat_equiv}
-use Rattle.keeping.specs.Kept.{is_kept}
+use Rattle.kept_meaning.specs.Kept.{is_kept}
 use Rattle.engine.specs.Counts.{HasEach}
 use Rattle.session_laws.specs.Counts.{held_counts}
 use Rattle.session_laws.proofs.Members.{Holds}

@@ -8,7 +8,7 @@ use Rattle.fact_store.specs.Held.{HeldFacts, CountsType}
 use Rattle.rule_model.specs.declared.life.LifeTable.{LifeTable}
 use Rattle.rule_model.specs.declared.program.Program.{Program}
 use Rattle.rule_world.specs.Worlds.{World}
-use Rattle.keeping.specs.Kept.{kept_facts}
+use Rattle.kept_meaning.specs.Kept.{kept_facts}
 
 -- ---- of a world
 

@@ -13,7 +13,7 @@ use Rattle.rule_world.specs.Lawful.{IsLawful}
 use Rattle.rule_world.specs.Programs.{IsRunnable}
 use Rattle.rule_world.specs.Events.{end_of_presence}
 use Rattle.rule_world.specs.Worlds.{World, snapshot, only_present}
-use Rattle.rule_lives.specs.Keeping.{IsSafeTable}
+use Rattle.life_meaning.specs.Tables.{IsSafeTable}
 use Rattle.agenda.specs.Agendas.{Marks}
 use Rattle.pair_memory.specs.Standing.{clean}
 use Rattle.rete_net.specs.declared.net.Rete.{Rete}

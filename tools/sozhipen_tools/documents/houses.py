@@ -3,7 +3,6 @@
     tools/run documents.houses                what goes the wrong way, or that nothing does
     tools/run documents.houses --above CRATE  the crates that stand on a crate, with their lines of proofs
 
-    tools/run documents.houses --above CRATE  what stands on a crate, with the lines of its proofs
 The status is 0 where all holds, and 1 otherwise.
 """
 

@@ -7,7 +7,7 @@ from dataclasses import dataclass, field
 from typing import Optional, Union
 
 from ..reference.images.laden import LadenWorld
-from ..reference.images.resume import resumed
+from ..reference.images.resume import image_in, resumed_from
 from ..reference.meaning.answers import fire_line
 from ..reference.meaning.firings import planned
 from ..reference.meaning.program import Program
@@ -77,7 +77,7 @@ def command_or_none(line: bytes) -> Optional[Command]:
 def begun(program: Program, image: bytes) -> Run:
     """The run that goes on from an image; Refused where it cannot. Without forgotten events that still count it is one
     over the facts of the image alone."""
-    run = resumed(image, program, LIMIT)
+    run = resumed_from(image_in(image), program, LIMIT)
     w = run.world
     if isinstance(w, LadenWorld) and not w.extras:
         run.world = World(w.program, w.facts, w.clock, w.last_starts, w.promises, w.next_id, w.next_tag, w.fired,

@@ -1,15 +1,14 @@
 """Holds runs whose rules are changed against what the definition says of them, on random rule files and scripts.
 
-    tools/run reference.comparers.changes [--seeds A B] [--desk PROGRAM] [--folder FOLDER] [--keep-going]
-        [--seconds N]
+    tools/run reference.comparers.changes [--seeds A B] [--folder FOLDER] [--keep-going] [--seconds N] [PROGRAM]
 
-A seed has a rule file, others that are made of it one after the other, and the lines that are run under each. Three
-answer them. The definition keeps every event: its world is that of all lines so far, whose matches are found anew
-behind each line by every condition and every fact, and other rules make of it what images/changes.py says. The
-evaluator goes on from images: under each file it has the bytes of the image that the run before it left, and nothing
-else. With --desk a program does the same, on files. All that they print, their statuses, and the images that they leave
-have to be the same, also where no line is between two images; where rules are refused, the run goes on under those of
-before. Every other seed is answered in lines of text, the others in objects.
+A seed has a rule file, others that are made of it one after the other, and the lines that are run under each; sometimes
+events are kept for rules that come later. Three answer them. The definition keeps every event: its world is that of all
+lines so far, whose matches are found anew behind each line by every condition and every fact, and other rules make of
+it what change_definition.py says. The evaluator goes on from images: under each file it has the bytes of the image that
+the run before it left, and nothing else. PROGRAM, a program `desk`, does the same, on files. All that they print, their
+statuses, and the images that they leave have to be the same, also where no line is between two images; where rules are
+refused, the run goes on under those of before. Every other seed is answered in lines of text, the others in objects.
 
 Of rules that stay, the definition has to print the firings that a run of the old rules prints under the same lines,
 line by line, and in the same order where these rules stand in the same order. That is asked where it has to be so:
@@ -28,22 +27,23 @@ import sys
 import tempfile
 from collections import Counter
 from dataclasses import dataclass, replace
-from functools import cached_property
 from itertools import zip_longest
-from typing import Any, Callable, Iterator, Optional
+from typing import Any, Callable, Container, Iterator, Optional
 
 from ...words import Parser
 from ..desk import desk_at_start
-from ..generators.random_changes import FIRE, LIMIT, Part, accepted, changes_of
-from ..images.changes import changed, new_rules, refusal, rules_that_stay, told
+from ..generators.random_changes import FIRE, LIMIT, Part, accepted, changes_of, first_program, world_under
+from ..images.changes import new_rules, refusal, rules_that_stay
 from ..images.image import decode
 from ..images.resume import Refused, saved
 from ..images.show import show
-from ..meaning.answers import Answer as Said, Fired, LimitOfLine, object_of, text_of
+from ..meaning.answers import Answer as Said, Fired, LimitOfLine, RuleChanged, object_of, text_of
 from ..meaning.desk import Desk
-from ..meaning.program import DEFAULT, Program
-from ..meaning.trees import Folded, LengthWindow, Negated, Rule, Source, TimeWindow
-from ..meaning.worlds import Fact, Match, Row, World, is_mature, is_present, longer_rows, passes, test_holds
+from ..meaning.keeping import lives_of
+from ..meaning.program import Program
+from ..meaning.trees import Folded
+from ..meaning.worlds import World
+from .change_definition import HistoryWorld, begun_for, changed_by, first_longer, told_by, verdict
 from .compare import absolute
 from .desk import Answer, difference, ran, read_file
 
@@ -52,35 +52,6 @@ Answers = Callable[[list[Part], bool], Iterator[Answer]]
 
 
 # ---- what the definition says
-
-
-def in_window(source: Source, facts: list[Fact], clock: int) -> list[Fact]:
-    if isinstance(source.window, TimeWindow):
-        return [f for f in facts if clock - f.start < source.window.length]
-    return facts[-source.window.count:] if isinstance(source.window, LengthWindow) else facts
-
-
-def rows_anew(rule: Rule, w: World) -> list[Row]:
-    """The rows of a rule: each condition by all facts, for each row before it."""
-    found = [Row((), {})]
-    for c in rule.conditions:
-        source = c.source
-        fit = [f for f in w.facts if (f.type, f.entry) == (source.type, source.entry or DEFAULT) and is_present(f, w)
-               and all(test_holds(test, f, {}) for test in source.constant_tests)]
-        among = in_window(source, fit, w.clock)
-        made = [(row, longer_rows(c, [f for f in among if passes(source, f, row)], row)) for row in found]
-        found = [longer for row, rows in made for longer in rows
-                 if not isinstance(c, Negated) or is_mature(source, row, w)]
-    return found
-
-
-@dataclass(frozen=True, eq=False)
-class HistoryWorld(World):
-    """A world that keeps all events and takes nothing over from the world before it."""
-
-    @cached_property
-    def matches(self) -> list[Match]:
-        return [Match(k, row) for k, rule in enumerate(self.program.rules) for row in rows_anew(rule, self)]
 
 
 @dataclass
@@ -123,19 +94,47 @@ def are_others(old: Program, new: Program) -> bool:
     return show(old.written) != show(new.written)
 
 
+def kept_rules(part: Part) -> Optional[Program]:
+    return None if part.keep is None else accepted(part.keep)
+
+
+@dataclass(frozen=True)
+class Change:
+    """What the definition makes of a world under the rules of a part: why it is refused, or the world, and what is told
+    of its rules."""
+    world: World
+    code: Optional[str] = None
+    told: tuple[RuleChanged, ...] = ()
+
+
+def change_of(w: World, part: Part) -> Change:
+    """By the rules first, then by those for which events are to be kept."""
+    old, new, keep = w.program, accepted(part.rules), kept_rules(part)
+    other, told = w, list[RuleChanged]()
+    if are_others(old, new):
+        if code := verdict(w, new):
+            return Change(w, code)
+        other, told = changed_by(w, new), told_by(old, new)
+    if keep is not None and (name := first_longer(lives_of(other.program), keep)):
+        return Change(w, f"Longer {name}")
+    return Change(other, None, tuple(told))
+
+
+def first_world(part: Part) -> HistoryWorld:
+    return HistoryWorld(begun_for(accepted(part.rules), kept_rules(part)))
+
+
 def by_definition(parts: list[Part], as_text: bool) -> Iterator[Answer]:
     """One answer for each part; before it another one where its rules are refused, and its lines run under those of
     before."""
-    state: Desk = told_over(HistoryWorld(accepted(parts[0].rules)), as_text)
+    state: Desk = told_over(first_world(parts[0]), as_text)
     for part in parts:
-        old, new = state.world.program, accepted(part.rules)
+        change = change_of(state.world, part)
         state.lines.clear()
-        if are_others(old, new):
-            if code := refusal(state.world, new):
-                yield refused(code, saved(state))
-            else:
-                state.world = changed(state.world, new)
-                state.tell(state.number, *told(old, new))
+        if change.code is not None:
+            yield refused(change.code, saved(state))
+        state.world = change.world
+        state.tell(state.number, *change.told)
         yield answer_of(under(state, part.lines))
 
 
@@ -147,7 +146,7 @@ def by_images(parts: list[Part], as_text: bool) -> Iterator[Answer]:
     image: Optional[bytes] = None
     for part in parts:
         try:
-            state = desk_at_start(accepted(part.rules), LIMIT, as_text, image, lambda run: None)
+            state = desk_at_start(accepted(part.rules), LIMIT, as_text, image, lambda run: None, kept_rules(part))
             program = accepted(part.rules)
         except Refused as code:
             yield refused(str(code), image)
@@ -159,13 +158,15 @@ def by_images(parts: list[Part], as_text: bool) -> Iterator[Answer]:
 
 def by_program(command: list[str], folder: str, seconds: float) -> Answers:
     def answers(parts: list[Part], as_text: bool) -> Iterator[Answer]:
-        image, rules = os.path.join(folder, "image"), os.path.join(folder, "rules.drl")
-        words = command + ["--limit", str(LIMIT), *["--text"] * as_text, "--image", "image", "rules.drl"]
+        image = os.path.join(folder, "image")
+        words = command + ["--limit", str(LIMIT), *["--text"] * as_text, "--image", "image"]
         last = parts[0].rules
         for part in parts:
-            for file in (part.rules, last):
-                write_file(rules, file)
-                output, status = ran(words, b"".join(line + b"\n" for line in part.lines), folder, False, seconds)
+            for file, keep in ((part.rules, part.keep), (last, None)):
+                write_file(os.path.join(folder, "rules.drl"), file)
+                write_file(os.path.join(folder, "keep.drl"), keep or b"")
+                asked = words + ([] if keep is None else ["--keep", "keep.drl"]) + ["rules.drl"]
+                output, status = ran(asked, b"".join(line + b"\n" for line in part.lines), folder, False, seconds)
                 yield Answer(output, status, read_file(image) if os.path.exists(image) else None)
                 if status != 9:
                     last = file
@@ -207,7 +208,8 @@ def members_of(line: bytes) -> dict[str, Any]:
 
 def is_of(program: Program, members: dict[str, Any]) -> bool:
     """A line names no type or entry point that is not the program's."""
-    named = (members.get("type"), program.types), (members.get("entry"), program.latenesses)
+    named: list[tuple[Any, Container[str]]] = [(members.get("type"), program.types),
+                                               (members.get("entry"), program.latenesses)]
     return all(name in known for name, known in named if isinstance(name, str))
 
 
@@ -223,12 +225,12 @@ def firings_of(state: Told, places: dict[int, int]) -> list[tuple[int, tuple]]:
             if isinstance(said, Fired) and said.match.rule in places]
 
 
-def stayed_difference(state: Desk, new: Program, lines: tuple[bytes, ...], counts: Counter[str]) -> Optional[str]:
-    """What is wrong with the firings of the rules that stay, behind a run under the old rules; nothing where a limit of
-    firings was met."""
-    old, world = state.world.program, state.world
+def stayed_difference(state: Desk, other: World, lines: tuple[bytes, ...], counts: Counter[str]) -> Optional[str]:
+    """What is wrong with the firings of the rules that stay in a world under other rules, behind a run under the old
+    ones; nothing where a limit of firings was met."""
+    old, new = state.world.program, other.program
     stay = rules_that_stay(old, new)
-    both = [told_over(w, number=state.number) for w in (world, changed(world, new))]
+    both = [told_over(w, number=state.number) for w in (state.world, other)]
     for line in lines_for_both(old, lines):
         for run in both:
             under(run, (line,))
@@ -246,15 +248,14 @@ def stayed_difference(state: Desk, new: Program, lines: tuple[bytes, ...], count
 
 def stays(parts: list[Part], counts: Counter[str]) -> Optional[str]:
     """What is wrong with the firings of rules that stay, at some change."""
-    state = told_over(HistoryWorld(accepted(parts[0].rules)))
+    state = told_over(first_world(parts[0]))
     for part in parts:
-        old, new = state.world.program, accepted(part.rules)
-        if are_others(old, new) and refusal(state.world, new) is None:
-            if have_to_print_the_same(old, new):
-                counts["compared with the old run"] += 1
-                if said := stayed_difference(state, new, part.lines, counts):
-                    return said
-            state.world = changed(state.world, new)
+        new, change = accepted(part.rules), change_of(state.world, part)
+        if change.told and have_to_print_the_same(state.world.program, new):
+            counts["compared with the old run"] += 1
+            if said := stayed_difference(state, change.world, part.lines, counts):
+                return said
+        state.world = change.world
         under(state, part.lines)
     return None
 
@@ -273,32 +274,38 @@ def compared(parts: list[Part], as_text: bool, answers: Answers) -> Optional[str
 
 
 def count(parts: list[Part], counts: Counter[str]) -> None:
-    """What is to be seen at the changes."""
-    state: Desk = told_over(World(accepted(parts[0].rules)))
-    for part in parts:
+    """What is to be seen at the beginnings of runs."""
+    state: Desk = told_over(World(first_program(parts[0])))
+    for k, part in enumerate(parts):
         old, new = state.world.program, accepted(part.rules)
-        if are_others(old, new):
-            code = refusal(state.world, new)
-            counts[code.split(" ")[0] if code else "changed"] += 1
+        code, world = refusal(state.world, new), world_under(state.world, part)
+        counts["events kept for rules to come"] += part.keep is not None
+        if k and code is None and world is state.world:
+            counts["refused for the rules to come"] += 1
+        elif are_others(old, new):
+            counts[f"refused {code.split(' ')[0]}" if code else "changed"] += 1
             if code is None:
-                count_change(state, new, counts)
-                state.world = changed(state.world, new)
+                count_change(state, world, counts)
+        elif k:
+            counts["other comments or none"] += 1
+        state.world = world
         under(state, part.lines)
     counts["firings"] += state.firings
 
 
-def count_change(state: Desk, new: Program, counts: Counter[str]) -> None:
-    old, stay = state.world.program, rules_that_stay(state.world.program, new)
+def count_change(state: Desk, other: World, counts: Counter[str]) -> None:
+    old, new = state.world.program, other.program
+    stay = rules_that_stay(old, new)
     counts["rules that stay"] += len(stay)
     counts["new rules"] += len(new.rules) - len(stay)
     counts["gone rules"] += len(old.rules) - len(stay)
-    other = changed(state.world, new)
     counts["marks of new rules"] += sum(key[0] not in stay.values() for key in other.fired)
     counts["pending matches"] += sum(m.key not in other.fired for m in other.matches)
-    extras = decode(saved(replace(state, world=other))).extras
-    counts["rows that count forgotten events"] += len(extras)
+    image = decode(saved(replace(state, world=other)))
+    counts["images with lives"] += image.lives is not None
+    counts["rows that count forgotten events"] += len(image.extras)
     counts["of these in an accumulate"] += sum(
-        isinstance(new.rules[e.rule].conditions[e.condition], Folded) for e in extras)
+        isinstance(new.rules[e.rule].conditions[e.condition], Folded) for e in image.extras)
 
 
 def keep(folder: str, seed: int, parts: list[Part]) -> str:
@@ -307,6 +314,8 @@ def keep(folder: str, seed: int, parts: list[Part]) -> str:
     os.makedirs(place, exist_ok=True)
     for k, part in enumerate(parts, 1):
         write_file(os.path.join(place, f"rules{k}.drl"), part.rules)
+        if part.keep is not None:
+            write_file(os.path.join(place, f"keep{k}.drl"), part.keep)
         write_file(os.path.join(place, f"lines{k}.jsonl"), b"".join(line + b"\n" for line in part.lines))
     return place
 
@@ -326,12 +335,13 @@ def first_difference(parts: list[Part], as_text: bool, counts: Counter, desk: Op
 def main() -> int:
     parser = Parser(description="Holds runs whose rules are changed against what the definition says of them.")
     parser.add_argument("--seeds", type=int, nargs=2, default=(0, 100), metavar=("A", "B"), help="from A up to B - 1")
-    parser.add_argument("--desk", help="a program `desk`, a command, which has to answer the same")
+    parser.add_argument("program", nargs="?", metavar="PROGRAM",
+                        help="a program `desk`, a command, which has to answer the same")
     parser.add_argument("--folder", default="reference-failures", help="where the files of failing seeds are left")
     parser.add_argument("--keep-going", action="store_true", help="do not stop at the first difference")
     parser.add_argument("--seconds", type=float, default=60.0, help="the time that a run of the program may take")
     asked = parser.parse_args()
-    counts, desk = Counter[str](), absolute(asked.desk) if asked.desk else None
+    counts, desk = Counter[str](), absolute(asked.program) if asked.program else None
     for seed in range(*asked.seeds):
         parts = changes_of(seed)
         said = first_difference(parts, seed % 2 == 0, counts, desk, asked.seconds)

@@ -2,6 +2,8 @@
 
 Rules go, move, are edited, get other variables, and come; types and entry points come and move. Seldom a type or an
 entry point becomes another one, which is refused. What rules have pending is mostly fired before other rules come.
+Often events are kept for rules that come later, and sometimes the first rules come back, or the same ones under other
+comments.
 """
 
 from __future__ import annotations
@@ -13,11 +15,12 @@ from itertools import count
 from random import Random
 from typing import Any, Callable, Optional, Union
 
-from ..images.changes import changed, refusal
+from ..images.changes import changed, kept_for, longer_types, refusal
 from ..images.image import RunPart
 from ..images.saving import image_of
 from ..images.show import item, show
 from ..meaning.desk import Desk
+from ..meaning.keeping import lives_of
 from ..meaning.program import Program, TypeInfo, observed_types, salience_of
 from ..meaning.reader import Refused, read_file
 from ..meaning.run import program_or_refusal
@@ -39,6 +42,7 @@ LIMIT = 12
 MOST_FACTS = 60
 MOST_MATCHES = 250
 MOST_TRIES = 12
+GREAT = 50
 NUMBERS = ["0", "1", "2", "5", "8", "20", "100"]
 # The items of a file with a change, where there is one.
 Change = Callable[[], Optional[list[Body]]]
@@ -46,9 +50,11 @@ Change = Callable[[], Optional[list[Body]]]
 
 @dataclass(frozen=True)
 class Part:
-    """A rule file, and the lines that are run under it."""
+    """A rule file, the lines that are run under it, and the file of the rules for which events are kept, where one is
+    named."""
     rules: bytes
     lines: tuple[bytes, ...]
+    keep: Optional[bytes] = None
 
 
 @lru_cache(maxsize=64)
@@ -65,6 +71,10 @@ def text_of(bodies: list[Body]) -> bytes:
 
 def int_fields(info: TypeInfo) -> list[str]:
     return [name for name, kind in info.fields.items() if kind == INT]
+
+
+def is_great(token: str) -> bool:
+    return token.isdigit() and int(token) >= GREAT
 
 
 class FileChanger:
@@ -97,9 +107,9 @@ class FileChanger:
 
     def changes(self) -> list[Change]:
         common: list[Change] = [
-            self.without_rule, self.without_rule, self.with_rules_moved, self.with_rule_edited, self.with_rule,
-            self.with_small_rule, self.with_small_rule, self.with_small_rule, self.with_other_variables, self.with_twin,
-            self.with_type, self.with_all_moved, self.with_entry]
+            self.without_rule, self.without_rule, self.without_rules, self.with_other_bound, self.with_rules_moved,
+            self.with_rule_edited, self.with_rule, self.with_small_rule, self.with_small_rule, self.with_small_rule,
+            self.with_other_variables, self.with_twin, self.with_type, self.with_all_moved, self.with_entry]
         seldom: list[Change] = [self.with_other_type, self.without_type, self.with_other_lateness]
         return common * 6 + seldom if self.chance(0.5) else common
 
@@ -126,6 +136,24 @@ class FileChanger:
     def without_rule(self) -> Optional[list[Body]]:
         rules = self.places(Rule)
         return self.with_body(self.rng.choice(rules)) if len(rules) > 1 else None
+
+    def without_rules(self) -> Optional[list[Body]]:
+        """All but one or two rules are gone."""
+        rules = self.places(Rule)
+        left = self.rng.sample(rules, min(len(rules), self.rng.choice([1, 2])))
+        return [body for k, body in enumerate(self.bodies) if k not in rules or k in left] if len(rules) > 2 else None
+
+    def with_other_bound(self) -> Optional[list[Body]]:
+        """The greatest number of a rule is another one: mostly that of the rule that gives a type its life."""
+        long = [k for k in self.places(Rule) if any(is_great(token) for token in item(self.bodies[k]))]
+        if not long:
+            return None
+        k = self.rng.choice(long)
+        tokens = item(self.bodies[k])
+        great = max((token for token in tokens if is_great(token)), key=int)
+        bound = str(self.rng.randrange(1, 2 * int(great)))
+        other = self.read([bound if token == great else token for token in tokens])
+        return None if other is None else self.with_body(k, other)
 
     def with_rules_moved(self) -> list[Body]:
         places = self.places(Rule)
@@ -331,12 +359,32 @@ def cut_of(rng: Random, program: Program, lines: list[bytes]) -> int:
     return max(places, key=lambda k: counts.get(k, 0))
 
 
+def first_program(part: Part) -> Program:
+    """That of a desk without an image."""
+    program = accepted(part.rules)
+    return program if part.keep is None else kept_for(program, accepted(part.keep))
+
+
+def keep_refusal(w: World, part: Part) -> Optional[str]:
+    """Why a desk does not go on in a world whose events are to be kept for other rules, None where it does."""
+    longer = [] if part.keep is None else longer_types(lives_of(w.program), accepted(part.keep))
+    return f"Longer {longer[0]}" if longer else None
+
+
+def world_under(w: World, part: Part) -> World:
+    """The world under the rules of a part, the same one where these are refused."""
+    new = accepted(part.rules)
+    if refusal(w, new) is not None:
+        return w
+    other = changed(w, new)
+    return w if keep_refusal(other, part) else other
+
+
 def is_small(parts: list[Part]) -> bool:
     """The world stays so small under these rules that its matches can be found anew behind each line."""
-    state = Desk(World(accepted(parts[0].rules)), LIMIT, LIMIT, [])
+    state = Desk(World(first_program(parts[0])), LIMIT, LIMIT, [])
     for part in parts:
-        if refusal(state.world, accepted(part.rules)) is None:
-            state.world = changed(state.world, accepted(part.rules))
+        state.world = world_under(state.world, part)
         for line in part.lines:
             state.line(0, line)
             if len(state.world.facts) > MOST_FACTS or len(state.world.matches) > MOST_MATCHES:
@@ -352,17 +400,40 @@ def changes_of(seed: int) -> list[Part]:
 
 def parts_of(rng: Random) -> list[Part]:
     program, lines = base_case(rng)
-    cuts = [cut_of(rng, program, lines)]
-    cuts += [rng.randint(cuts[0], len(lines))] if rng.random() < 0.3 else []
+    first, cuts = program, [cut_of(rng, program, lines)]
+    cuts += [rng.randint(cuts[0], len(lines))] if rng.random() < 0.4 else []
     parts: list[Part] = []
-    for first, end in zip([0, *cuts], [*cuts, len(lines)]):
+    for begin, end in zip([0, *cuts], [*cuts, len(lines)]):
         if parts:
-            changer = FileChanger(rng, program)
-            changer.change(rng.choice([1, 1, 2, 3, 4]))
+            changer = FileChanger(rng, first if len(parts) > 1 and rng.random() < 0.4 else program)
+            changer.change(rng.choice([0, 1, 1, 1, 2, 3, 4]))
             program = changer.program
-            parts += [Part(text_of(changer.bodies), ())] if rng.random() < 0.5 else []
-        under = lines_under(rng, program, lines[first:end])
-        if end < len(lines) and rng.random() < 0.7:
+            parts += [Part(text_of(changer.bodies), ())] if rng.random() < 0.4 else []
+        under = lines_under(rng, program, lines[begin:end])
+        if end < len(lines) and rng.random() < 0.5:
             under += [FIRE] * 3
-        parts.append(Part(show(program.written), tuple(under)))
-    return parts
+        parts.append(Part(commented(rng, show(program.written)), tuple(under)))
+    return with_keep(rng, program, parts)
+
+
+def commented(rng: Random, rules: bytes) -> bytes:
+    """Sometimes under a comment."""
+    return b"// version %d\n%s" % (rng.randrange(10), rules) if rng.random() < 0.2 else rules
+
+
+def with_keep(rng: Random, program: Program, parts: list[Part]) -> list[Part]:
+    """Often events are kept for the rules of a part until these come, or for such as never come; seldom one part alone
+    asks for that, which is mostly too late."""
+    k = rng.randrange(1, len(parts))
+    there = range(k) if rng.random() < 0.5 else range(k, k + 1) if rng.random() < 0.4 else range(0)
+    rules = parts[k].rules if len(there) == k and rng.random() < 0.7 else other_rules(rng, program)
+    return [replace(part, keep=rules) if place in there else part for place, part in enumerate(parts)]
+
+
+def other_rules(rng: Random, program: Program) -> bytes:
+    """Of a file that is some steps away, with types that may be others."""
+    changer = FileChanger(rng, program)
+    changer.change(2)
+    for _ in range(2):
+        changer.takes(changer.with_other_bound())
+    return text_of(changer.bodies)

@@ -58,7 +58,8 @@ def is_same_type(info: TypeInfo, other: Optional[TypeInfo]) -> bool:
 
 
 def longer_types(lives: Lives, new: Program) -> list[str]:
-    """Types of which events were forgotten that the new rules need."""
+    """Types whose events the new rules need for longer than these lives keep them, in the order of their file. Of types
+    that have no life here nothing is forgotten that they need."""
     return [name for name, life in inferred_lives(new).items() if life > lives.get(name, INFINITE)]
 
 
@@ -84,6 +85,16 @@ def refusal(w: World, new: Program) -> Optional[str]:
     if forgotten := forgotten_types(lives, old, new):
         return f"Forgotten {forgotten[0]}"
     return None
+
+
+# ---- lives that are longer than a run needs
+
+
+def kept_for(program: Program, keep: Program) -> Program:
+    """The program, a run of which keeps events for as long as other rules need those of the types of the same names."""
+    needs = inferred_lives(keep)
+    return replace(program, lives={name: max(life, needs.get(name, 0))
+                                   for name, life in inferred_lives(program).items()})
 
 
 # ---- the world behind the change

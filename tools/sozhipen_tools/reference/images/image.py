@@ -5,10 +5,10 @@ with a sign in two's complement; a truth value is a byte 0 or 1; a list is its l
 text is the list of its bytes, in UTF-8; a value is a byte 0, 1 or 2 for a whole number, a truth value or a text, and
 its content. Nothing follows.
 
-Where an image says by which lives its run forgets, its bytes are `FXC2`, the same fields, and behind them the list of
-the lives of all types in the order of the rule file: a byte 0 for a plain type; a byte 1 and the milliseconds of its
-`@expires`, with a sign; a byte 2 and the milliseconds of a finite life, with a sign; a byte 3 for a life for ever. The
-run of an image without lives forgets by those of its rules.
+Where an image says by which lives its run forgets, `FXC2` and the list of the lives of all types, in the order of the
+rule file, stand in front of these bytes: a byte 0 for a plain type; a byte 1 and the milliseconds of its `@expires`,
+with a sign; a byte 2 and the milliseconds of a finite life, with a sign; a byte 3 for a life for ever. The run of an
+image without lives forgets by those of its rules.
 """
 
 from __future__ import annotations
@@ -165,14 +165,13 @@ def life_bytes(life: ImageLife) -> bytes:
 
 
 def encode(image: Image) -> bytes:
-    if image.lives is None:
-        return HEAD + field_bytes(image)
-    return HEAD_WITH_LIVES + field_bytes(image) + listed(life_bytes, image.lives)
+    front = b"" if image.lives is None else HEAD_WITH_LIVES + listed(life_bytes, image.lives)
+    return front + encoded_fields(image)
 
 
-def field_bytes(image: Image) -> bytes:
+def encoded_fields(image: Image) -> bytes:
     run = image.run
-    return (string(run.rules) + unsigned(run.lines) + unsigned(run.firings) + flag(run.faulty)
+    return (HEAD + string(run.rules) + unsigned(run.lines) + unsigned(run.firings) + flag(run.faulty)
             + signed(image.clock) + flag(image.begun) + listed(signed, image.last_starts)
             + listed(signed, image.promises) + unsigned(image.next_id) + unsigned(image.next_tag)
             + listed(fact_bytes, image.facts) + listed(lambda m: unsigned(m.rule, 2) + row_bytes(m.row), image.fired)
@@ -192,8 +191,13 @@ class ImageReader:
     def __init__(self, data: bytes):
         self.data, self.place = data, 0
 
+    @property
+    def left(self) -> int:
+        """How many bytes are left."""
+        return len(self.data) - self.place
+
     def bytes(self, count: int) -> bytes:
-        if count > len(self.data) - self.place:
+        if count > self.left:
             raise BadImage
         self.place += count
         return self.data[self.place - count:self.place]
@@ -213,7 +217,7 @@ class ImageReader:
     def listed(self, read: Callable[[], T]) -> tuple[T, ...]:
         """Each member has a byte at least, so a length beyond the bytes that are left is none."""
         count = self.unsigned()
-        if count > len(self.data) - self.place:
+        if count > self.left:
             raise BadImage
         return tuple(read() for _ in range(count))
 
@@ -255,21 +259,51 @@ class ImageReader:
             raise BadImage
         return ImageLife(sort, self.signed() if sort in (EXPLICIT, FINITE) else 0)
 
-    def says_lives(self) -> bool:
-        """What the first bytes tell of those behind the fields."""
-        head = self.bytes(len(HEAD))
-        if head not in (HEAD, HEAD_WITH_LIVES):
+    def front(self) -> Optional[tuple[ImageLife, ...]]:
+        """The lives in front of the fields, where there are some, and the head of the fields."""
+        lives, head = None, self.bytes(len(HEAD))
+        if head == HEAD_WITH_LIVES:
+            lives, head = self.listed(self.life), self.bytes(len(HEAD))
+        if head != HEAD:
             raise BadImage
-        return head == HEAD_WITH_LIVES
+        return lives
 
     def image(self) -> Image:
-        says_lives = self.says_lives()
+        lives = self.front()
         found = Image(self.run(), self.signed(), self.flag(), self.listed(self.signed), self.listed(self.signed),
                       self.unsigned(), self.unsigned(), self.listed(self.fact), self.listed(self.fired),
-                      self.listed(self.extra), self.listed(self.life) if says_lives else None)
-        if self.place < len(self.data):
+                      self.listed(self.extra), lives)
+        if self.left:
             raise BadImage
         return found
+
+
+class ImageFileReader(ImageReader):
+    """Takes values from the front of a file, of which it has nothing else in memory."""
+
+    def __init__(self, file: BinaryIO):
+        super().__init__(b"")
+        self.file = file
+        self.size = file.seek(0, os.SEEK_END)
+        file.seek(0)
+
+    @property
+    def left(self) -> int:
+        return self.size - self.place
+
+    def bytes(self, count: int) -> bytes:
+        self.skip(count)
+        return self.file.read(count)
+
+    def skip_string(self) -> None:
+        count = self.unsigned()
+        self.skip(count)
+        self.file.seek(count, os.SEEK_CUR)
+
+    def skip(self, count: int) -> None:
+        if count > self.left:
+            raise BadImage
+        self.place += count
 
 
 def decode(data: bytes) -> Image:
@@ -279,11 +313,14 @@ def decode(data: bytes) -> Image:
 
 def head_in(file: BinaryIO) -> Head:
     """The head of the image in a file, without a look at the rest; or BadImage."""
-    front = ImageReader(file.read(len(HEAD) + 8))
-    front.says_lives()
-    try:
-        file.seek(front.unsigned(), os.SEEK_CUR)
-    except (OSError, OverflowError):
-        raise BadImage from None
-    rest = ImageReader(file.read(25))
-    return Head(rest.unsigned(), rest.unsigned(), rest.flag(), rest.signed())
+    reader = ImageFileReader(file)
+    reader.front()
+    reader.skip_string()
+    return Head(reader.unsigned(), reader.unsigned(), reader.flag(), reader.signed())
+
+
+def rules_in(file: BinaryIO) -> bytes:
+    """The text of the rules of the image in a file, without a look at the rest; or BadImage."""
+    reader = ImageFileReader(file)
+    reader.front()
+    return reader.string()

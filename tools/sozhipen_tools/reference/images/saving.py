@@ -3,7 +3,7 @@
 from __future__ import annotations
 
 from dataclasses import replace
-from typing import Iterable
+from typing import Iterable, Optional
 
 from ..meaning.keeping import inferred_lives, kept_facts, lives_of
 from ..meaning.program import Lives, Program, TypeInfo
@@ -55,6 +55,14 @@ def image_life(info: TypeInfo, lives: Lives) -> ImageLife:
     return ImageLife(ENDLESS) if life == INFINITE else ImageLife(FINITE, int(life))
 
 
+def image_lives(program: Program) -> Optional[tuple[ImageLife, ...]]:
+    """Those by which a run of the program forgets, None where they are those of the rules."""
+    lives = lives_of(program)
+    if lives == inferred_lives(program):
+        return None
+    return tuple(image_life(info, lives) for info in program.types.values())
+
+
 def image_of(w: World, run: RunPart) -> Image:
     """The clock, the numbers, and what is kept: facts, marks of matches that name kept facts alone, and what rows of
     kept facts have beyond them; the lives, where they are not those of the rules. What several rules begin with stands
@@ -75,8 +83,7 @@ def image_of(w: World, run: RunPart) -> Image:
                  tuple(FiredMatch(k, ImageRow(tuple(Named(ids[tag], tag) for tag in tags), values))
                        for k, tags, values in fired),
                  tuple(extras),
-                 None if program.lives is None
-                 else tuple(image_life(info, program.lives) for info in program.types.values()))
+                 image_lives(program))
 
 
 def is_too_large(image: Image) -> bool:

@@ -10,10 +10,15 @@ unfolding clap_on_literals desk_app matched_by number_in_digits limit_written de
 returns c = record {
   text = refl;
   all = refl;
+  keep = refl;
+  keep_with_image = refl;
   objects = refl;
   help = refl;
   version = refl;
   no_rules = refl;
   zero = refl;
   two = refl;
+  keep_twice = refl;
+  keep_alone = refl;
+  keep_nothing = refl;
 }

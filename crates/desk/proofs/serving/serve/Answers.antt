@@ -1,24 +1,43 @@
-use Rattle.std.proofs.Common.{◌≡◌, ◌∙◌, Err, refl, ap, sym, subst, arith}
-use Rattle.drl_parse.specs.Parsed.{file_limit}
-use Rattle.replay.specs.declared.rule_file.Reading.TheVariants.{Accepted, Refused}
+use Rattle.std.proofs.Common.{◌∙◌, Err, ap, sym, subst, arith}
 use Rattle.replay.specs.Checkpoints.{checkpoint_text}
-use Rattle.replay.specs.Names.{names_read}
-use Rattle.replay.specs.Refusals.{IsRefusedReading, reading, refusal_text}
 use Rattle.desk.specs.Meanings.{both}
 use Rattle.desk.specs.Report.{IsPrompt, IsServed, IsStopped}
-use Rattle.desk.specs.Wanted.{Wanted, refuses, wanted_from}
-use Rattle.desk.proofs.Said.{said, unasked, unbegun}
-use Rattle.desk.proofs.Wanting.{accepted, begun, missing_file, read_file}
+use Rattle.desk.specs.Wanted.{Wanted}
+use Rattle.desk.proofs.Said.{said, unasked, unbegun, unruled}
+use Rattle.desk.proofs.Wanting.{begun, has_rules, image_refused, later_refused, refused_wanted}
 use Rattle.desk.proofs.serving.serve.Goals as goal
 
-pub returns-in-Err-Missing-clause-served : goal.returns-in-Err-Missing-clause-served
-returns-in-Err-Missing-clause-served g c files bytes told script =
-    let gone = rw c.as_str.ensures at (c.in-Err-Missing.ensures.missing (ap Err c.in-Err-Missing.field-0-is)) in
-    let before = g.K.Sink.written c.args.out.now in
-    let after = g.K.Sink.written c.refuse.new.out in
-    subst (λ (w : Wanted). IsServed (both g.E.Engine.gives g.E.Engine.fires g.E.Engine.counts g.D.Engine.gives g.D.Engine.fires g.D.Engine.counts) w bytes before after (g.K.Sink.files c.args.out.now) (g.K.Sink.files c.refuse.new.out) c.refuse.result)
-    (ap refuses c.whole_file.ensures ∙ sym (missing_file c.args.asked _ files told gone))
-    (said (refusal_text c.whole_file.result) 3 before after _ _ c.refuse.result c.refuse.ensures.files (λ three. (c.refuse.ensures.said (omega (arith, three))).0) c.refuse.ensures.front c.refuse.ensures.answers)
+pub returns-in-Err-clause-served : goal.returns-in-Err-clause-served
+returns-in-Err-clause-served g c files bytes told script =
+    unruled _ _ bytes _ _ _ _ c.refuse_rules.result c.in-Err.fault
+    (λ refusal is. refused_wanted c.args.asked files refusal (rw c.as_str.ensures at (c.in-Err.ensures.refused refusal (ap Err is) files told)))
+    c.refuse_rules.ensures.refused c.refuse_rules.ensures.silent
+
+pub returns-in-Err-later-clause-served : goal.returns-in-Err-later-clause-served
+returns-in-Err-later-clause-served g c files bytes told script =
+    let rules = c.in-Ok.rules in
+    let has = has_rules c.args.asked files rules (rw (c.as_str.ensures, told) at c.in-Ok.ensures.found)
+          (rw c.as_str.ensures at (c.in-Ok.ensures.accepted files told)) in
+    unruled _ _ bytes _ _ _ _ c.refuse_rules-in-Err-later.result c.in-Err-later.fault
+    (λ refusal is. later_refused c.args.asked files rules has refusal (c.in-Err-later.ensures.refused refusal (ap Err is) files (c.in-Ok.ensures.files ∙ told)))
+    c.refuse_rules-in-Err-later.ensures.refused c.refuse_rules-in-Err-later.ensures.silent
+
+pub returns-in-Err-Refused-clause-served : goal.returns-in-Err-Refused-clause-served
+returns-in-Err-Refused-clause-served g c files bytes told script =
+    let rules = c.in-Ok.rules in
+    let has = has_rules c.args.asked files rules (rw (c.as_str.ensures, told) at c.in-Ok.ensures.found)
+          (rw c.as_str.ensures at (c.in-Ok.ensures.accepted files told)) in
+    let before_later = c.in-Ok.ensures.files ∙ told in
+    let later = c.in-Ok-later.later in
+    let comes = c.in-Ok-later.ensures.later files before_later in
+    let before_start = c.in-Ok-later.ensures.files ∙ before_later in
+    let code = c.in-Err-Refused.code in
+    let start = rw (c.in-Err-Refused.field-0-is, c.lent.ensures) at (c.in-Err-Refused.ensures.refused files before_start) in
+    subst (λ (w : Wanted). IsServed (both g.E.Engine.gives g.E.Engine.fires g.E.Engine.counts g.D.Engine.gives g.D.Engine.fires g.D.Engine.counts) w bytes (g.K.Sink.written c.args.out.now) (g.K.Sink.written c.refuse_checkpoint.new.out)
+    (g.K.Sink.files c.args.out.now) (g.K.Sink.files c.refuse_checkpoint.new.out) c.refuse_checkpoint.result)
+    (sym (image_refused c.args.asked files rules has later code comes start))
+    (said (checkpoint_text code) 9 _ _ _ _ c.refuse_checkpoint.result c.refuse_checkpoint.ensures.files c.refuse_checkpoint.ensures.said
+    c.refuse_checkpoint.ensures.front c.refuse_checkpoint.ensures.answers)
 
 pub returns-in-Err-ReadFault-clause-served : goal.returns-in-Err-ReadFault-clause-served
 returns-in-Err-ReadFault-clause-served g c files bytes told script = unbegun _ _ bytes _ _ 5 (omega arith) (omega arith)
@@ -26,85 +45,60 @@ returns-in-Err-ReadFault-clause-served g c files bytes told script = unbegun _ _
 pub returns-in-Err-NoMemory-clause-served : goal.returns-in-Err-NoMemory-clause-served
 returns-in-Err-NoMemory-clause-served g c files bytes told script = unbegun _ _ bytes _ _ 7 (omega arith) (omega arith)
 
-pub returns-in-Err-NoMemory-start-clause-served : goal.returns-in-Err-NoMemory-start-clause-served
-returns-in-Err-NoMemory-start-clause-served g c files bytes told script = unbegun _ _ bytes _ _ 7 (omega arith) (omega arith)
-
-pub returns-in-Refused-clause-served : goal.returns-in-Refused-clause-served
-unfolding file_limit
-returns-in-Refused-clause-served g c files bytes told script =
-    let read = c.in-Ok.file.items in
-    let refusal = c.in-Refused.refusal in
-    let before = g.K.Sink.written c.args.out.now in
-    let after = g.K.Sink.written c.refuse-in-Refused.new.out in
-    let is : reading read ≡ Refused refusal = ap reading (sym c.deref.ensures.value) ∙ sym c.in-Ok-read_named_rules.ensures.reading ∙ c.in-Refused.is in
-    subst (λ (w : Wanted). IsServed (both g.E.Engine.gives g.E.Engine.fires g.E.Engine.counts g.D.Engine.gives g.D.Engine.fires g.D.Engine.counts) w bytes before after (g.K.Sink.files c.args.out.now) (g.K.Sink.files c.refuse-in-Refused.new.out) c.refuse-in-Refused.result)
-    (sym (read_file c.args.asked _ files read (Refused refusal) told (rw c.as_str.ensures at c.in-Ok.ensures.found) (rw c.as_str.ensures at c.in-Ok.ensures.bytes) is))
-    (said (refusal_text refusal) 3 before after _ _ c.refuse-in-Refused.result c.refuse-in-Refused.ensures.files (λ three. (c.refuse-in-Refused.ensures.said (omega (arith, three))).0) c.refuse-in-Refused.ensures.front c.refuse-in-Refused.ensures.answers)
-
-pub returns-in-Err-Refused-clause-served : goal.returns-in-Err-Refused-clause-served
-unfolding file_limit
-returns-in-Err-Refused-clause-served g c files bytes told script =
-    let asked = c.args.asked in
-    let read = c.in-Ok.file.items in
-    let p = c.in-Accepted.program in
-    let code = c.in-Err-Refused.code in
-    let before = g.K.Sink.written c.args.out.now in
-    let after = g.K.Sink.written c.refuse_checkpoint.new.out in
-    let is : reading read ≡ Accepted p = ap reading (sym c.deref.ensures.value) ∙ sym c.in-Ok-read_named_rules.ensures.reading ∙ c.in-Accepted.is in
-    let from = rw c.lent.ensures at (c.in-Err-Refused.ensures.refused code (ap Err c.in-Err-Refused.field-0-is) files (c.read_whole.ensures.files ∙ told)) in
-    subst (λ (w : Wanted). IsServed (both g.E.Engine.gives g.E.Engine.fires g.E.Engine.counts g.D.Engine.gives g.D.Engine.fires g.D.Engine.counts) w bytes before after (g.K.Sink.files c.args.out.now) (g.K.Sink.files c.refuse_checkpoint.new.out) c.refuse_checkpoint.result)
-    (sym (accepted asked _ files read c.in-Ok-read_named_rules.read.text.items c.in-Ok-read_named_rules.read.reading _ p told (rw c.as_str.ensures at c.in-Ok.ensures.found) (rw c.as_str.ensures at c.in-Ok.ensures.bytes) is
-    c.in-Accepted.is (c.in-Ok-read_named_rules.ensures.text refl) c.deref.ensures.value ∙ ap (wanted_from asked (names_read read) p) from))
-    (said (checkpoint_text code) 9 before after _ _ c.refuse_checkpoint.result c.refuse_checkpoint.ensures.files c.refuse_checkpoint.ensures.said c.refuse_checkpoint.ensures.front c.refuse_checkpoint.ensures.answers)
-
-pub run_by_form-requires-clause-prompt : goal.run_by_form-requires-clause-prompt
-unfolding file_limit
-run_by_form-requires-clause-prompt g c bytes now h =
-    let asked = c.args.asked in
-    let read = c.in-Ok.file.items in
-    let p = c.in-Accepted.program in
-    let is : reading read ≡ Accepted p = ap reading (sym c.deref.ensures.value) ∙ sym c.in-Ok-read_named_rules.ensures.reading ∙ c.in-Accepted.is in
-    c.requires.prompt bytes now (λ files told.
-    let from = rw c.lent.ensures at (c.in-Ok-start.ensures.found files (c.read_whole.ensures.files ∙ told)) in
-    subst (λ (w : Wanted). IsPrompt (both g.E.Engine.gives g.E.Engine.fires g.E.Engine.counts g.D.Engine.gives g.D.Engine.fires g.D.Engine.counts) w bytes (g.K.Sink.written c.args.out.now) (g.K.Sink.written now) (g.K.Sink.files c.args.out.now) (g.K.Sink.files now))
-    (sym (accepted asked _ files read c.in-Ok-read_named_rules.read.text.items c.in-Ok-read_named_rules.read.reading _ p told (rw c.as_str.ensures at c.in-Ok.ensures.found) (rw c.as_str.ensures at c.in-Ok.ensures.bytes) is
-    c.in-Accepted.is (c.in-Ok-read_named_rules.ensures.text refl) c.deref.ensures.value ∙ ap (wanted_from asked (names_read read) p) from
-    ∙ begun asked (names_read read) c.in-Ok-read_named_rules.read.names p c.in-Ok-start.beginning _ c.form_of.result refl c.form_of.ensures
-    (λ named. c.in-Ok-read_named_rules.ensures.names named (λ refused. subst IsRefusedReading c.in-Accepted.is refused) ∙ ap names_read c.deref.ensures.value))) h)
+pub run_from-requires-clause-prompt : goal.run_from-requires-clause-prompt
+run_from-requires-clause-prompt g c bytes now h = c.requires.prompt bytes now (λ files told.
+    let rules = c.in-Ok.rules in
+    let has = has_rules c.args.asked files rules (rw (c.as_str.ensures, told) at c.in-Ok.ensures.found)
+          (rw c.as_str.ensures at (c.in-Ok.ensures.accepted files told)) in
+    let before_later = c.in-Ok.ensures.files ∙ told in
+    let later = c.in-Ok-later.later in
+    let comes = c.in-Ok-later.ensures.later files before_later in
+    let before_start = c.in-Ok-later.ensures.files ∙ before_later in
+    let from = c.in-Ok-start.start in
+    let is = begun c.args.asked files rules has later from c.form_of.result comes
+          (rw c.lent.ensures at (c.in-Ok-start.ensures.found files before_start)) c.in-Ok-start.ensures.text c.form_of.ensures in
+    subst (λ (w : Wanted). IsPrompt (both g.E.Engine.gives g.E.Engine.fires g.E.Engine.counts g.D.Engine.gives g.D.Engine.fires g.D.Engine.counts) w bytes (g.K.Sink.written c.args.out.now) (g.K.Sink.written now)
+    (g.K.Sink.files c.args.out.now) (g.K.Sink.files now)) (sym is) h)
 
 pub returns-clause-served : goal.returns-clause-served
-unfolding file_limit
 returns-clause-served g c files bytes told script =
-    let asked = c.args.asked in
-    let read = c.in-Ok.file.items in
-    let p = c.in-Accepted.program in
-    let is : reading read ≡ Accepted p = ap reading (sym c.deref.ensures.value) ∙ sym c.in-Ok-read_named_rules.ensures.reading ∙ c.in-Accepted.is in
-    let from = rw c.lent.ensures at (c.in-Ok-start.ensures.found files (c.read_whole.ensures.files ∙ told)) in
-    let served = rw script at c.run_by_form.ensures.served in
-    subst (λ (w : Wanted). IsServed (both g.E.Engine.gives g.E.Engine.fires g.E.Engine.counts g.D.Engine.gives g.D.Engine.fires g.D.Engine.counts) w bytes (g.K.Sink.written c.args.out.now) (g.K.Sink.written c.run_by_form.new.out) (g.K.Sink.files c.args.out.now) (g.K.Sink.files c.run_by_form.new.out) c.run_by_form.result)
-    (sym (accepted asked _ files read c.in-Ok-read_named_rules.read.text.items c.in-Ok-read_named_rules.read.reading _ p told (rw c.as_str.ensures at c.in-Ok.ensures.found) (rw c.as_str.ensures at c.in-Ok.ensures.bytes) is
-    c.in-Accepted.is (c.in-Ok-read_named_rules.ensures.text refl) c.deref.ensures.value ∙ ap (wanted_from asked (names_read read) p) from
-    ∙ begun asked (names_read read) c.in-Ok-read_named_rules.read.names p c.in-Ok-start.beginning _ c.form_of.result refl c.form_of.ensures
-    (λ named. c.in-Ok-read_named_rules.ensures.names named (λ refused. subst IsRefusedReading c.in-Accepted.is refused) ∙ ap names_read c.deref.ensures.value))) served
+    let rules = c.in-Ok.rules in
+    let has = has_rules c.args.asked files rules (rw (c.as_str.ensures, told) at c.in-Ok.ensures.found)
+          (rw c.as_str.ensures at (c.in-Ok.ensures.accepted files told)) in
+    let before_later = c.in-Ok.ensures.files ∙ told in
+    let later = c.in-Ok-later.later in
+    let comes = c.in-Ok-later.ensures.later files before_later in
+    let before_start = c.in-Ok-later.ensures.files ∙ before_later in
+    let from = c.in-Ok-start.start in
+    let is = begun c.args.asked files rules has later from c.form_of.result comes
+          (rw c.lent.ensures at (c.in-Ok-start.ensures.found files before_start)) c.in-Ok-start.ensures.text c.form_of.ensures in
+    subst (λ (w : Wanted). IsServed (both g.E.Engine.gives g.E.Engine.fires g.E.Engine.counts g.D.Engine.gives g.D.Engine.fires g.D.Engine.counts) w bytes (g.K.Sink.written c.args.out.now) (g.K.Sink.written c.run_from.new.out)
+    (g.K.Sink.files c.args.out.now) (g.K.Sink.files c.run_from.new.out) c.run_from.result) (sym is) (rw script at c.run_from.ensures.served)
 
 pub returns-clause-stopped : goal.returns-clause-stopped
-unfolding file_limit
 returns-clause-stopped g c files bytes told script five =
-    let asked = c.args.asked in
-    let read = c.in-Ok.file.items in
-    let p = c.in-Accepted.program in
-    let is : reading read ≡ Accepted p = ap reading (sym c.deref.ensures.value) ∙ sym c.in-Ok-read_named_rules.ensures.reading ∙ c.in-Accepted.is in
-    let from = rw c.lent.ensures at (c.in-Ok-start.ensures.found files (c.read_whole.ensures.files ∙ told)) in
-    let stopped = rw script at (c.run_by_form.ensures.stopped five) in
-    subst (λ (w : Wanted). IsStopped (both g.E.Engine.gives g.E.Engine.fires g.E.Engine.counts g.D.Engine.gives g.D.Engine.fires g.D.Engine.counts) w bytes (g.S.Source.left c.run_by_form.new.script) (g.K.Sink.written c.args.out.now) (g.K.Sink.written c.run_by_form.new.out) (g.K.Sink.files c.args.out.now) (g.K.Sink.files c.run_by_form.new.out))
-    (sym (accepted asked _ files read c.in-Ok-read_named_rules.read.text.items c.in-Ok-read_named_rules.read.reading _ p told (rw c.as_str.ensures at c.in-Ok.ensures.found) (rw c.as_str.ensures at c.in-Ok.ensures.bytes) is
-    c.in-Accepted.is (c.in-Ok-read_named_rules.ensures.text refl) c.deref.ensures.value ∙ ap (wanted_from asked (names_read read) p) from
-    ∙ begun asked (names_read read) c.in-Ok-read_named_rules.read.names p c.in-Ok-start.beginning _ c.form_of.result refl c.form_of.ensures
-    (λ named. c.in-Ok-read_named_rules.ensures.names named (λ refused. subst IsRefusedReading c.in-Accepted.is refused) ∙ ap names_read c.deref.ensures.value))) stopped
+    let rules = c.in-Ok.rules in
+    let has = has_rules c.args.asked files rules (rw (c.as_str.ensures, told) at c.in-Ok.ensures.found)
+          (rw c.as_str.ensures at (c.in-Ok.ensures.accepted files told)) in
+    let before_later = c.in-Ok.ensures.files ∙ told in
+    let later = c.in-Ok-later.later in
+    let comes = c.in-Ok-later.ensures.later files before_later in
+    let before_start = c.in-Ok-later.ensures.files ∙ before_later in
+    let from = c.in-Ok-start.start in
+    let is = begun c.args.asked files rules has later from c.form_of.result comes
+          (rw c.lent.ensures at (c.in-Ok-start.ensures.found files before_start)) c.in-Ok-start.ensures.text c.form_of.ensures in
+    subst (λ (w : Wanted). IsStopped (both g.E.Engine.gives g.E.Engine.fires g.E.Engine.counts g.D.Engine.gives g.D.Engine.fires g.D.Engine.counts) w bytes (g.S.Source.left c.run_from.new.script) (g.K.Sink.written c.args.out.now)
+    (g.K.Sink.written c.run_from.new.out) (g.K.Sink.files c.args.out.now) (g.K.Sink.files c.run_from.new.out)) (sym is)
+    (rw script at (c.run_from.ensures.stopped five))
 
 -- a read failed before the run began
+pub returns-in-Err-clause-stopped : goal.returns-in-Err-clause-stopped
+returns-in-Err-clause-stopped g c files bytes told script five =
+    let q = c.refuse_rules.ensures.read five in rw (q.1, q.2) (unasked _ _ bytes _ _ _ script)
+
+pub returns-in-Err-later-clause-stopped : goal.returns-in-Err-later-clause-stopped
+returns-in-Err-later-clause-stopped g c files bytes told script five =
+    let q = c.refuse_rules-in-Err-later.ensures.read five in rw (q.1, q.2) (unasked _ _ bytes _ _ _ script)
+
 pub returns-in-Err-ReadFault-clause-stopped : goal.returns-in-Err-ReadFault-clause-stopped
 returns-in-Err-ReadFault-clause-stopped g c files bytes told script five = unasked _ _ bytes _ _ _ script
-
-pub returns-in-Err-ReadFault-start-clause-stopped : goal.returns-in-Err-ReadFault-start-clause-stopped
-returns-in-Err-ReadFault-start-clause-stopped g c files bytes told script five = unasked _ _ bytes _ _ _ script

@@ -1,5 +1,5 @@
 use Rattle.expiry_infer.proofs.Common.{◌≡◌, ℕ, Some, length, slice_get, Life}
-use Rattle.rule_lives.specs.Keeping.{IsLifeOf}
+use Rattle.life_meaning.specs.Tables.{IsLifeOf}
 use Rattle.rule_model.specs.Lives.{IsShortLife}
 use Rattle.expiry_infer.proofs.lifetimes.lives.Given as goal
 

@@ -1,0 +1,3 @@
+mod Common
+pub mod Decided
+pub mod Versions

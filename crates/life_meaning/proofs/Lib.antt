@@ -1,0 +1,3 @@
+mod Common
+pub mod Limits
+pub mod Safe

@@ -1,0 +1,5 @@
+pub use Rattle.fx_base.specs.Lists
+pub mod Networks
+pub mod Reach
+pub mod Lifetimes
+pub mod Tables
