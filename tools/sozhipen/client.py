@@ -61,6 +61,12 @@ class Client(Lines[Answer]):
         return self.reading.faults
 
     @property
+    def changes(self) -> list[tuple[str, str]]:
+        """Behind an image of other rules, what became of each rule: `stays`, `new` or `gone`, with its name. A desk
+        tells it before its first answer."""
+        return self.reading.changes
+
+    @property
     def facts(self) -> list[Fact]:
         """The facts that an answer may still name; of a `desk` those that came in this session. NotKnown of a desk
         whose rule file cannot be read here."""

@@ -64,6 +64,8 @@ class ObjectReading(Reading):
         told = object_in(text)
         if told is None:
             self.take_text(text)
+        elif "change" in told:
+            self.changes.append((told["change"], told["rule"]))
         elif self.pending and (answer := self.pending[0]):
             number = told.get("done", told.get("line"))
             word = next((word for word in TAKERS if word in told), None)

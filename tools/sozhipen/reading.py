@@ -26,6 +26,7 @@ class Reading:
         self.pending: deque[Optional[Answer]] = deque()
         self.faults: list[Fault] = []
         self.fired: Counter[str] = Counter()
+        self.changes: list[tuple[str, str]] = []
         self.said = ""
 
     # ---- lines, in the threads that write them

@@ -156,6 +156,15 @@ class OverDesk(Case):
         replay = self.session(ENDLESS, image=image)
         self.assertEqual((replay.fire(1).firings[0].facts[0]["ticks"], replay.lines, replay.close()), (5, 3, 0))
 
+    def test_an_image_of_other_rules(self) -> None:
+        image = self.folder / "image"
+        with self.desk(ENDLESS, image=image) as first:
+            first.insert("Clock", {"ticks": 4})
+            self.assertEqual(first.changes, [])
+        with self.desk(ENDLESS + 'rule "other" when Clock() then end\n', image=image) as second:
+            second.fire(1).wait()
+            self.assertEqual(second.changes, [("stays", "tick"), ("new", "other")])
+
     def test_what_is_killed_leaves_the_old_image(self) -> None:
         image = self.folder / "image"
         for kill, before in ((True, None), (False, None), (True, 1), (False, 1)):
