@@ -1,5 +1,5 @@
 -- A run by the lives by which it goes, from what is done by a table.
-use Rattle.std.proofs.Common.{◌≡◌, ◌⊎◌, inl, inr, ◌≤◌, ℕ, List, Option, None, Some, sym, subst}
+use Rattle.std.proofs.Common.{◌≡◌, ◌⊎◌, ◌≤◌, ℕ, List, Option, None, Some, sym, subst}
 use Rattle.std.specs.Prelude.{IfSome}
 use Rattle.fx_io.specs.Outside.{append, AppendsFront}
 use Rattle.replay.specs.Wanted.{Files}

@@ -1,5 +1,5 @@
 -- What becomes of a live run behind an image of other rules.
-use Rattle.std.proofs.Common.{◌≡◌, ◌⊎◌, inl, inr, ℕ, false, List, Option, Some, refl, subst}
+use Rattle.std.proofs.Common.{◌≡◌, inl, inr, ℕ, false, List, Option, Some, refl, subst}
 use Rattle.change_rules.specs.AsLong.{are_as_long}
 use Rattle.change_rules.specs.Staying.{place_in}
 use Rattle.checkpoint.specs.declared.image.Image.{Image}
@@ -14,7 +14,6 @@ use Rattle.rule_lines.specs.Told.{told_lines}
 use Rattle.life_meaning.specs.Tables.{AreLives}
 use Rattle.rule_model.specs.declared.life.LifeTable.{LifeTable}
 use Rattle.rule_world.specs.Worlds.{World}
-use Rattle.desk.specs.declared.wanted.Begun.{Begun}
 use Rattle.desk.specs.declared.wanted.Changing.{Changing}
 use Rattle.desk.specs.Changes.{Changed, HasNoGround, IsRefusedOver, IsUnfit, Known, begun_over, kept_by}
 use Rattle.desk.specs.Meanings.{is_text}

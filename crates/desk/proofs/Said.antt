@@ -1,6 +1,6 @@
 -- What is said where no run is wanted, or none begins.
 use Rattle.std.proofs.Common.{◌≡◌, ◌⊎◌, inl, inr, ◌≤◌, ℕ, List, Option, Some, refl, sym, subst, arith}
-use Rattle.fx_io.specs.Outside.{append, AppendsFront}
+use Rattle.fx_io.specs.Outside.{append, AppendsFront, Rose}
 use Rattle.line_run.proofs.Ahead.{append_nothing}
 use Rattle.replay.specs.Checkpoints.{checkpoint_text}
 use Rattle.replay.specs.Refusals.{refusal_text}
@@ -53,3 +53,10 @@ unruled engines w script before after files files' status ReadFault is told sile
     let q = silent (λ refusal e. absurd cc) in rw (q.2, q.3) (unbegun engines w script before files status q.0 q.1)
 unruled engines w script before after files files' status NoMemory is told silent =
     let q = silent (λ refusal e. absurd cc) in rw (q.2, q.3) (unbegun engines w script before files status q.0 q.1)
+
+-- ---- counts of faults
+
+-- they rose since a moment before
+pub rose_behind : (a b c d : ℕ) → a ≤ b → b ≤ c → Rose c d → Rose a d
+rose_behind a b c d first next (inl less) = inl (omega (arith, first, next, less))
+rose_behind a b c d first next (inr full) = inr full

@@ -1,5 +1,5 @@
 -- What is wanted, by the files that were read.
-use Rattle.std.proofs.Common.{◌≡◌, ◌≢◌, ◌+◌, ℕ, Bool, true, false, not, List, take, Option, Some, None, refl, sym, subst, ap, ap₂, ◌∙◌}
+use Rattle.std.proofs.Common.{◌≡◌, ◌≢◌, ◌+◌, ℕ, Bool, true, false, not, List, take, Option, Some, None, refl, sym, subst, ap, ◌∙◌}
 use Rattle.std.specs.Prelude.{IfSome}
 use Rattle.command_words.specs.declared.desk.DeskAsked.{DeskAsked}
 use Rattle.command_words.specs.declared.desk.DeskWords.TheVariants.{Run}
@@ -9,8 +9,6 @@ use Rattle.fx_io.specs.Outside.{IsMissing, IsOnShelf, file_told}
 use Rattle.replay.specs.declared.refusal.Refusal.{Refusal}
 use Rattle.replay.specs.declared.refusal.RefusalCode.TheVariants.{Missing}
 use Rattle.replay.specs.declared.refused_checkpoint.CheckpointCode.{CheckpointCode}
-use Rattle.replay.specs.declared.rule_file.Reading.{Reading}
-use Rattle.replay.specs.declared.rule_file.Reading.TheVariants.{Accepted, Refused}
 use Rattle.replay.specs.Checkpoints.{rules_shown}
 use Rattle.replay.specs.Names.{names_read}
 use Rattle.replay.specs.Refusals.{reading, whole_file}
@@ -25,7 +23,7 @@ use Rattle.desk.specs.declared.start.Start.TheVariants.{Begins, Changes}
 use Rattle.desk.specs.declared.wanted.Setting.{Setting}
 use Rattle.desk.specs.Rules.{AreAccepted, AreRefused, AreRefusedIn, coming_as}
 use Rattle.desk.specs.Starts.{HasText, start_as, wanted_as}
-use Rattle.desk.specs.Wanted.{Start, ToCome, Wanted, cannot_begin, cannot_come, come, coming, coming_in, form_of, over_old, none_come, refuses, refuses_image, setting_of}
+use Rattle.desk.specs.Wanted.{cannot_begin, cannot_come, come, coming, coming_in, form_of, over_old, refuses, refuses_image, setting_of}
 use Rattle.desk.specs.Wanted.{start, to_come, wanted_by, wanted_by_file, wanted_by_reading, wanted_from, wanted_with}
 
 -- ---- a rule file

@@ -1,5 +1,5 @@
 -- Live runs behind images of other rules.
-use Rattle.std.specs.Prelude.{◌≡◌, ◌⊎◌, ℕ, false, List, Option, Some, None}
+use Rattle.std.specs.Prelude.{◌≡◌, ◌⊎◌, ℕ, false, List, Option, Some}
 use Rattle.checkpoint.specs.declared.image.Image.{Image}
 use Rattle.image_laws.specs.Fitting.{Fits}
 use Rattle.image_making.specs.Change.{IsTakenOver, IsVerdictOf, IsWorldOf}

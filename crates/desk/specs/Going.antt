@@ -1,5 +1,5 @@
 -- By which lives a live run goes, which of them its images say, and why it does not begin.
-use Rattle.std.specs.Prelude.{◌≡◌, ◌≢◌, ◌⊎◌, ◌≤◌, ◌^◌, ◌++◌, [], ◌∷◌, ℕ, length, true, false, List, Option, Some, None, option_map, slice_get, codes}
+use Rattle.std.specs.Prelude.{◌≡◌, ◌≢◌, ◌⊎◌, ◌≤◌, ◌^◌, ◌++◌, [], ◌∷◌, ℕ, length, true, false, List, Option, Some, None, slice_get, codes}
 use Rattle.change_rules.specs.AsLong.{are_as_long}
 use Rattle.change_rules.specs.Longest.{longest}
 use Rattle.replay.specs.declared.beginning.Beginning.{Beginning}

@@ -112,15 +112,7 @@ fn over(
     let places = staying_rules(alloc, &old, &setting.program)?;
     let told = told_text(alloc, &setting.form, &old, &setting.program, &places)?;
     let by = Lives { kept, own: &needs };
-    match change(
-        alloc,
-        &old,
-        &setting.program,
-        &places,
-        &by,
-        rules,
-        image,
-    ) {
+    match change(alloc, &old, &setting.program, &places, &by, rules, image) {
         Ok(Ok((made, carried))) => {
             let begun = Begun {
                 setting,

@@ -73,14 +73,7 @@ pub(crate) fn run_by<E: Inspect, S: Source<K>, K: FileSink>(
     match run_lines(alloc, taker, at, LIVE_MAX, script, out, false) {
         Ok(Some((taker, at))) => {
             let engine = taker.lines.into_engine();
-            end::<E, K>(
-                alloc,
-                engine,
-                &told,
-                at.part(part, LIVE_MAX),
-                &image,
-                out,
-            )
+            end::<E, K>(alloc, engine, &told, at.part(part, LIVE_MAX), &image, out)
         }
         Ok(None) => 11,
         Err(StopFault::ReadFault) => 5,

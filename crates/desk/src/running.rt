@@ -7,7 +7,7 @@ ghost use Rattle.desk.specs.Changes.{Changed, begun_over};
 ghost use Rattle.desk.specs.Report.{IsChange, IsGoing, IsKeptOut, IsPromptRun, IsRun, IsSaid, IsStoppedRun};
 
 use crate::changing::{Outcome, change_over};
-use crate::going::{Bar, Going, find_going};
+use crate::going::{Bar, find_going};
 use crate::live::run_by;
 use crate::wanted::{Begun, Changing};
 use engine::Inspect;
@@ -17,12 +17,12 @@ use replay::{CheckpointCode, refuse_checkpoint};
 use std::alloc::Global;
 
 // Writes a line that refuses an image.
-fn refuse_by<K: Sink>(line: &[u8], out: &mut K) -> u8
-    ensures said { IsSaid line.now 9 (K.written out.old) (K.written out.new) (K.files out.old) (K.files out.new) result }
+fn refuse_by<K: Sink>(line: Vec<u8>, out: &mut K) -> u8
+    ensures said { IsSaid line.items 9 (K.written out.old) (K.written out.new) (K.files out.old) (K.files out.new) result }
     ensures answers { (result ≡ 9) ⊎ (result ≡ 6) }
     ensures write { result ≡ 6 → Rose (K.faults out.old) (K.faults out.new) }
 {
-    match write_all(out, line) {
+    match write_all(out, &line) {
         Ok(()) => 9,
         Err(_) => 6,
     }
@@ -50,8 +50,8 @@ pub(crate) fn run<E: Inspect, S: Source<K>, K: FileSink>(
     ensures write { result ≡ 6 → Rose (K.faults out.old) (K.faults out.new) }
 {
     match find_going(alloc, begun) {
-        Ok(Going { live, table }) => run_by::<E, S, K>(alloc, live, table, script, out),
-        Err(Bar::Line(line)) => refuse_by(&line, out),
+        Ok(going) => run_by::<E, S, K>(alloc, going.live, going.table, script, out),
+        Err(Bar::Line(line)) => refuse_by(line, out),
         Err(Bar::NoMemory) => 7,
     }
 }
@@ -60,32 +60,32 @@ pub(crate) fn run<E: Inspect, S: Source<K>, K: FileSink>(
 fn run_behind<E: Inspect, S: Source<K>, K: FileSink>(
     alloc: Global,
     begun: Begun,
-    lines: &[u8],
+    lines: Vec<u8>,
     script: &mut S,
     out: &mut K,
 ) -> u8
     requires runnable { IsRunnable begun.setting.program }
     requires later { IfSome begun.setting.later IsRunnable }
     requires prompt { (bytes : List ℕ) (now : K)
-        → IsPromptRun (record { gives = E.gives; fires = E.fires; counts = E.counts }) begun bytes (append (K.written out.old) lines.now) (K.written now) (K.files out.old) (K.files now)
+        → IsPromptRun (record { gives = E.gives; fires = E.fires; counts = E.counts }) begun bytes (append (K.written out.old) lines.items) (K.written now) (K.files out.old) (K.files now)
         → S.may_ask script.old bytes now }
     ensures served { IfSome (S.left script.old) (λ bytes.
-        IsGoing (record { gives = E.gives; fires = E.fires; counts = E.counts }) begun bytes (append (K.written out.old) lines.now) (K.written out.new) (K.files out.old) (K.files out.new) result
+        IsGoing (record { gives = E.gives; fires = E.fires; counts = E.counts }) begun bytes (append (K.written out.old) lines.items) (K.written out.new) (K.files out.old) (K.files out.new) result
         ⊎ IsKeptOut begun (K.written out.old) (K.written out.new) (K.files out.old) (K.files out.new) result
-        ⊎ ((5 ≤ result) × (result ≤ 7) × AppendsFront (K.written out.old) (K.written out.new) lines.now × (K.files out.new ≡ K.files out.old))) }
+        ⊎ ((5 ≤ result) × (result ≤ 7) × AppendsFront (K.written out.old) (K.written out.new) lines.items × (K.files out.new ≡ K.files out.old))) }
     ensures stopped { result ≡ 5 → IfSome (S.left script.old) (λ bytes. IsStoppedRun (record { gives = E.gives; fires = E.fires; counts = E.counts }) begun bytes (S.left script.new)
-        (append (K.written out.old) lines.now) (K.written out.new) (K.files out.old) (K.files out.new)) }
+        (append (K.written out.old) lines.items) (K.written out.new) (K.files out.old) (K.files out.new)) }
     ensures long { result ≡ 8 → IfSome (S.left script.old) (λ bytes. most_firings < length bytes) }
     ensures answers { (result ≤ 1) ⊎ ((5 ≤ result) × (result ≤ 9)) ⊎ (result ≡ 11) }
     ensures read { result ≡ 5 → Rose (S.faults script.old) (S.faults script.new) }
     ensures write { result ≡ 6 → Rose (K.faults out.old) (K.faults out.new) }
 {
     match find_going(alloc, begun) {
-        Ok(Going { live, table }) => match write_all(out, lines) {
-            Ok(()) => run_by::<E, S, K>(alloc, live, table, script, out),
+        Ok(going) => match write_all(out, &lines) {
+            Ok(()) => run_by::<E, S, K>(alloc, going.live, going.table, script, out),
             Err(_) => 6,
         },
-        Err(Bar::Line(line)) => refuse_by(&line, out),
+        Err(Bar::Line(line)) => refuse_by(line, out),
         Err(Bar::NoMemory) => 7,
     }
 }
@@ -115,9 +115,9 @@ pub(crate) fn run_over<E: Inspect, S: Source<K>, K: FileSink>(
 {
     match change_over(alloc, changing) {
         Ok(Outcome::Taken(begun, lines)) => {
-            run_behind::<E, S, K>(alloc, begun, &lines, script, out)
+            run_behind::<E, S, K>(alloc, begun, lines, script, out)
         }
-        Ok(Outcome::Refused(line)) => refuse_by(&line, out),
+        Ok(Outcome::Refused(line)) => refuse_by(line, out),
         Ok(Outcome::Unfit) => refuse_checkpoint(alloc, out, CheckpointCode::Unfit),
         Err(_) => 7,
     }

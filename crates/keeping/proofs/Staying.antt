@@ -16,6 +16,7 @@ use Rattle.rule_model.specs.declared.step.Step.TheVariants.{Insert, Modify, Retr
 use Rattle.rule_world.proofs.Fresh.{revise}
 use Rattle.rule_lives.proofs.Laws.{observed_of}
 use Rattle.rule_lives.proofs.Moves.{plain_there, retracted_is_not_observed, clock_on}
+use Rattle.kept_meaning.proofs.Decided.{lost_event, not_alive}
 use Rattle.kept_meaning.proofs.Versions.{lost, tags_behind}
 use Rattle.fx_base.proofs.Tests.{or_first_false, same_test}
 
@@ -126,7 +127,7 @@ module _ (p : Program) (table : LifeTable) (w : World) (are : AreSafe p table) w
     same_by (Some Infinite) at e = absurd (let n : true ≡ false = e in cc)
 
     pub lost_same : is_kept p table w f ≡ false → is_candidate p (pattern_of c) o f ≡ is_candidate p (pattern_of c) (snapshot w) f
-    lost_same e = same_by (slice_get table.lives f.ty.0) refl (not_alive f e)
+    lost_same e = same_by (slice_get table.lives f.ty.0) refl (not_alive p table w are f e)
 
 -- ---- over a step
 

@@ -1,4 +1,4 @@
-use Rattle.std.proofs.Common.{◌≡◌, inl, inr, refl, sym, ℕ}
+use Rattle.std.proofs.Common.{inl, inr, refl, sym, ℕ}
 use Rattle.image_fitting.specs.Plain.{FitsPlainly}
 use Rattle.laden_rows.specs.Laden.{AreOwners}
 use Rattle.desk.specs.Changes.{HasGround, HasNoGround}

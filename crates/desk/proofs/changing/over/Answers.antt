@@ -18,5 +18,5 @@ returns-in-Ok-Err c =
     let code = c.in-Ok-Err.code in
     let refused = refused_so ch c.args.own.now c.args.kept.now c.requires.own c.requires.kept needs c.in_ok-places.places.items c.in_ok-needs.ensures.lives in
     let verdict = subst (λ (places : List (Option ℕ)). IsVerdictOf ch.old ch.setting.program (place_in places) c.args.kept.now needs ch.image (Some code))
-          c.deref-2.ensures.value (rw c.in-Ok-Err.field-0-is at c.in-Ok-Err.ensures.refused) in
+    c.deref-2.ensures.value (rw c.in-Ok-Err.field-0-is at c.in-Ok-Err.ensures.refused) in
     (code, refused c.in_ok-places.ensures.from code verdict, c.in_ok-line-in-Ok-Err.ensures)

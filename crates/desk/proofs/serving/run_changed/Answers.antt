@@ -1,4 +1,4 @@
-use Rattle.std.proofs.Common.{◌∙◌, Err, ap, sym, subst, arith}
+use Rattle.std.proofs.Common.{Err, ap, sym, subst, arith}
 use Rattle.replay.specs.declared.refused_checkpoint.CheckpointCode.TheVariants.{Unfit}
 use Rattle.replay.specs.Checkpoints.{checkpoint_text}
 use Rattle.desk.specs.Meanings.{both}
@@ -39,5 +39,5 @@ returns-in-Err-Refused-clause-served g c =
     (said (checkpoint_text Unfit) 9 _ _ _ _ c.refuse_checkpoint.result c.refuse_checkpoint.ensures.files c.refuse_checkpoint.ensures.said
     c.refuse_checkpoint.ensures.front c.refuse_checkpoint.ensures.answers))
 
-pub returns-in-Err-clause-served : goal.returns-in-Err-clause-served
-returns-in-Err-clause-served g c = for_all (g.S.Source.left c.args.script.now) (λ bytes. unbegun _ _ bytes _ _ 7 (omega arith) (omega arith))
+pub returns-clause-served : goal.returns-clause-served
+returns-clause-served g c = for_all (g.S.Source.left c.args.script.now) (λ bytes. unbegun _ _ bytes _ _ 7 (omega arith) (omega arith))

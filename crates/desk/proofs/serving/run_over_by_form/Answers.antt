@@ -5,7 +5,7 @@ use Rattle.desk.specs.Changes.{Changed, begun_over}
 use Rattle.line_run.proofs.Ahead.{if_told}
 use Rattle.script_run.specs.declared.form.Form.{Form}
 use Rattle.desk.specs.Meanings.{both, meanings}
-use Rattle.desk.specs.Report.{IsChange, IsStoppedRun}
+use Rattle.desk.specs.Report.{IsChange, IsPromptRun, IsStoppedRun}
 use Rattle.desk.proofs.serving.run_over_by_form.Goals as goal
 
 pub returns-in-Text-clause-served : goal.returns-in-Text-clause-served
@@ -33,3 +33,17 @@ returns-in-Objects-clause-stopped g c five =
     (subst (λ (form : Form). IfSome (g.S.Source.left c.args.script.now) (λ bytes. (to : Changed c.args.changing) × IsStoppedRun (meanings (both g.E.Engine.gives g.E.Engine.fires g.E.Engine.counts g.D.Engine.gives g.D.Engine.fires g.D.Engine.counts) form) (begun_over c.args.changing to) bytes (g.S.Source.left c.run_over-in-Objects.new.script)
     (append (g.K.Sink.written c.args.out.now) to.lines) (g.K.Sink.written c.run_over-in-Objects.new.out) (g.K.Sink.files c.args.out.now) (g.K.Sink.files c.run_over-in-Objects.new.out)))
     (sym c.in-Objects.is) (c.run_over-in-Objects.ensures.stopped five))
+
+pub run_over-requires-clause-prompt : goal.run_over-requires-clause-prompt
+run_over-requires-clause-prompt g c bytes now to h = c.requires.prompt bytes now (
+  to,
+  subst (λ (form : Form). IsPromptRun (meanings (both g.E.Engine.gives g.E.Engine.fires g.E.Engine.counts g.D.Engine.gives g.D.Engine.fires g.D.Engine.counts) form) (begun_over c.args.changing to) bytes
+      (append (g.K.Sink.written c.args.out.now) to.lines) (g.K.Sink.written now) (g.K.Sink.files c.args.out.now) (g.K.Sink.files now)) (sym c.in-Text.is) h,
+)
+
+pub run_over-requires-in-Objects-clause-prompt : goal.run_over-requires-in-Objects-clause-prompt
+run_over-requires-in-Objects-clause-prompt g c bytes now to h = c.requires.prompt bytes now (
+  to,
+  subst (λ (form : Form). IsPromptRun (meanings (both g.E.Engine.gives g.E.Engine.fires g.E.Engine.counts g.D.Engine.gives g.D.Engine.fires g.D.Engine.counts) form) (begun_over c.args.changing to) bytes
+      (append (g.K.Sink.written c.args.out.now) to.lines) (g.K.Sink.written now) (g.K.Sink.files c.args.out.now) (g.K.Sink.files now)) (sym c.in-Objects.is) h,
+)
