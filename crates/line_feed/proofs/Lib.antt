@@ -1,0 +1,5 @@
+mod Common
+pub mod Fronts
+pub mod Pieces
+pub mod Feeding
+pub mod Behind
