@@ -138,7 +138,15 @@ const STAYS_AND_NEW: &[u8] = b"rule \"big\" stays\n\
 fn rules_that_stay_and_new_ones_go_on(rt: HostRuntime) -> Result<(), Fail> {
     let alloc = rt.alloc();
     let fired = (BIG, PAY_AND_FIRE);
-    assert!(rt; goes_on(alloc, fired, (BIG_AND_HUGE, FIRE_PAY_FIRE), 0, STAYS_AND_NEW)?);
+    assert!(rt;
+        goes_on(
+            alloc,
+            fired,
+            (BIG_AND_HUGE, FIRE_PAY_FIRE),
+            0,
+            STAYS_AND_NEW
+        )?
+    );
     let pending = b"rule \"big\" stays\nrule \"huge\" new\nfire \"big\" #1\ndone 2\n";
     assert!(rt; goes_on(alloc, (BIG, PAY), (BIG_AND_HUGE, FIRE), 0, pending)?);
     Ok(())
@@ -147,8 +155,17 @@ fn rules_that_stay_and_new_ones_go_on(rt: HostRuntime) -> Result<(), Fail> {
 #[test]
 fn an_edited_rule_is_a_new_one(rt: HostRuntime) -> Result<(), Fail> {
     let alloc = rt.alloc();
-    let answer = b"rule \"big\" new\nrule \"big\" gone\ndone 3\nnew #2 Paid\ndone 4\nfire \"big\" #2\ndone 5\n";
-    assert!(rt; goes_on(alloc, (BIG, PAY_AND_FIRE), (EDITED, FIRE_PAY_FIRE), 0, answer)?);
+    let answer =
+        b"rule \"big\" new\nrule \"big\" gone\ndone 3\nnew #2 Paid\ndone 4\nfire \"big\" #2\ndone 5\n";
+    assert!(rt;
+        goes_on(
+            alloc,
+            (BIG, PAY_AND_FIRE),
+            (EDITED, FIRE_PAY_FIRE),
+            0,
+            answer
+        )?
+    );
     Ok(())
 }
 
@@ -170,6 +187,14 @@ fn other_rules_are_refused_in_order(rt: HostRuntime) -> Result<(), Fail> {
 fn what_waits_goes_on_waiting(rt: HostRuntime) -> Result<(), Fail> {
     let alloc = rt.alloc();
     let answer = b"rule \"asked\" new\nrule \"silent\" stays\ndone 2\nfire \"silent\" #1\ndone 3\n";
-    assert!(rt; goes_on(alloc, (SILENT, ASK), (SILENT_AND_ASKED, WAIT_AND_FIRE), 0, answer)?);
+    assert!(rt;
+        goes_on(
+            alloc,
+            (SILENT, ASK),
+            (SILENT_AND_ASKED, WAIT_AND_FIRE),
+            0,
+            answer
+        )?
+    );
     Ok(())
 }
