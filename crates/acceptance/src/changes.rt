@@ -57,6 +57,7 @@ const WAIT_AND_FIRE: &[u8] = b"{\"do\":\"at\",\"ms\":10001}\n\
     {\"do\":\"fire\"}\n";
 
 /// What a desk answers, and its files behind it.
+#[derive(Drop)]
 struct Answer {
     status: u8,
     printed: Vec<u8>,
