@@ -1,10 +1,7 @@
 -- How often the pending matches name each tag.
-use Rattle.std.specs.Prelude.{◌≡◌, ℕ, ◌==◌, ℤ, List, count_by, nat_eq}
-use Rattle.std.specs.List.{sum_by}
-use Rattle.std.specs.Map.{count_at, lookup}
+use Rattle.std.specs.{Prelude.{◌≡◌, ℕ, ◌==◌, ℤ, List, count_by, nat_eq}, List.{sum_by}, Map.{count_at, lookup}}
 use Rattle.row_delta.specs.declared.row.Named.{Named}
-use Rattle.agenda.specs.Agendas.{AllWell}
-use Rattle.agenda.specs.declared.ranked.Ranked.{Ranked}
+use Rattle.agenda.specs.{Agendas.{AllWell}, declared.ranked.Ranked.{Ranked}}
 
 -- how often facts have the tag; two conditions of a rule may have bound one fact
 abbrev pub times_in : ℕ → List Named → ℕ

@@ -6,14 +6,10 @@ use Rattle.alpha_memory.proofs.Common.{AgreePlaces, JoinIndex, Place, get-empty,
 use Rattle.std.proofs.Common.{map as list_map}
 use Rattle.std.specs.FinMap as map
 use Rattle.std.specs.List.{IsDistinct}
-use Rattle.fx_base.specs.SameValues.{same_value_equiv}
-use Rattle.alpha_memory.specs.Places.{numbered}
-use Rattle.alpha_memory.proofs.Numbers.{untied, has_number, number_has, Apart-same, numbered-same, Apart-put, unused, numbered-put, Apart-take, has_taken}
-use Rattle.alpha_memory.proofs.Numbers.{numbered-take}
-use Rattle.alpha_memory.proofs.Listed.{values-insert, values-remove, none_of, one_of, all_stay}
-use Rattle.fx_base.proofs.Orders.{eq_by_nat_cmp-flip, eq_by_nat_cmp-self, eq_by_nat_cmp-true}
-use Rattle.fx_base.proofs.Sequences.{one_value}
+use Rattle.fx_base.{specs.SameValues.{same_value_equiv}, proofs.{Orders.{eq_by_nat_cmp-flip, eq_by_nat_cmp-self, eq_by_nat_cmp-true}, Sequences.{one_value}}}
 use Rattle.fx_base.proofs.Tests.{both_ways_absurd}
+use Rattle.alpha_memory.{specs.Places.{numbered}, proofs.Numbers.{untied, has_number, number_has, Apart-same, numbered-same, Apart-put, unused, numbered-put}}
+use Rattle.alpha_memory.proofs.{Numbers.{Apart-take, has_taken, numbered-take}, Listed.{values-insert, values-remove, none_of, one_of, all_stay}}
 
 -- what the memory's candidates are
 abbrev pub listed : List (ℕ × Place) → List Candidate

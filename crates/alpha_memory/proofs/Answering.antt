@@ -8,8 +8,7 @@ use Rattle.std.proofs.Common.{map as list_map}
 use Rattle.std.specs.BTreeMap as tree
 use Rattle.std.specs.FinMap as map
 use Rattle.std.specs.List.Sorted.{IsStrictlySortedBy}
-use Rattle.alpha_memory.proofs.Numbers.{same_option, HasNumber, has_number, number_has}
-use Rattle.alpha_memory.proofs.Listed.{chosen, names_in_order, no_names, all_pass}
+use Rattle.alpha_memory.proofs.{Numbers.{same_option, HasNumber, has_number, number_has}, Listed.{chosen, names_in_order, no_names, all_pass}}
 use Rattle.alpha_memory.proofs.Agreeing.{listed}
 use Rattle.fx_base.proofs.Sequences.{is_some-value, one_value}
 

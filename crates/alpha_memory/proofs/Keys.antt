@@ -1,11 +1,7 @@
 -- The keys of all buckets of a join index.
 use Rattle.alpha_memory.proofs.Common.{◌≡◌, ◌∙◌, sym, ap, refl, Bool, true, false, ◌||◌, ◌++◌, cond, List, [], ◌∷◌, Some, list_any, AllByRecursion, Ordering}
-use Rattle.alpha_memory.proofs.Common.{is_at, IsEquivalence, keys_of, lookup, is_some, eq_by_cmp, entries, Bucket, JoinIndex, AreKeys}
-use Rattle.std.proofs.lemmas.Bool.{or_left, or_right}
-use Rattle.std.specs.List.{IsDistinct}
-use Rattle.std.proofs.lemmas.List.Folds.{list_any-append}
-use Rattle.std.proofs.lemmas.Map.Made.{is_some-lookup}
-use Rattle.alpha_memory.proofs.Buckets.{found_in}
+use Rattle.alpha_memory.proofs.{Common.{is_at, IsEquivalence, keys_of, lookup, is_some, eq_by_cmp, entries, Bucket, JoinIndex, AreKeys}, Buckets.{found_in}}
+use Rattle.std.{proofs.lemmas.{Bool.{or_left, or_right}, List.Folds.{list_any-append}, Map.Made.{is_some-lookup}}, specs.List.{IsDistinct}}
 
 -- the keys of these buckets
 abbrev pub keys_in : {J K S : Type 0} → List (J × Bucket K S) → List K

@@ -6,9 +6,7 @@ use Rattle.alpha_memory.proofs.Common.{same_map, IsDistinct, numbered_entry}
 use Rattle.std.proofs.Common.{map as list_map}
 use Rattle.std.specs.FinMap as map
 use Rattle.alpha_memory.specs.Places.{numbered}
-use Rattle.fx_base.proofs.Orders.{eq_by_nat_cmp-self, eq_by_nat_cmp-true}
-use Rattle.fx_base.proofs.Sequences.{is_some-value, one_value}
-use Rattle.fx_base.proofs.Tests.{both_ways_absurd}
+use Rattle.fx_base.proofs.{Orders.{eq_by_nat_cmp-self, eq_by_nat_cmp-true}, Sequences.{is_some-value, one_value}, Tests.{both_ways_absurd}}
 
 -- ---- options, tests and numbers
 

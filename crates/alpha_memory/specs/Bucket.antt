@@ -1,10 +1,6 @@
 -- What a bucket keeps under its keys.
-use Rattle.std.specs.Prelude.{List, [], ◌∷◌, Option}
-use Rattle.std.specs.declared.cmp.Ordering.{Ordering}
-use Rattle.std.specs.BTreeMap.{is_at}
-use Rattle.std.specs.Map.{lookup}
-use Rattle.alpha_memory.specs.declared.bucket.Bucket.{Bucket}
-use Rattle.alpha_memory.specs.declared.bucket.Bucket.TheVariants.{One, Many}
+use Rattle.std.specs.{Prelude.{List, [], ◌∷◌, Option}, declared.cmp.Ordering.{Ordering}, BTreeMap.{is_at}, Map.{lookup}}
+use Rattle.alpha_memory.specs.declared.bucket.Bucket.{Bucket, TheVariants.{One, Many}}
 
 -- the keys of a bucket in their order, each with what is kept beside it
 abbrev pub entries : {K S : Type 0} → Bucket K S → List (K × S)

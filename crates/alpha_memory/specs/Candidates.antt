@@ -1,8 +1,6 @@
 -- Candidates: versions of facts, each with its join value, in the order of their insertion.
-use Rattle.std.specs.Prelude.{ℕ, Bool, not, List, map, filter, nat_eq}
-use Rattle.std.specs.List.{list_any}
-use Rattle.fx_base.specs.declared.value.Value.{Value}
-use Rattle.fx_base.specs.Values.{same_value}
+use Rattle.std.specs.{Prelude.{ℕ, Bool, not, List, map, filter, nat_eq}, List.{list_any}}
+use Rattle.fx_base.specs.{declared.value.Value.{Value}, Values.{same_value}}
 use Rattle.row_delta.specs.declared.row.Named.{Named}
 
 -- a version of a fact and its join value

@@ -1,14 +1,8 @@
 -- What a join index keeps under a join value and a key.
-use Rattle.std.specs.Prelude.{◌≡◌, ◌↔◌, Bool, true, List, Option}
-use Rattle.std.specs.List.{list_any}
-use Rattle.std.specs.Option.{is_some, option_map, option_and_then}
-use Rattle.std.specs.declared.cmp.Ordering.{Ordering}
-use Rattle.std.specs.BTreeMap.{is_at}
-use Rattle.std.specs.Ordering.{eq_by_cmp}
-use Rattle.std.specs.Map.{lookup}
+use Rattle.std.specs.{Prelude.{◌≡◌, ◌↔◌, Bool, true, List, Option}, List.{list_any}, Option.{is_some, option_map, option_and_then}}
+use Rattle.std.specs.{declared.cmp.Ordering.{Ordering}, BTreeMap.{is_at}, Ordering.{eq_by_cmp}, Map.{lookup}}
 use Rattle.indexmap.specs.IndexMap.{get}
-use Rattle.alpha_memory.specs.Bucket.{entries}
-use Rattle.alpha_memory.specs.declared.join_index.JoinIndex.{JoinIndex}
+use Rattle.alpha_memory.specs.{Bucket.{entries}, declared.join_index.JoinIndex.{JoinIndex}}
 
 -- the keys of a join value in their order, each with what is kept beside it
 abbrev pub bucket_at : {J K S : Type 0} → (J → J → Bool) → JoinIndex J K S → J → Option (List (K × S))

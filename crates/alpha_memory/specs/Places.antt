@@ -1,16 +1,10 @@
 -- How the memory of candidates keeps them: each under its tag with a number that rises, and under its join value by that number.
-use Rattle.std.specs.Prelude.{◌≡◌, ◌<◌, ℕ, List, map as list_map, Option, Some, None, cond, nat_eq}
-use Rattle.std.specs.Ordering.{nat_cmp}
+use Rattle.std.specs.{Prelude.{◌≡◌, ◌<◌, ℕ, List, map as list_map, Option, Some, None, cond, nat_eq}, Ordering.{nat_cmp}}
 use Rattle.std.specs.FinMap as map
-use Rattle.std.specs.List.{IsDistinct}
-use Rattle.std.specs.Map.{keys_of, lookup}
-use Rattle.fx_base.specs.declared.value.Value.{Value}
-use Rattle.fx_base.specs.Values.{same_value}
+use Rattle.std.specs.{List.{IsDistinct}, Map.{keys_of, lookup}}
+use Rattle.fx_base.specs.{declared.value.Value.{Value}, Values.{same_value}}
 use Rattle.row_delta.specs.declared.row.Named.{Named}
-use Rattle.alpha_memory.specs.Candidates.{Candidate}
-use Rattle.alpha_memory.specs.JoinIndex.{at}
-use Rattle.alpha_memory.specs.declared.join_index.JoinIndex.{JoinIndex}
-use Rattle.alpha_memory.specs.declared.memory.Place.{Place}
+use Rattle.alpha_memory.specs.{Candidates.{Candidate}, JoinIndex.{at}, declared.{join_index.JoinIndex.{JoinIndex}, memory.Place.{Place}}}
 
 -- the candidate with this tag and this place
 abbrev pub candidate : ℕ → Place → Candidate

@@ -1,12 +1,9 @@
 -- Where no value is left, the names behind put nothing.
 use Rattle.std.proofs.Common.{◌≡◌, ℕ, ℤ, List, [], ◌∷◌, length, arith, refl}
-use Rattle.fx_base.specs.declared.kind.Kind.{Kind}
-use Rattle.fx_base.specs.declared.value.Value.{Value}
-use Rattle.rule_model.specs.declared.program.EntryInfo.{EntryInfo}
-use Rattle.rule_model.specs.declared.program.TypeInfo.{TypeInfo}
+use Rattle.fx_base.specs.declared.{kind.Kind.{Kind}, value.Value.{Value}}
+use Rattle.rule_model.specs.declared.program.{EntryInfo.{EntryInfo}, TypeInfo.{TypeInfo}}
 use Rattle.serde_json.specs.Data.{Members}
-use Rattle.answer_json.specs.Facts.{with_fields}
-use Rattle.answer_json.specs.Answers.{with_counts, with_floors}
+use Rattle.answer_json.specs.{Facts.{with_fields}, Answers.{with_counts, with_floors}}
 
 no_value : (ms : Members) (fields : List (List ℕ × Kind)) → with_fields ms fields [] ≡ ms
 no_value ms [] = refl

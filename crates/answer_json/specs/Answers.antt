@@ -1,20 +1,12 @@
 -- What the lines of a script answer, as values in JSON, each with the number of its line.
 use Rattle.std.specs.Prelude.{ℕ, ℤ, Bool, true, List, [], ◌∷◌, slice_get, codes}
-use Rattle.fx_base.specs.declared.fact.Fact.{Fact}
-use Rattle.fx_base.specs.declared.ids.FactId.{FactId}
-use Rattle.fx_base.specs.declared.ids.RuleId.{RuleId}
-use Rattle.fx_base.specs.declared.ids.TypeId.{TypeId}
-use Rattle.rule_model.specs.declared.program.EntryInfo.{EntryInfo}
-use Rattle.rule_model.specs.declared.program.Program.{Program}
-use Rattle.rule_model.specs.declared.program.TypeInfo.{TypeInfo}
+use Rattle.fx_base.specs.declared.{fact.Fact.{Fact}, ids.{FactId.{FactId}, RuleId.{RuleId}, TypeId.{TypeId}}}
+use Rattle.rule_model.specs.declared.program.{EntryInfo.{EntryInfo}, Program.{Program}, TypeInfo.{TypeInfo}}
 use Rattle.rule_world.specs.CodeNames.{code_name}
-use Rattle.answer_lines.specs.declared.lines.OutLine.{OutLine}
-use Rattle.answer_lines.specs.declared.lines.OutLine.TheVariants.{New, Fire, Fault, Inserted, Modified, Retracted, FiredFor}
+use Rattle.answer_lines.specs.declared.lines.OutLine.{OutLine, TheVariants.{New, Fire, Fault, Inserted, Modified, Retracted, FiredFor}}
 use Rattle.drl_names.specs.declared.rule_names.RuleNames.{RuleNames}
 use Rattle.serde_json.specs.Data.{Data, boolean, string, object, Members, no_members, put}
-use Rattle.answer_json.specs.Objects.{whole, signed, object_of}
-use Rattle.answer_json.specs.Facts.{type_data, fact_data}
-use Rattle.answer_json.specs.Firings.{rule_data, firing_data}
+use Rattle.answer_json.specs.{Objects.{whole, signed, object_of}, Facts.{type_data, fact_data}, Firings.{rule_data, firing_data}}
 use Rattle.answer_json.specs.declared.counted.Counted.{Counted}
 
 -- {"fault":CODE,"line":n}: the line, or an action of a firing, was faulty

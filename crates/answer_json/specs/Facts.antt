@@ -1,12 +1,8 @@
 -- Facts as values in JSON.
 use Rattle.std.specs.Prelude.{ℕ, List, [], ◌∷◌, Option, Some, None, slice_get, codes}
-use Rattle.fx_base.specs.declared.fact.Fact.{Fact}
-use Rattle.fx_base.specs.declared.ids.TypeId.{TypeId}
-use Rattle.fx_base.specs.declared.kind.Kind.{Kind}
-use Rattle.fx_base.specs.declared.value.Value.{Value}
-use Rattle.fx_base.specs.declared.value.Value.TheVariants.{Int, Bool as Truth, Text as Words}
-use Rattle.rule_model.specs.declared.program.Program.{Program}
-use Rattle.rule_model.specs.declared.program.TypeInfo.{TypeInfo}
+use Rattle.fx_base.specs.declared.{fact.Fact.{Fact}, ids.TypeId.{TypeId}, kind.Kind.{Kind}, value.Value.{Value, TheVariants.{Int, Bool as Truth}}}
+use Rattle.fx_base.specs.declared.value.Value.TheVariants.{Text as Words}
+use Rattle.rule_model.specs.declared.program.{Program.{Program}, TypeInfo.{TypeInfo}}
 use Rattle.serde_json.specs.Data.{Data, boolean, string, object, Members, no_members, put}
 use Rattle.answer_json.specs.Objects.{whole, signed, object_of}
 

@@ -1,14 +1,10 @@
 -- Firings as values in JSON: the rule, its moment, and what its conditions bound, each with the name of its variable.
 use Rattle.std.specs.Prelude.{ℕ, ℤ, List, [], ◌∷◌, drop, Option, Some, None, slice_get, codes}
-use Rattle.fx_base.specs.declared.fact.Fact.{Fact}
-use Rattle.fx_base.specs.declared.ids.RuleId.{RuleId}
-use Rattle.rule_model.specs.declared.program.Program.{Program}
-use Rattle.rule_model.specs.declared.program.Rule.{Rule}
+use Rattle.fx_base.specs.declared.{fact.Fact.{Fact}, ids.RuleId.{RuleId}}
+use Rattle.rule_model.specs.declared.program.{Program.{Program}, Rule.{Rule}}
 use Rattle.drl_names.specs.declared.rule_names.RuleNames.{RuleNames}
-use Rattle.serde_json.specs.Data.{Data, string, array}
-use Rattle.serde_json.specs.View.{items_of}
-use Rattle.answer_json.specs.Objects.{whole, signed, object_of}
-use Rattle.answer_json.specs.Facts.{fields_data, type_data}
+use Rattle.serde_json.specs.{Data.{Data, string, array}, View.{items_of}}
+use Rattle.answer_json.specs.{Objects.{whole, signed, object_of}, Facts.{fields_data, type_data}}
 
 abbrev pub rule_name : Option Rule → List ℕ
 rule_name None = []

@@ -1,9 +1,6 @@
 -- Objects, and lines that each hold one.
 use Rattle.std.specs.Prelude.{◌≡◌, ℕ, ℤ, List, [], ◌∷◌, ◌++◌, Some}
-use Rattle.serde_json.specs.Data.{Data, number, unsigned, object, Members, no_members, put}
-use Rattle.serde_json.specs.Find.{of_integer}
-use Rattle.serde_json.specs.Read.{read}
-use Rattle.serde_json.specs.Written.{compact_text}
+use Rattle.serde_json.specs.{Data.{Data, number, unsigned, object, Members, no_members, put}, Find.{of_integer}, Read.{read}, Written.{compact_text}}
 
 -- numbers
 abbrev pub whole : ℕ → Data

@@ -1,19 +1,14 @@
 -- What one row more, or one less, on a side does to the rows that are made.
 use Rattle.beta_join.proofs.Common.{◌≡◌, ◌∙◌, sym, ap, refl, List, Bool, true, false, not, ◌&&◌, ◌||◌, Option, Some, None, eq_by_cmp, Pattern, Row, row_cmp}
 use Rattle.beta_join.proofs.Common.{has, name_cmp, Look, Memories, has_left, has_right, made, KeepsMemories, TurnedMemories, joins, unjoined, splits}
-use Rattle.beta_join.proofs.Common.{row_absent, row_present, name_absent, name_present, keeps_then, leads_alike}
+use Rattle.beta_join.proofs.Common.{row_absent, row_present, name_absent, name_present, keeps_then, leads_alike, subst, ℕ, ◌+◌, ◌<◌, ◌≤◌, length, take, get_or}
+use Rattle.beta_join.proofs.Common.{[], has_name, any_name, sharing, take_all, NamesTurned}
 use Rattle.row_delta.specs.declared.row.Named.{Named}
-use Rattle.row_change.specs.Changes.{LeadsRows, without, along}
-use Rattle.row_change.specs.declared.change.Change.{Change}
-use Rattle.pair_memory.specs.Joined.{joined}
-use Rattle.pair_memory.proofs.Joining.{row_decides, name_decides, joined_alike}
-use Rattle.pair_memory.proofs.Keeping.{made_after}
+use Rattle.row_change.specs.{Changes.{LeadsRows, without, along}, declared.change.Change.{Change}}
+use Rattle.pair_memory.{specs.Joined.{joined}, proofs.{Joining.{row_decides, name_decides, joined_alike}, Keeping.{made_after}}}
+use Rattle.pair_memory.{specs.{declared.candidates.Candidates.{Candidates}, Handed.{moved}, Shared.{AreHanded}}, proofs.Handed.{next_may, moved_more}}
+use Rattle.pair_memory.proofs.Handed.{moved_none, may_go, may_come, handed_joined}
 use Rattle.fx_base.proofs.Tests.{and_or_and}
-use Rattle.beta_join.proofs.Common.{subst, ℕ, ◌+◌, ◌<◌, ◌≤◌, length, take, get_or, [], has_name, any_name, sharing, take_all, NamesTurned}
-use Rattle.pair_memory.specs.declared.candidates.Candidates.{Candidates}
-use Rattle.pair_memory.specs.Handed.{moved}
-use Rattle.pair_memory.specs.Shared.{AreHanded}
-use Rattle.pair_memory.proofs.Handed.{next_may, moved_more, moved_none, may_go, may_come, handed_joined}
 
 splits_imply : (t u : Row → Named → Bool) (b : Bool) → ((l : Row) (c : Named) → t l c ≡ true → u l c ≡ b) → (o : Option (Row × Named)) → splits t o ≡ true → splits u o ≡ b
 splits_imply t u b h None e = let f : false ≡ true = e in cc

@@ -1,16 +1,10 @@
 -- What a step and forgetting are for the whole sets of rows and candidates that a node stands for.
 use Rattle.std.specs.Prelude.{◌≡◌, ◌&&◌, not, true, Bool, List}
-use Rattle.row_delta.specs.declared.row.Named.{Named}
-use Rattle.row_delta.specs.declared.row.Row.{Row}
-use Rattle.row_delta.specs.declared.delta.Delta.{Delta}
-use Rattle.row_delta.specs.Rows.{has}
+use Rattle.row_delta.specs.{declared.{row.{Named.{Named}, Row.{Row}}, delta.Delta.{Delta}}, Rows.{has}}
 use Rattle.row_change.specs.Changes.{LeadsRows, IsDifference}
 use Rattle.join_tests.specs.Joins.{Look}
-use Rattle.pair_memory.specs.declared.memories.Memories.{Memories}
-use Rattle.pair_memory.specs.Joined.{joined}
-use Rattle.pair_memory.specs.Memories.{has_left, has_right, made, KeepsMemories}
-use Rattle.pair_memory.specs.Standing.{clean, cleaned, either, remembered, PassesAlike, StandsFor}
-use Rattle.pair_memory.specs.Inputs.{IsNameDifference, IsStepped}
+use Rattle.pair_memory.specs.{declared.memories.Memories.{Memories}, Joined.{joined}, Memories.{has_left, has_right, made, KeepsMemories}, Standing.{clean}}
+use Rattle.pair_memory.specs.{Standing.{cleaned, either, remembered, PassesAlike, StandsFor}, Inputs.{IsNameDifference, IsStepped}}
 
 -- For the true differences of its two inputs, of what names no forgotten fact, a node that stands for left rows and candidates answers
 -- the true difference of its rows that name no forgotten fact, and stands for the new ones.

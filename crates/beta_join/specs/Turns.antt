@@ -1,14 +1,10 @@
 -- What a part of a step does.
 use Rattle.std.specs.Prelude.{Bool, List}
-use Rattle.row_delta.specs.declared.row.Named.{Named}
-use Rattle.row_delta.specs.declared.row.Row.{Row}
-use Rattle.row_change.specs.declared.change.Change.{Change}
-use Rattle.row_change.specs.Changes.{LeadsRows}
+use Rattle.row_delta.specs.declared.row.{Named.{Named}, Row.{Row}}
+use Rattle.row_change.specs.{declared.change.Change.{Change}, Changes.{LeadsRows}}
 use Rattle.join_tests.specs.Joins.{Look, joins}
-use Rattle.pair_memory.specs.declared.memories.Memories.{Memories}
-use Rattle.pair_memory.specs.Handed.{moved, MayMove}
-use Rattle.pair_memory.specs.Joined.{has_name, joined}
-use Rattle.pair_memory.specs.Memories.{has_left, made, KeepsMemories}
+use Rattle.pair_memory.specs.{declared.memories.Memories.{Memories}, Handed.{moved, MayMove}, Joined.{has_name, joined}, Memories.{has_left, made}}
+use Rattle.pair_memory.specs.Memories.{KeepsMemories}
 
 -- the memories then keep these rows and candidates, and what has changed so far leads on to the rows that are made then
 pub record TurnedMemories {S : Type 0} (before after : Memories S) (look : Look) (left : Row → Bool) (right : Named → Bool) (change changed : Change) : Type 0 where

@@ -1,5 +1,8 @@
 -- The machine values of a `Loose` and of a `Held`. Assumes `Logic`.
-use Rattle.std.proofs.Common.{◌≡◌, ℕ, List, [], ◌∷◌, ◌++◌, refl, subst, lit<}
+use Rattle.std.{proofs.{Common.{◌≡◌, ℕ, List, [], ◌∷◌, ◌++◌, refl, subst, lit<}, alloc.Calls.{Al}}, specs.{Ptr.{points_to}, declared.alloc.Allocator.{Ghosts}}}
+use Rattle.std.{proofs.{alloc.Calls.{handle_tells}, cell.Inside.{Good, one}, ResultValues.{and_tt}}, specs.Box.Ownership.{box_owns}}
+use Rattle.std.specs.{declared.option.Option.{Option, TheVariants.{None, Some}}, contracts.impls.GlobalAllocator.TheImpl.{ghosts}}
+use Rattle.std.proofs.GlobalToken.{dealloc_token-Testable}
 use mathlib.Core.Bool.{true, ◌&&◌}
 use lib.Dec.{T}
 use seplogic.Ra.Ura.{Ura}
@@ -15,21 +18,9 @@ use denote.RattleType.{RattleType, Valss}
 use denote.Builtin.{RawPtr}
 use denote.Memory.{lone}
 use denote.RawPtr.{Ptr, block_ptr, null_ptr, ptr_val, in_a_block, Testable}
-use Rattle.std.specs.Ptr.{points_to}
 use denote.Steps.{nothing}
-use denote.Param.{layout}
-use denote.Param.Laws.{Laws}
-use denote.Struct.Struct.{within}
-use denote.Struct.Owning.{shape}
-use Rattle.std.specs.declared.alloc.Allocator.{Ghosts}
-use Rattle.std.proofs.alloc.Calls.{Al, handle_tells}
-use Rattle.std.proofs.cell.Inside.{Good, one}
-use Rattle.std.specs.Box.Ownership.{box_owns}
-use Rattle.std.proofs.ResultValues.{and_tt}
-use Rattle.std.specs.declared.option.Option.{Option}
-use Rattle.std.specs.declared.option.Option.TheVariants.{None, Some}
-use Rattle.std.specs.contracts.impls.GlobalAllocator.TheImpl.{ghosts}
-use Rattle.std.proofs.GlobalToken.{dealloc_token-Testable}
+use denote.Param.{layout, Laws.{Laws}}
+use denote.Struct.{Struct.{within}, Owning.{shape}}
 use Rattle.c_handle.specs.Owned.{heap, owned_at}
 use Rattle.c_handle.specs.contracts.held.Held as held
 use Rattle.c_handle.specs.contracts.loose.Loose as loose

@@ -1,11 +1,8 @@
 -- What a pointer owns that holds the value of a box, or nothing: then it is null. The box is one of the C library's heap.
-use Rattle.std.specs.Prelude.{Option, Some, None}
+use Rattle.std.specs.{Prelude.{Option, Some, None}, declared.alloc.Global.{Global}, contracts.impls.GlobalAllocator.TheImpl.{ghosts}, Box.Ownership.{box_owns}}
 use base.Fml.{Fml, ftrue, ffalse}
 use denote.RattleType.{RattleType}
 use denote.RawPtr.{Ptr, block_ptr, null_ptr}
-use Rattle.std.specs.declared.alloc.Global.{Global}
-use Rattle.std.specs.contracts.impls.GlobalAllocator.TheImpl.{ghosts}
-use Rattle.std.specs.Box.Ownership.{box_owns}
 
 -- the handle of that heap, which has no parts
 abbrev pub heap : Global

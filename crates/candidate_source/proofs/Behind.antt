@@ -1,6 +1,6 @@
 -- A candidate is handed to nodes in several places, each once.
-use Rattle.candidate_source.proofs.Common.{◌∙◌, ap, sym, ◌≡◌, ℕ, List, [], ◌++◌, Bool, true, false, cond, ◌&&◌, ◌||◌, append-nil}
-use Rattle.candidate_source.proofs.Common.{BTreeMap, Named, Handed, Turned, went, came, gone_at, come_at, IsHandedTo}
+use Rattle.candidate_source.proofs.Common.{◌∙◌, ap, sym, ◌≡◌, ℕ, List, [], ◌++◌, Bool, true, false, cond, ◌&&◌, ◌||◌, append-nil, BTreeMap, Named, Handed}
+use Rattle.candidate_source.proofs.Common.{Turned, went, came, gone_at, come_at, IsHandedTo}
 
 -- what is behind a list, if one of two tests holds, where not both do
 either_behind : {A : Type 0} (xs ys : List A) (a b : Bool) → (a && b) ≡ false → (xs ++ cond a ys []) ++ cond b ys [] ≡ xs ++ cond (a || b) ys []

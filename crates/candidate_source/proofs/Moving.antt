@@ -1,23 +1,14 @@
 -- Sources that move, one after another.
-use Rattle.candidate_source.proofs.Common.{◌∙◌, ap, sym, refl, subst, ◌≡◌, ℕ, ◌<◌, List, [], ◌∷◌, Bool, true, false, ◌&&◌, ◌||◌, false≢true, length, Option, Some, None, option_map}
-use Rattle.candidate_source.proofs.Common.{eq_by_cmp, nat_cmp, BTreeMap, Value, JoinIndex, Handed, Source, has_place, is_under, LeavesOthers}
-use Rattle.std.proofs.Common.{slice_get, arith, set, zero, suc, ◌⊎◌, inl, inr, length-set, eqb-true, MutBor}
-use Rattle.std.specs.List.{IsItemAtMut}
-use Rattle.std.specs.Global.{Vec}
-use Rattle.std.proofs.lemmas.Option.{slice_get_within, slice_get-get_or}
-use Rattle.std.specs.List.Sorted.{IsStrictlySortedBy}
-use Rattle.std.specs.Prelude.{OnOk}
-use Rattle.std.specs.declared.result.Result.{Result}
-use Rattle.std.specs.declared.result.Result.TheVariants.{Ok, Err}
-use Rattle.std.specs.Vec.{with_item}
-use Rattle.fx_base.proofs.Orders.{eqb-self, eq_by_nat_cmp-flip, eq_by_nat_cmp-self, eq_by_nat_cmp-true}
-use Rattle.fx_base.proofs.Tests.{or_first_false, or_second_false}
+use Rattle.candidate_source.proofs.Common.{◌∙◌, ap, sym, refl, subst, ◌≡◌, ℕ, ◌<◌, List, [], ◌∷◌, Bool, true, false, ◌&&◌, ◌||◌, false≢true, length, Option}
+use Rattle.candidate_source.proofs.Common.{Some, None, option_map, eq_by_cmp, nat_cmp, BTreeMap, Value, JoinIndex, Handed, Source, has_place, is_under}
+use Rattle.candidate_source.{proofs.Common.{LeavesOthers}, specs.{declared.sources.Sources.{Sources}, Doors.{node_count}, Moving.{Step, HasMovedAt, HaveMoved}}}
+use Rattle.candidate_source.specs.{Moving.{IsStillAt}, Sources.{given_place, in_list, is_lead, is_led, is_this, lead_of, source_at, source_place, AreApart}}
+use Rattle.candidate_source.{specs.Sources.{AreLaidAs, AreReachedAs}, proofs.Places.{none_above}}
+use Rattle.std.{proofs.Common.{slice_get, arith, set, zero, suc, ◌⊎◌, inl, inr, length-set, eqb-true, MutBor}, specs.{List.{IsItemAtMut}, Global.{Vec}}}
+use Rattle.std.{proofs.lemmas.Option.{slice_get_within, slice_get-get_or}, specs.{List.Sorted.{IsStrictlySortedBy}, Prelude.{OnOk}}}
+use Rattle.std.specs.{declared.result.Result.{Result, TheVariants.{Ok, Err}}, Vec.{with_item}}
+use Rattle.fx_base.proofs.{Orders.{eqb-self, eq_by_nat_cmp-flip, eq_by_nat_cmp-self, eq_by_nat_cmp-true}, Tests.{or_first_false, or_second_false}}
 use Rattle.fx_base.proofs.Sequences.{get-below, get-set_other, get-set_same, one_value}
-use Rattle.candidate_source.specs.declared.sources.Sources.{Sources}
-use Rattle.candidate_source.specs.Doors.{node_count}
-use Rattle.candidate_source.specs.Moving.{Step, HasMovedAt, HaveMoved, IsStillAt}
-use Rattle.candidate_source.specs.Sources.{given_place, in_list, is_lead, is_led, is_this, lead_of, source_at, source_place, AreApart, AreLaidAs, AreReachedAs}
-use Rattle.candidate_source.proofs.Places.{none_above}
 
 -- ---- the same nodes
 

@@ -1,26 +1,15 @@
 -- Sources that have turned, or forgotten: those whose first nodes were due have moved, the others rest.
-use Rattle.candidate_source.proofs.Common.{◌∙◌, ap, sym, refl, subst, ◌≡◌, ℕ, List, [], ◌∷◌, cond, eq_by_cmp, Bool, true, false, not, ◌&&◌, ◌||◌, Option, Some, None, BTreeMap, Delta, Named, nat_cmp, Look}
-use Rattle.candidate_source.proofs.Common.{has_candidate, Handed, Source, gone_at, come_at, has_place, HaveLeft, false≢true}
-use Rattle.std.proofs.Common.{ℤ, slice_get}
-use Rattle.fx_base.specs.declared.fact.Fact.{Fact}
-use Rattle.rule_model.specs.declared.program.Program.{Program}
-use Rattle.rule_model.specs.Snapshots.{Snapshot}
+use Rattle.candidate_source.proofs.Common.{◌∙◌, ap, sym, refl, subst, ◌≡◌, ℕ, List, [], ◌∷◌, cond, eq_by_cmp, Bool, true, false, not, ◌&&◌, ◌||◌, Option, Some}
+use Rattle.candidate_source.proofs.Common.{None, BTreeMap, Delta, Named, nat_cmp, Look, has_candidate, Handed, Source, gone_at, come_at, has_place, HaveLeft}
+use Rattle.candidate_source.{proofs.Common.{false≢true}, specs.{declared.sources.Sources.{Sources}, Handed.{given_gone, given_come, IsUnhanded}}}
+use Rattle.candidate_source.specs.{Moving.{HaveMoved, TurnStep}, Sources.{handed_gone, handed_come, in_list, is_lead, is_led, is_this, lead_of, source_at}}
+use Rattle.candidate_source.specs.Sources.{source_place, AreApart, AreOthersAtRest, HasTurnedAt, HaveForgotten, HaveLeftAt, HaveTurned, IsAtRest}
+use Rattle.candidate_source.proofs.{Sharing.{left_at, turned_at}, Turning.{none_once}}
+use Rattle.std.{proofs.{Common.{ℤ, slice_get}, lemmas.Map.Made.{is_some-lookup}}, specs.{BTreeMap.{get, is_at}, Map.{keys_of, lookup}}}
+use Rattle.fx_base.{specs.declared.fact.Fact.{Fact}, proofs.{Orders.{eqb-self, eq_by_nat_cmp-flip}, Sequences.{one_value, is_some-false}}}
+use Rattle.rule_model.specs.{declared.program.Program.{Program}, Snapshots.{Snapshot}}
 use Rattle.condition_rows.specs.Sets.{candidates_of}
-use Rattle.pattern_gate.specs.Moves.{MovesSnapshot}
-use Rattle.pattern_gate.specs.Gates.{GateStands}
-use Rattle.fx_base.proofs.Orders.{eqb-self}
-use Rattle.fx_base.proofs.Sequences.{one_value}
-use Rattle.candidate_source.specs.declared.sources.Sources.{Sources}
-use Rattle.candidate_source.specs.Handed.{given_gone, given_come, IsUnhanded}
-use Rattle.std.specs.BTreeMap.{get, is_at}
-use Rattle.std.specs.Map.{keys_of, lookup}
-use Rattle.std.proofs.lemmas.Map.Made.{is_some-lookup}
-use Rattle.fx_base.proofs.Orders.{eq_by_nat_cmp-flip}
-use Rattle.fx_base.proofs.Sequences.{is_some-false}
-use Rattle.candidate_source.specs.Moving.{HaveMoved, TurnStep}
-use Rattle.candidate_source.specs.Sources.{handed_gone, handed_come, in_list, is_lead, is_led, is_this, lead_of, source_at, source_place, AreApart, AreOthersAtRest, HasTurnedAt, HaveForgotten, HaveLeftAt, HaveTurned, IsAtRest}
-use Rattle.candidate_source.proofs.Sharing.{left_at, turned_at}
-use Rattle.candidate_source.proofs.Turning.{none_once}
+use Rattle.pattern_gate.specs.{Moves.{MovesSnapshot}, Gates.{GateStands}}
 
 -- no candidate
 abbrev none : Delta

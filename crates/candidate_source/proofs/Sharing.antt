@@ -1,18 +1,13 @@
 -- What a turn of candidates that are kept once is for a node which takes them in place of its own.
-use Rattle.candidate_source.proofs.Common.{◌∙◌, ap, sym, refl, subst, ◌≡◌, ℕ, List, Bool, true, false, not, ◌&&◌, ◌||◌, false≢true, is_some}
-use Rattle.candidate_source.proofs.Common.{Value, same_value, Delta, Named, Row, name_cmp, has, Pattern, at, JoinIndex, Look, joins, rows_sought, row_value}
-use Rattle.candidate_source.proofs.Common.{Candidates, Memories, has_candidate, row_naming, has_name, has_left, has_right, sharing, KeepsAlike, KeepsNames, NamesAgree, TakesOver}
-use Rattle.candidate_source.proofs.Common.{ForgoesOld, BTreeMap, Handed, Source, gone_at, come_at, is_under_one, IsReached, concerns, AreOnce, HasTurned, HaveLeft, TurnLaw, ForgetLaw}
+use Rattle.candidate_source.proofs.Common.{◌∙◌, ap, sym, refl, subst, ◌≡◌, ℕ, List, Bool, true, false, not, ◌&&◌, ◌||◌, false≢true, is_some, Value, same_value}
+use Rattle.candidate_source.proofs.Common.{Delta, Named, Row, name_cmp, has, Pattern, at, JoinIndex, Look, joins, rows_sought, row_value, Candidates, Memories}
+use Rattle.candidate_source.proofs.Common.{has_candidate, row_naming, has_name, has_left, has_right, sharing, KeepsAlike, KeepsNames, NamesAgree, TakesOver}
+use Rattle.candidate_source.proofs.Common.{ForgoesOld, BTreeMap, Handed, Source, gone_at, come_at, is_under_one, IsReached, concerns, AreOnce, HasTurned}
+use Rattle.candidate_source.{proofs.Common.{HaveLeft, TurnLaw, ForgetLaw}, specs.{Handed.{IsUnhanded}, Reached.{FindsLeft}, Sources.{HasTurnedAt, HaveLeftAt}}}
+use Rattle.candidate_source.{specs.Sources.{TurnAtLaw, ForgetAtLaw}, proofs.Places.{under_among}}
 use Rattle.fx_base.proofs.Tests.{and_first}
-use Rattle.join_tests.proofs.Meeting.{row_sought}
-use Rattle.join_tests.proofs.Naming.{kept_alike, sought_alike}
-use Rattle.join_tests.specs.NameKeys.{name_key}
-use Rattle.rule_model.specs.declared.program.Program.{Program}
-use Rattle.rule_model.specs.Snapshots.{Snapshot}
-use Rattle.candidate_source.specs.Handed.{IsUnhanded}
-use Rattle.candidate_source.specs.Reached.{FindsLeft}
-use Rattle.candidate_source.specs.Sources.{HasTurnedAt, HaveLeftAt, TurnAtLaw, ForgetAtLaw}
-use Rattle.candidate_source.proofs.Places.{under_among}
+use Rattle.join_tests.{proofs.{Meeting.{row_sought}, Naming.{kept_alike, sought_alike}}, specs.NameKeys.{name_key}}
+use Rattle.rule_model.specs.{declared.program.Program.{Program}, Snapshots.{Snapshot}}
 
 -- ---- what a difference that is a true one tells
 

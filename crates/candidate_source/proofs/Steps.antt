@@ -1,17 +1,14 @@
 -- A step of the gate, and then of the candidates.
-use Rattle.candidate_source.proofs.Common.{◌∙◌, ap, sym, subst, ◌≡◌, ℕ, List, Bool, true, false, not, ◌&&◌, ◌||◌, false≢true, is_some, BTreeMap, Value, same_value, Delta, Named}
-use Rattle.candidate_source.proofs.Common.{name_cmp, has, Pattern, JoinIndex, at, is_under, Look, rows_sought, Candidates, has_candidate, row_naming, has_name, KeepsNames, NamesAgree, Handed, Source, gone_at, come_at}
-use Rattle.candidate_source.proofs.Common.{is_under_one, concerns, AreOnce, LeavesOthers, HaveLeft, HaveCome, HasTurned}
+use Rattle.candidate_source.proofs.Common.{◌∙◌, ap, sym, subst, ◌≡◌, ℕ, List, Bool, true, false, not, ◌&&◌, ◌||◌, false≢true, is_some, BTreeMap, Value}
+use Rattle.candidate_source.proofs.Common.{same_value, Delta, Named, name_cmp, has, Pattern, JoinIndex, at, is_under, Look, rows_sought, Candidates}
+use Rattle.candidate_source.proofs.Common.{has_candidate, row_naming, has_name, KeepsNames, NamesAgree, Handed, Source, gone_at, come_at, is_under_one}
+use Rattle.candidate_source.proofs.{Common.{concerns, AreOnce, LeavesOthers, HaveLeft, HaveCome, HasTurned}, Turning.{once_alike}}
 use Rattle.std.proofs.Math.Bool.{and-true}
 use Rattle.fx_base.proofs.Tests.{and_where}
-use Rattle.rule_model.specs.declared.program.Program.{Program}
-use Rattle.rule_model.specs.Snapshots.{Snapshot}
-use Rattle.pair_memory.specs.Inputs.{IsNameDifference}
-use Rattle.pair_memory.specs.Standing.{no_names}
+use Rattle.rule_model.specs.{declared.program.Program.{Program}, Snapshots.{Snapshot}}
+use Rattle.pair_memory.specs.{Inputs.{IsNameDifference}, Standing.{no_names}}
 use Rattle.condition_rows.specs.Sets.{candidates_of}
-use Rattle.pattern_gate.specs.declared.gate.PatternGate.{PatternGate}
-use Rattle.pattern_gate.specs.Gates.{GateStands}
-use Rattle.candidate_source.proofs.Turning.{once_alike}
+use Rattle.pattern_gate.specs.{declared.gate.PatternGate.{PatternGate}, Gates.{GateStands}}
 
 -- what comes does not go, in a true difference
 not_both : (old new gone come : Bool) → gone ≡ (old && not new) → come ≡ (new && not old) → come ≡ true → gone ≡ false

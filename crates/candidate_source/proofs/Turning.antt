@@ -1,16 +1,12 @@
 -- Candidates leave or come, one after another, and are handed on.
-use Rattle.candidate_source.proofs.Common.{◌∙◌, ap, sym, refl, subst, ◌≡◌, ℕ, ◌+◌, ◌<◌, List, [], ◌∷◌, ◌++◌, length, take, get_or, Bool, true, false, cond, not, ◌&&◌, ◌||◌}
-use Rattle.candidate_source.proofs.Common.{Option, is_some, append-nil, false≢true, eq_by_cmp, BTreeMap, Pattern, Sight, Look, Named, name_cmp, name_equiv, any_name}
-use Rattle.candidate_source.proofs.Common.{rows_sought, SeesRows, Candidates, has_candidate, has_name, AreDistinct, KeepsNames, Handed, Turned, Gone, Came, Source, gone_at, come_at}
-use Rattle.candidate_source.proofs.Common.{IsHandedTo, is_under_one, is_sought, concerns, AreOnce, LeavesOthers, HaveLeft, HaveCome, went, came}
-use Rattle.std.specs.Prelude.{IfSome}
-use Rattle.std.proofs.lemmas.List.Folds.{list_any-append}
+use Rattle.candidate_source.proofs.Common.{◌∙◌, ap, sym, refl, subst, ◌≡◌, ℕ, ◌+◌, ◌<◌, List, [], ◌∷◌, ◌++◌, length, take, get_or, Bool, true, false, cond, not}
+use Rattle.candidate_source.proofs.Common.{◌&&◌, ◌||◌, Option, is_some, append-nil, false≢true, eq_by_cmp, BTreeMap, Pattern, Sight, Look, Named, name_cmp}
+use Rattle.candidate_source.proofs.Common.{name_equiv, any_name, rows_sought, SeesRows, Candidates, has_candidate, has_name, AreDistinct, KeepsNames, Handed}
+use Rattle.candidate_source.proofs.Common.{Turned, Gone, Came, Source, gone_at, come_at, IsHandedTo, is_under_one, is_sought, concerns, AreOnce, LeavesOthers}
+use Rattle.candidate_source.proofs.{Common.{HaveLeft, HaveCome, went, came}, Behind.{none_behind}, Places.{sought_by, unreached_sought}}
+use Rattle.std.{specs.Prelude.{IfSome}, proofs.lemmas.List.Folds.{list_any-append}}
 use Rattle.fx_base.proofs.Tests.{and_first, or_first_false, or_second_false}
-use Rattle.pair_memory.proofs.Joining.{name_decides}
-use Rattle.pair_memory.proofs.Sharing.{went_more, less_none, more_none}
-use Rattle.pair_memory.proofs.Turning.{less_more, more_more}
-use Rattle.candidate_source.proofs.Behind.{none_behind}
-use Rattle.candidate_source.proofs.Places.{sought_by, unreached_sought}
+use Rattle.pair_memory.proofs.{Joining.{name_decides}, Sharing.{went_more, less_none, more_none}, Turning.{less_more, more_more}}
 
 -- ---- lists of candidates, each once
 

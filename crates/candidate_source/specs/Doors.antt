@@ -4,9 +4,7 @@ use Rattle.fx_base.specs.declared.value.Value.{Value}
 use Rattle.rule_model.specs.declared.condition.Pattern.{Pattern}
 use Rattle.pair_memory.specs.declared.candidates.Candidates.{Candidates}
 use Rattle.pattern_gate.specs.declared.gate.PatternGate.{PatternGate}
-use Rattle.candidate_source.specs.declared.source.Source.{Source}
-use Rattle.candidate_source.specs.declared.sources.Sources.{Sources}
-use Rattle.candidate_source.specs.Reached.{is_under}
+use Rattle.candidate_source.specs.{declared.{source.Source.{Source}, sources.Sources.{Sources}}, Reached.{is_under}}
 
 -- by whose pattern they are taken and kept
 abbrev pub source_pattern : Source → Pattern

@@ -1,11 +1,7 @@
 -- What of a turn of candidates is handed to the nodes in which places.
-use Rattle.std.specs.Prelude.{◌≡◌, ℕ, Bool, cond, List, [], ◌∷◌, ◌++◌, Option, Some, None}
-use Rattle.std.specs.BTreeMap.{BTreeMap, get}
-use Rattle.std.specs.Ordering.{nat_cmp}
+use Rattle.std.specs.{Prelude.{◌≡◌, ℕ, Bool, cond, List, [], ◌∷◌, ◌++◌, Option, Some, None}, BTreeMap.{BTreeMap, get}, Ordering.{nat_cmp}}
 use Rattle.row_delta.specs.declared.row.Named.{Named}
-use Rattle.candidate_source.specs.declared.handed.Handed.{Handed}
-use Rattle.candidate_source.specs.declared.handed.Turned.{Turned}
-use Rattle.candidate_source.specs.declared.handed.Turned.TheVariants.{Gone, Came}
+use Rattle.candidate_source.specs.declared.handed.{Handed.{Handed}, Turned.{Turned, TheVariants.{Gone, Came}}}
 
 -- the candidate, if it went
 abbrev pub went : Turned → List Named

@@ -1,18 +1,11 @@
 -- Sources that move, one after another: those whose first nodes are in some places.
-use Rattle.std.specs.Prelude.{◌≡◌, ℤ, ℕ, Bool, true, false, List, Option, Some}
-use Rattle.std.specs.BTreeMap.{BTreeMap}
+use Rattle.std.specs.{Prelude.{◌≡◌, ℤ, ℕ, Bool, true, false, List, Option, Some}, BTreeMap.{BTreeMap}}
 use Rattle.fx_base.specs.declared.fact.Fact.{Fact}
-use Rattle.rule_model.specs.declared.program.Program.{Program}
-use Rattle.rule_model.specs.Snapshots.{Snapshot}
+use Rattle.rule_model.specs.{declared.program.Program.{Program}, Snapshots.{Snapshot}}
 use Rattle.join_tests.specs.Joins.{Look}
-use Rattle.pattern_gate.specs.Gates.{GateStands, has_good_window}
-use Rattle.pattern_gate.specs.Moves.{MovesSnapshot}
-use Rattle.candidate_source.specs.declared.handed.Handed.{Handed}
-use Rattle.candidate_source.specs.declared.source.Source.{Source}
-use Rattle.candidate_source.specs.declared.sources.Sources.{Sources}
-use Rattle.candidate_source.specs.Handed.{gone_at, come_at}
-use Rattle.candidate_source.specs.Sources.{source_at, lead_of, is_led, handed_gone, handed_come}
-use Rattle.candidate_source.specs.Turns.{HasTurned, LeavesOthers}
+use Rattle.pattern_gate.specs.{Gates.{GateStands, has_good_window}, Moves.{MovesSnapshot}}
+use Rattle.candidate_source.specs.{declared.{handed.Handed.{Handed}, source.Source.{Source}, sources.Sources.{Sources}}, Handed.{gone_at, come_at}}
+use Rattle.candidate_source.specs.{Sources.{source_at, lead_of, is_led, handed_gone, handed_come}, Turns.{HasTurned, LeavesOthers}}
 
 -- what a source becomes, and what is handed meanwhile
 abbrev pub Step : Type 1

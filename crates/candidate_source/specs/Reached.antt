@@ -1,19 +1,10 @@
 -- Under which values of rows the nodes in which places are found.
-use Rattle.std.specs.Prelude.{◌≡◌, ℕ, Bool, true, false, List, Option, Some, None}
-use Rattle.std.specs.List.{list_any}
-use Rattle.std.specs.Option.{is_some}
-use Rattle.std.specs.Ordering.{eq_by_cmp, nat_cmp}
-use Rattle.fx_base.specs.declared.value.Value.{Value}
-use Rattle.fx_base.specs.Values.{same_value}
-use Rattle.row_delta.specs.declared.row.Row.{Row}
-use Rattle.row_delta.specs.Rows.{row_cmp}
-use Rattle.alpha_memory.specs.declared.join_index.JoinIndex.{JoinIndex}
-use Rattle.alpha_memory.specs.JoinIndex.{at}
-use Rattle.join_tests.specs.declared.sought.Sight.{Sight}
-use Rattle.join_tests.specs.Joins.{Look}
-use Rattle.join_tests.specs.Kept.{row_value, values_seen}
-use Rattle.pair_memory.specs.declared.memories.Memories.{Memories}
-use Rattle.pair_memory.specs.Memories.{has_left}
+use Rattle.std.specs.{Prelude.{◌≡◌, ℕ, Bool, true, false, List, Option, Some, None}, List.{list_any}, Option.{is_some}, Ordering.{eq_by_cmp, nat_cmp}}
+use Rattle.fx_base.specs.{declared.value.Value.{Value}, Values.{same_value}}
+use Rattle.row_delta.specs.{declared.row.Row.{Row}, Rows.{row_cmp}}
+use Rattle.alpha_memory.specs.{declared.join_index.JoinIndex.{JoinIndex}, JoinIndex.{at}}
+use Rattle.join_tests.specs.{declared.sought.Sight.{Sight}, Joins.{Look}, Kept.{row_value, values_seen}}
+use Rattle.pair_memory.specs.{declared.memories.Memories.{Memories}, Memories.{has_left}}
 
 -- whether a place is in a list
 abbrev pub has_place : List ℕ → ℕ → Bool

@@ -1,34 +1,17 @@
 -- The sources of the nodes of a network: of which source a node is, and what steps of the sources hand to it.
-use Rattle.std.specs.Prelude.{◌≡◌, ◌==◌, ◌&&◌, ◌||◌, not, ℕ, ℤ, Bool, true, false, List, [], length, Option, Some, None, slice_get}
-use Rattle.std.specs.Borrow.{Bor}
+use Rattle.std.specs.{Prelude.{◌≡◌, ◌==◌, ◌&&◌, ◌||◌, not, ℕ, ℤ, Bool, true, false, List, [], length, Option, Some, None, slice_get}, Borrow.{Bor}}
 use Rattle.std.specs.Global.{Vec}
-use Rattle.fx_base.specs.declared.fact.Fact.{Fact}
-use Rattle.fx_base.specs.declared.value.Value.{Value}
-use Rattle.fx_base.specs.Values.{same_value}
-use Rattle.row_delta.specs.declared.delta.Delta.{Delta}
-use Rattle.row_delta.specs.declared.row.Named.{Named}
-use Rattle.row_delta.specs.NameOrder.{name_cmp}
-use Rattle.row_delta.specs.Rows.{has}
-use Rattle.rule_model.specs.declared.condition.Pattern.{Pattern}
-use Rattle.rule_model.specs.declared.program.Program.{Program}
-use Rattle.rule_model.specs.Lent.{lent}
-use Rattle.rule_model.specs.Snapshots.{Snapshot}
+use Rattle.fx_base.specs.{declared.{fact.Fact.{Fact}, value.Value.{Value}}, Values.{same_value}}
+use Rattle.row_delta.specs.{declared.{delta.Delta.{Delta}, row.Named.{Named}}, NameOrder.{name_cmp}, Rows.{has}}
+use Rattle.rule_model.specs.{declared.{condition.Pattern.{Pattern}, program.Program.{Program}}, Lent.{lent}, Snapshots.{Snapshot}}
 use Rattle.alpha_memory.specs.JoinIndex.{at}
 use Rattle.join_tests.specs.Joins.{Look}
-use Rattle.pair_memory.specs.declared.memories.Memories.{Memories}
-use Rattle.pair_memory.specs.Apart.{has_candidate}
-use Rattle.pair_memory.specs.Inputs.{row_naming, IsNameDifference}
-use Rattle.pair_memory.specs.Joined.{has_name}
+use Rattle.pair_memory.specs.{declared.memories.Memories.{Memories}, Apart.{has_candidate}, Inputs.{row_naming, IsNameDifference}, Joined.{has_name}}
 use Rattle.pair_memory.specs.Shared.{sharing, KeepsAlike, KeepsNames, NamesAgree, TakesOver, ForgoesOld}
-use Rattle.condition_rows.specs.Looks.{empty_snapshot}
-use Rattle.condition_rows.specs.Sets.{candidates_of}
-use Rattle.pattern_gate.specs.Gates.{GateStands, has_good_window}
-use Rattle.pattern_gate.specs.Moves.{IsOrderly, MovesSnapshot}
-use Rattle.candidate_source.specs.declared.source.Source.{Source}
-use Rattle.candidate_source.specs.declared.sources.Sources.{Sources}
-use Rattle.candidate_source.specs.Handed.{gone_at, come_at, IsUnhanded}
-use Rattle.candidate_source.specs.Reached.{has_place, FindsLeft, IsUnreached}
-use Rattle.candidate_source.specs.Turns.{concerns, AreOnce}
+use Rattle.condition_rows.specs.{Looks.{empty_snapshot}, Sets.{candidates_of}}
+use Rattle.pattern_gate.specs.{Gates.{GateStands, has_good_window}, Moves.{IsOrderly, MovesSnapshot}}
+use Rattle.candidate_source.specs.{declared.{source.Source.{Source}, sources.Sources.{Sources}}, Handed.{gone_at, come_at, IsUnhanded}, Reached.{has_place}}
+use Rattle.candidate_source.specs.{Reached.{FindsLeft, IsUnreached}, Turns.{concerns, AreOnce}}
 
 -- ---- of which source a node is
 

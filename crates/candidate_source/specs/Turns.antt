@@ -1,24 +1,14 @@
 -- What a step and forgetting do with candidates that are kept once, and what of it is handed to the nodes.
-use Rattle.std.specs.Prelude.{◌≡◌, ◌&&◌, ◌||◌, not, ℕ, Bool, List, []}
-use Rattle.std.specs.BTreeMap.{BTreeMap}
-use Rattle.row_delta.specs.declared.delta.Delta.{Delta}
-use Rattle.row_delta.specs.declared.row.Named.{Named}
-use Rattle.row_delta.specs.Rows.{has}
-use Rattle.rule_model.specs.declared.program.Program.{Program}
-use Rattle.rule_model.specs.Snapshots.{Snapshot}
-use Rattle.join_tests.specs.Joins.{Look}
-use Rattle.join_tests.specs.Kept.{rows_sought}
-use Rattle.pair_memory.specs.declared.memories.Memories.{Memories}
-use Rattle.pair_memory.specs.Apart.{has_candidate}
-use Rattle.pair_memory.specs.Inputs.{row_naming, IsNameDifference}
-use Rattle.pair_memory.specs.Joined.{has_name, AreDistinct}
-use Rattle.pair_memory.specs.Shared.{sharing, KeepsAlike, KeepsNames, TakesOver, ForgoesOld}
+use Rattle.std.specs.{Prelude.{◌≡◌, ◌&&◌, ◌||◌, not, ℕ, Bool, List, []}, BTreeMap.{BTreeMap}}
+use Rattle.row_delta.specs.{declared.{delta.Delta.{Delta}, row.Named.{Named}}, Rows.{has}}
+use Rattle.rule_model.specs.{declared.program.Program.{Program}, Snapshots.{Snapshot}}
+use Rattle.join_tests.specs.{Joins.{Look}, Kept.{rows_sought}}
+use Rattle.pair_memory.specs.{declared.memories.Memories.{Memories}, Apart.{has_candidate}, Inputs.{row_naming, IsNameDifference}, Joined.{has_name}}
+use Rattle.pair_memory.specs.{Joined.{AreDistinct}, Shared.{sharing, KeepsAlike, KeepsNames, TakesOver, ForgoesOld}}
 use Rattle.condition_rows.specs.Sets.{candidates_of}
 use Rattle.pattern_gate.specs.Gates.{GateStands}
-use Rattle.candidate_source.specs.declared.handed.Handed.{Handed}
-use Rattle.candidate_source.specs.declared.source.Source.{Source}
-use Rattle.candidate_source.specs.Handed.{gone_at, come_at, IsUnhanded}
-use Rattle.candidate_source.specs.Reached.{is_under_one, IsReached, IsUnreached}
+use Rattle.candidate_source.specs.{declared.{handed.Handed.{Handed}, source.Source.{Source}}, Handed.{gone_at, come_at, IsUnhanded}, Reached.{is_under_one}}
+use Rattle.candidate_source.specs.Reached.{IsReached, IsUnreached}
 
 -- the node in a place is found under a value of the rows that are sought for the candidate
 abbrev pub concerns : Source → Look → Named → ℕ → Bool

@@ -3,19 +3,13 @@ use Rattle.change_read.proofs.Common.{◌≡◌, ◌≤◌, ◌<◌, ◌==◌, �
 use Rattle.change_read.proofs.Common.{Ok, Err, refl, subst, lt-ltb, arith, slice_get, Kind, TypeInfo, type_named, entry_asked, values_step, new_step}
 use Rattle.change_read.proofs.Common.{insert_step, sets_step, modify_step, retract_step, promise_step, are_fields, are_some_fields, given_under, value_given}
 use Rattle.change_read.proofs.Common.{field_value, field_named, set_for, list_all, option_and_then, FactId, Value, EventFixed, ReferenceFixed, Absent}
-use Rattle.change_read.proofs.Common.{BadFields, Given}
-use Rattle.std.proofs.Common.{Bool as Truth}
-use Rattle.change_read.specs.Changes.{change_step}
-use Rattle.change_read.specs.Fields.{values_given, sets_given}
-use Rattle.std.proofs.lemmas.Bool.Decides.{Decides-eqb}
+use Rattle.change_read.{proofs.{Common.{BadFields, Given}, Places.{some_is, stands}}, specs.{Changes.{change_step}, Fields.{values_given, sets_given}}}
+use Rattle.change_read.proofs.Places.{type_stands, entry_within, FieldAt, field_stands}
+use Rattle.std.proofs.{Common.{Bool as Truth}, lemmas.Bool.Decides.{Decides-eqb}}
 use Rattle.fx_base.specs.declared.fact.Fact.{Fact}
-use Rattle.rule_world.specs.Kinds.{has_kind, have_kinds, set_fits, step_fits}
-use Rattle.rule_model.specs.declared.program.Program.{Program}
-use Rattle.rule_model.specs.declared.step.Step.{Step}
-use Rattle.rule_world.specs.declared.code.Code.{Code}
-use Rattle.script_read.specs.declared.asked.Change.{Change}
-use Rattle.script_read.specs.declared.asked.Change.TheVariants.{Insert, Modify, Retract, Advance, At, Promise, Begin}
-use Rattle.change_read.proofs.Places.{some_is, stands, type_stands, entry_within, FieldAt, field_stands}
+use Rattle.rule_world.specs.{Kinds.{has_kind, have_kinds, set_fits, step_fits}, declared.code.Code.{Code}}
+use Rattle.rule_model.specs.declared.{program.Program.{Program}, step.Step.{Step}}
+use Rattle.script_read.specs.declared.asked.Change.{Change, TheVariants.{Insert, Modify, Retract, Advance, At, Promise, Begin}}
 use Rattle.fx_base.specs.declared.kind.Kind.TheVariants as kind
 use Rattle.rule_model.specs.declared.step.Step.TheVariants as step
 use Rattle.fx_base.specs.declared.value.Value.TheVariants as value

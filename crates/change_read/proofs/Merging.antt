@@ -5,17 +5,11 @@ use Rattle.change_read.proofs.Common.{option_map, Err, option_and_then, FactId, 
 use Rattle.change_read.proofs.Common.{are_some_fields, get_or-map, length-take-le, take_all, take_more, bytes_decides, slice_cmp, IsAllAdjacentAnswer, list_all}
 use Rattle.change_read.proofs.Common.{nat_cmp, is_lt, is_eq, ordering_index, bytes_eq, Given, fields_step, sets_step, name_cmp, IsRising, earlier_of, fields_of}
 use Rattle.change_read.specs.Fields.{given_under, field_named, sets_given}
-use Rattle.std.proofs.Math.Nat.{eq-or-lt_of_le}
-use Rattle.std.proofs.lemmas.Bool.{cases_lt}
-use Rattle.std.proofs.lemmas.Cmp.{nat_list_eq_equiv}
-use Rattle.std.proofs.Math.Bool.{and-false, and-true}
+use Rattle.std.proofs.{Math.{Nat.{eq-or-lt_of_le}, Bool.{and-false, and-true}}, lemmas.{Bool.{cases_lt}, Cmp.{nat_list_eq_equiv}, Map.Keys.{Less-from_sorted}}}
+use Rattle.std.{proofs.lemmas.Map.{Keys.{sorted_from_all_adjacent}, Text.{is_eq-slice_cmp}}, specs.List.Sorted.{IsStrictlySortedBy, IsNonDecreasingBy}}
+use Rattle.std.specs.{List.Sorted.{IsPartitionPoint}, declared.cmp.Ordering.TheVariants.{Less, Equal, Greater}}
 use Rattle.fx_base.proofs.Sequences.{drop_at, drop_past}
-use Rattle.std.proofs.lemmas.Map.Keys.{Less-from_sorted, sorted_from_all_adjacent}
-use Rattle.std.proofs.lemmas.Map.Text.{is_eq-slice_cmp}
-use Rattle.std.specs.List.Sorted.{IsStrictlySortedBy, IsNonDecreasingBy, IsPartitionPoint}
-use Rattle.std.specs.declared.cmp.Ordering.TheVariants.{Less, Equal, Greater}
-use Rattle.script_read.specs.declared.given.Given.TheVariants.{Other}
-use Rattle.script_read.proofs.Rising.{names_total, less_of, parted as in_parts}
+use Rattle.script_read.{specs.declared.given.Given.TheVariants.{Other}, proofs.Rising.{names_total, less_of, parted as in_parts}}
 
 abbrev pub Member : Type 0
 Member = List ℕ × Given

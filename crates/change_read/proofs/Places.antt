@@ -1,9 +1,7 @@
 -- What a name finds in a list stands in its place.
 use Rattle.change_read.proofs.Common.{◌≡◌, ◌<◌, ◌+◌, ℕ, suc, Bool, true, false, cond, List, [], ◌∷◌, length, Option, Some, refl, subst, arith, slice_get, Kind}
-use Rattle.change_read.proofs.Common.{TypeInfo, bytes_eq}
+use Rattle.change_read.{proofs.Common.{TypeInfo, bytes_eq}, specs.{Changes.{type_named, entry_named}, Fields.{field_named}}}
 use Rattle.rule_model.specs.declared.program.EntryInfo.{EntryInfo}
-use Rattle.change_read.specs.Changes.{type_named, entry_named}
-use Rattle.change_read.specs.Fields.{field_named}
 
 -- equal options have equal values
 pub some_is : {A : Type 0} {x y : A} → Some x ≡ Some y → x ≡ y

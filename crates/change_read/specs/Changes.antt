@@ -1,19 +1,9 @@
 -- The step that a change of the script asks for, or its fault. The faults are tried in their order.
-use Rattle.std.specs.Prelude.{ℕ, ◌+◌, ◌&&◌, Bool, List, [], ◌∷◌, Option, Some, None, Result, Ok, Err, ℤ, if◌then◌else◌}
-use Rattle.std.specs.Str.{bytes_eq}
-use Rattle.fx_base.specs.declared.ids.FactId.{FactId}
-use Rattle.fx_base.specs.declared.kind.Kind.{Kind}
-use Rattle.fx_base.specs.declared.value.Value.{Value}
-use Rattle.fx_base.specs.declared.fact.Fact.{Fact}
-use Rattle.rule_model.specs.declared.program.EntryInfo.{EntryInfo}
-use Rattle.rule_model.specs.declared.program.Program.{Program}
-use Rattle.rule_model.specs.declared.program.TypeInfo.{TypeInfo}
-use Rattle.rule_model.specs.declared.step.Step.{Step}
-use Rattle.script_read.specs.declared.given.Given.{Given}
-use Rattle.script_read.specs.declared.asked.Change.{Change}
-use Rattle.script_read.specs.declared.asked.Change.TheVariants.{Insert, Modify, Retract, Advance, At, Promise, Begin}
-use Rattle.rule_world.specs.declared.code.Code.{Code}
-use Rattle.rule_world.specs.declared.code.Code.TheVariants.{UnknownType, UnknownEntry, EventFixed, ReferenceFixed, Absent, BadFields, BadValue}
+use Rattle.std.specs.{Prelude.{ℕ, ◌+◌, ◌&&◌, Bool, List, [], ◌∷◌, Option, Some, None, Result, Ok, Err, ℤ, if◌then◌else◌}, Str.{bytes_eq}}
+use Rattle.fx_base.specs.declared.{ids.FactId.{FactId}, kind.Kind.{Kind}, value.Value.{Value}, fact.Fact.{Fact}}
+use Rattle.rule_model.specs.declared.{program.{EntryInfo.{EntryInfo}, Program.{Program}, TypeInfo.{TypeInfo}}, step.Step.{Step}}
+use Rattle.script_read.specs.declared.{given.Given.{Given}, asked.Change.{Change, TheVariants.{Insert, Modify, Retract, Advance, At, Promise, Begin}}}
+use Rattle.rule_world.specs.declared.code.Code.{Code, TheVariants.{UnknownType, UnknownEntry, EventFixed, ReferenceFixed, Absent, BadFields, BadValue}}
 use Rattle.rule_world.specs.Worlds.{is_of_type}
 use Rattle.change_read.specs.Fields.{are_fields, are_some_fields, values_given, sets_given}
 use Rattle.rule_model.specs.declared.step.Step.TheVariants as step

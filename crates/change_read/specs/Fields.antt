@@ -1,10 +1,7 @@
 -- The values that a change gives to fields.
 use Rattle.std.specs.Prelude.{ℕ, ◌+◌, ◌&&◌, Bool, List, [], ◌∷◌, length, nat_le, nat_lt, Option, Some, None, is_some, option_map, if◌then◌else◌}
-use Rattle.std.specs.List.{list_any, list_all}
-use Rattle.std.specs.Option.{option_and_then}
-use Rattle.std.specs.Str.{bytes_eq}
-use Rattle.fx_base.specs.declared.kind.Kind.{Kind}
-use Rattle.fx_base.specs.declared.value.Value.{Value}
+use Rattle.std.specs.{List.{list_any, list_all}, Option.{option_and_then}, Str.{bytes_eq}}
+use Rattle.fx_base.specs.declared.{kind.Kind.{Kind}, value.Value.{Value}}
 use Rattle.script_read.specs.declared.given.Given.{Given}
 use Rattle.fx_base.specs.declared.kind.Kind.TheVariants as kind
 use Rattle.fx_base.specs.declared.value.Value.TheVariants as value

@@ -1,19 +1,12 @@
 -- Names that are apart, and patterns of types and entry points that are there.
-use Rattle.change_rules.proofs.Common.{Option, Program, Some, TypeInfo, List, [], ap, arith, cases_lt, get_or, inl, inr, length, subst, sym}
-use Rattle.change_rules.proofs.Common.{true, type_named, ℕ, ◌+◌, ◌<◌, ◌∙◌, ◌∷◌, ◌≡◌}
-use Rattle.std.proofs.Common.{Bool, cond, false, option_map, refl, slice_get, suc, zero}
-use Rattle.change_read.specs.Changes.{entry_named}
-use Rattle.change_rules.specs.Checked.{AreFirstEntries, AreFirstTypes, HaveConditionPlaces}
-use Rattle.fx_base.proofs.Sequences.{In-place}
-use Rattle.rule_change.proofs.Places.{type_back}
-use Rattle.rule_change.specs.Alike.{HaveNames, HavePlaces}
-use Rattle.rule_model.proofs.RuleOf.{in_place}
-use Rattle.rule_model.specs.declared.program.EntryInfo.{EntryInfo}
-use Rattle.rule_model.specs.declared.program.Rule.{Rule}
-use Rattle.std.proofs.lemmas.Option.{get_or_from_slice_get}
-use Rattle.std.proofs.lemmas.Slice.Eq.{bytes_eq-Decides}
+use Rattle.change_rules.proofs.Common.{Option, Program, Some, TypeInfo, List, [], ap, arith, cases_lt, get_or, inl, inr, length, subst, sym, true, type_named}
+use Rattle.change_rules.{proofs.Common.{ℕ, ◌+◌, ◌<◌, ◌∙◌, ◌∷◌, ◌≡◌}, specs.Checked.{AreFirstEntries, AreFirstTypes, HaveConditionPlaces}}
+use Rattle.std.proofs.{Common.{Bool, cond, false, option_map, refl, slice_get, suc, zero}, lemmas.{Option.{get_or_from_slice_get}, Slice.Eq.{bytes_eq-Decides}}}
 use Rattle.std.specs.Str.{bytes_eq}
-use Rattle.change_read.proofs.Places.{some_is}
+use Rattle.change_read.{specs.Changes.{entry_named}, proofs.Places.{some_is}}
+use Rattle.fx_base.proofs.Sequences.{In-place}
+use Rattle.rule_change.{proofs.Places.{type_back}, specs.Alike.{HaveNames, HavePlaces}}
+use Rattle.rule_model.{proofs.RuleOf.{in_place}, specs.declared.program.{EntryInfo.{EntryInfo}, Rule.{Rule}}}
 
 one_place : (a b : ℕ) (found : Option ℕ) → found ≡ Some a → found ≡ Some b → a ≡ b
 one_place a b found e h = let both : Some a ≡ Some b = sym e ∙ h in cc

@@ -4,10 +4,7 @@ use Rattle.change_rules.proofs.Common.{length, length-append, list_any, place_in
 use Rattle.change_read.proofs.Places.{some_is}
 use Rattle.rule_change.specs.Changed.{AreFrom, IsSameRule, moved_rule}
 use Rattle.rule_model.proofs.Firsts.{or_split}
-use Rattle.std.proofs.Common.{Bool, false, suc, zero, ◌||◌, ◌⊎◌}
-use Rattle.std.proofs.Math.Nat.{eq-or-lt_of_le}
-use Rattle.std.proofs.lemmas.Bool.{eq-eqb, eqb-true}
-use Rattle.std.proofs.lemmas.Option.{get_or_from_slice_get}
+use Rattle.std.proofs.{Common.{Bool, false, suc, zero, ◌||◌, ◌⊎◌}, Math.Nat.{eq-or-lt_of_le}, lemmas.{Bool.{eq-eqb, eqb-true}, Option.{get_or_from_slice_get}}}
 use Rattle.std.specs.Prelude.{slice_get}
 
 -- ---- lists of places

@@ -1,11 +1,7 @@
 -- Which lives are as long as others.
-use Rattle.std.specs.Prelude.{◌≡◌, ◌^◌, ◌&&◌, int_le, Bool, true, false, List, [], ◌∷◌, pos}
-use Rattle.std.specs.Ordering.{int_eq}
+use Rattle.std.specs.{Prelude.{◌≡◌, ◌^◌, ◌&&◌, int_le, Bool, true, false, List, [], ◌∷◌, pos}, Ordering.{int_eq}}
 use Rattle.life_meaning.specs.Tables.{AreLives, IsSafeTable}
-use Rattle.rule_model.specs.Lives.{AreShort}
-use Rattle.rule_model.specs.declared.life.Life.{Life}
-use Rattle.rule_model.specs.declared.life.Life.TheVariants.{Plain, Explicit, Finite, Infinite}
-use Rattle.rule_model.specs.declared.life.LifeTable.{LifeTable}
+use Rattle.rule_model.specs.{Lives.{AreShort}, declared.life.{Life.{Life, TheVariants.{Plain, Explicit, Finite, Infinite}}, LifeTable.{LifeTable}}}
 use Rattle.rule_model.specs.declared.program.Program.{Program}
 
 -- A life is as long as a type's own one: of the same kind, a finite one at least as long and at most 2^62 ms, and for a finite one also one for ever.

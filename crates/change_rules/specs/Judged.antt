@@ -1,17 +1,10 @@
 -- What is asked of other rules, place by place.
 use Rattle.std.specs.Prelude.{◌≡◌, ℕ, ℤ, true, List, Option, Some, None, slice_get}
 use Rattle.fx_base.specs.declared.ids.TypeId.{TypeId}
-use Rattle.rule_model.specs.declared.life.Life.{Life}
-use Rattle.rule_model.specs.declared.life.Life.TheVariants.{Finite}
-use Rattle.rule_model.specs.declared.life.LifeTable.{LifeTable}
-use Rattle.rule_model.specs.declared.program.EntryInfo.{EntryInfo}
-use Rattle.rule_model.specs.declared.program.Program.{Program}
-use Rattle.rule_model.specs.declared.program.Rule.{Rule}
-use Rattle.rule_model.specs.declared.program.TypeInfo.{TypeInfo}
-use Rattle.rule_change.specs.Changed.{entry_in, type_in}
-use Rattle.rule_change.specs.Refused.{IsCountedAnew, IsFirstPlace, IsLonger, IsSameType, counts_type, is_longer}
-use Rattle.rule_change.specs.declared.code.ChangeCode.{ChangeCode}
-use Rattle.rule_change.specs.declared.code.ChangeCode.TheVariants.{OtherTypes, OtherEntries, Pending, Longer, Forgotten}
+use Rattle.rule_model.specs.declared.{life.{Life.{Life, TheVariants.{Finite}}, LifeTable.{LifeTable}}, program.{EntryInfo.{EntryInfo}, Program.{Program}}}
+use Rattle.rule_model.specs.declared.program.{Rule.{Rule}, TypeInfo.{TypeInfo}}
+use Rattle.rule_change.specs.{Changed.{entry_in, type_in}, Refused.{IsCountedAnew, IsFirstPlace, IsLonger, IsSameType, counts_type, is_longer}}
+use Rattle.rule_change.specs.declared.code.ChangeCode.{ChangeCode, TheVariants.{OtherTypes, OtherEntries, Pending, Longer, Forgotten}}
 
 -- the type in this place is there still, as it was
 abbrev pub HasType : Program → Program → ℕ → TypeInfo → Type 0

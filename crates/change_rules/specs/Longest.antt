@@ -1,15 +1,9 @@
 -- The lives by which events are kept for as long as other rules need them.
-use Rattle.std.specs.Prelude.{◌≡◌, true, List, [], ◌∷◌, Option, Some, None, slice_get, ℕ}
-use Rattle.std.specs.Int.{int_max}
+use Rattle.std.specs.{Prelude.{◌≡◌, true, List, [], ◌∷◌, Option, Some, None, slice_get, ℕ}, Int.{int_max}}
 use Rattle.change_read.specs.Changes.{type_named}
-use Rattle.rule_change.specs.Alike.{HaveNames}
-use Rattle.rule_change.specs.Refused.{IsLonger}
+use Rattle.rule_change.specs.{Alike.{HaveNames}, Refused.{IsLonger}}
 use Rattle.life_meaning.specs.Tables.{AreLives}
-use Rattle.rule_model.specs.Lives.{AreShort}
-use Rattle.rule_model.specs.declared.life.Life.{Life}
-use Rattle.rule_model.specs.declared.life.Life.TheVariants.{Finite, Infinite}
-use Rattle.rule_model.specs.declared.life.LifeTable.{LifeTable}
-use Rattle.rule_model.specs.declared.program.Program.{Program}
+use Rattle.rule_model.specs.{Lives.{AreShort}, declared.{life.{Life.{Life, TheVariants.{Finite, Infinite}}, LifeTable.{LifeTable}}, program.Program.{Program}}}
 use Rattle.rule_model.specs.declared.program.TypeInfo.{TypeInfo}
 use Rattle.change_rules.specs.AsLong.{are_as_long}
 

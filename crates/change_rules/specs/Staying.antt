@@ -1,11 +1,7 @@
 -- Which old rules stay as new ones, as a list, and how they are found.
-use Rattle.std.specs.Prelude.{◌≡◌, ◌<◌, ℕ, true, false, List, Option, Some, None, slice_get}
-use Rattle.std.specs.List.{list_any}
-use Rattle.std.specs.Option.{option_and_then}
-use Rattle.rule_model.specs.declared.program.Program.{Program}
-use Rattle.rule_model.specs.declared.program.Rule.{Rule}
-use Rattle.rule_change.specs.Changed.{moved_rule}
-use Rattle.rule_change.specs.Told.{is_place}
+use Rattle.std.specs.{Prelude.{◌≡◌, ◌<◌, ℕ, true, false, List, Option, Some, None, slice_get}, List.{list_any}, Option.{option_and_then}}
+use Rattle.rule_model.specs.declared.program.{Program.{Program}, Rule.{Rule}}
+use Rattle.rule_change.specs.{Changed.{moved_rule}, Told.{is_place}}
 
 -- the place that a list has for a new rule
 abbrev pub place_in : List (Option ℕ) → ℕ → Option ℕ

@@ -1,6 +1,5 @@
 -- What is told of rules, as code has it: one behind the other, the same once.
-use Rattle.std.specs.Prelude.{◌++◌, Bool, List, [], ◌∷◌, map, if◌then◌else◌}
-use Rattle.std.specs.List.{list_any}
+use Rattle.std.specs.{Prelude.{◌++◌, Bool, List, [], ◌∷◌, map, if◌then◌else◌}, List.{list_any}}
 use Rattle.rule_change.specs.Told.{ToldRule, is_same_told}
 use Rattle.change_rules.specs.declared.told.ToldRule.{ToldRule as Told}
 

@@ -1,8 +1,7 @@
 -- The loops over the items of a list.
 use Rattle.checkpoint.proofs.Common.{◌≡◌, ℕ, suc, ◌-◌, ◌+◌, ◌<◌, ◌≤◌, List, [], ◌∷◌, ◌++◌, length, get_or, take, drop, Some, None, Result, Ok, Err, refl, sym}
 use Rattle.checkpoint.proofs.Common.{ap, subst, ◌∙◌, append_assoc, add-one, take-suc, arith, append-nil, drop_more, IsErrAnd, IfErr, DecodeFault, BadImage}
-use Rattle.checkpoint.proofs.Common.{NoMemory, each_bytes, Each, ◌>>=◌, ReadBytes, TellsDecodeFault}
-use Rattle.checkpoint.specs.Reading.{read_items}
+use Rattle.checkpoint.{proofs.Common.{NoMemory, each_bytes, Each, ◌>>=◌, ReadBytes, TellsDecodeFault}, specs.Reading.{read_items}}
 
 -- the items read so far, before those that are read next
 abbrev pub with_front : {A : Type 0} → List A → ReadBytes (List A) → ReadBytes (List A)

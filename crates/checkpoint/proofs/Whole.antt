@@ -1,13 +1,9 @@
 -- The bytes of an image, and the image of bytes.
 use Rattle.checkpoint.proofs.Common.{◌≡◌, ℕ, ◌==◌, ◌&&◌, Bool, true, false, cond, List, [], ◌∷◌, ◌++◌, Option, Some, None, Result, Ok, Err, refl, sym, ap}
 use Rattle.checkpoint.proofs.Common.{subst, ◌∙◌, codes, IfOk, IfErr, eqb-true, append-nil, DecodeFault, BadImage, field_bytes, AreFields, ◌>>=◌, ReadBytes}
-use Rattle.checkpoint.proofs.Common.{fields_at, if_no_byte_left, TellsDecodeFault}
+use Rattle.checkpoint.{proofs.Common.{fields_at, if_no_byte_left, TellsDecodeFault}, specs.{declared.image.Image.{Image}, Bytes.{image_bytes, IsImage}}}
+use Rattle.checkpoint.{specs.Reading.{behind_header, decoded}, proofs.{Exact.{AreOctets, behind, bind_some, some_is}, Structs.{fields_exact}}}
 use Rattle.std.proofs.lemmas.Bool.{and_parts}
-use Rattle.checkpoint.specs.declared.image.Image.{Image}
-use Rattle.checkpoint.specs.Bytes.{image_bytes, IsImage}
-use Rattle.checkpoint.specs.Reading.{behind_header, decoded}
-use Rattle.checkpoint.proofs.Exact.{AreOctets, behind, bind_some, some_is}
-use Rattle.checkpoint.proofs.Structs.{fields_exact}
 
 if_some : {A : Type 0} (b : Bool) (x y : A) → cond b (Some x) None ≡ Some y → (b ≡ true) × (x ≡ y)
 if_some true x y e = (refl, cc)

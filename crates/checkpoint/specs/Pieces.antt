@@ -1,14 +1,9 @@
 -- Images whose facts are lent, and the bytes of an image that are still to come where it is given in pieces.
-use Rattle.std.specs.Prelude.{ℕ, ◌+◌, ◌-◌, List, [], ◌++◌, drop, length, map}
-use Rattle.std.specs.Borrow.{Bor}
+use Rattle.std.specs.{Prelude.{ℕ, ◌+◌, ◌-◌, List, [], ◌++◌, drop, length, map}, Borrow.{Bor}}
 use Rattle.fx_base.specs.declared.fact.Fact.{Fact}
-use Rattle.checkpoint.specs.Bytes.{AreAll, Each, FitsLong, IsExtra, IsFact, IsFired, IsFlag, IsImage, IsImageRun, IsSigned}
-use Rattle.checkpoint.specs.Bytes.{each_bytes, extra_bytes, fact_bytes, fired_bytes, flag_bytes, image_bytes, list_bytes, long_bytes, run_bytes, signed_bytes}
-use Rattle.checkpoint.specs.declared.image.Image.{Image}
-use Rattle.checkpoint.specs.declared.pieces.ImagePieces.{ImagePieces}
-use Rattle.checkpoint.specs.declared.pieces.LentImage.{LentImage}
-use Rattle.checkpoint.specs.declared.pieces.Next.{Next}
-use Rattle.checkpoint.specs.declared.pieces.Next.TheVariants.{Front, Facts, Fired, Extras, Done}
+use Rattle.checkpoint.specs.Bytes.{AreAll, Each, FitsLong, IsExtra, IsFact, IsFired, IsFlag, IsImage, IsImageRun, IsSigned, each_bytes, extra_bytes, fact_bytes}
+use Rattle.checkpoint.specs.{Bytes.{fired_bytes, flag_bytes, image_bytes, list_bytes, long_bytes, run_bytes, signed_bytes}, declared.image.Image.{Image}}
+use Rattle.checkpoint.specs.declared.pieces.{ImagePieces.{ImagePieces}, LentImage.{LentImage}, Next.{Next, TheVariants.{Front, Facts, Fired, Extras, Done}}}
 
 -- the image with its facts in their place
 abbrev pub whole : LentImage → Image

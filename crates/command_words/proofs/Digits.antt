@@ -1,11 +1,7 @@
 -- What `parse` makes of decimal digits.
-use Rattle.command_words.proofs.Common.{◌≡◌, ◌∙◌, ◌≤◌, ℕ, List, length, true, Result, Ok, Some, rules, arith, ap, sym}
-use Rattle.std.specs.Char.{is_ascii_digit}
-use Rattle.std.specs.List.{list_all}
-use Rattle.std.specs.Result.{result_ok}
-use Rattle.std.specs.Str.Parse.{digits_value, ParsesUnsigned}
+use Rattle.command_words.{proofs.Common.{◌≡◌, ◌∙◌, ◌≤◌, ℕ, List, length, true, Result, Ok, Some, rules, arith, ap, sym}, specs.Asked.{number_in_digits}}
+use Rattle.std.specs.{Char.{is_ascii_digit}, List.{list_all}, Result.{result_ok}, Str.Parse.{digits_value, ParsesUnsigned}}
 use Rattle.std.proofs.lemmas.Str.Parse.{IsNumeralModel, numerals_by_value, digits_value_short, parse_gives}
-use Rattle.command_words.specs.Asked.{number_in_digits}
 
 decimal : IsNumeralModel (λ ds. list_all is_ascii_digit ds ≡ true) (digits_value 10)
 decimal = numerals_by_value _ (search rules)

@@ -1,8 +1,7 @@
 -- What the programs' commands make of words, by what clap says of a parse.
 use Rattle.command_words.proofs.Common.{◌≡◌, true, List, [], ◌∷◌, Some, None, refl, App, IsAmong, Kinds, Row, Text, fault_of, is_simple, is_simple_and_free}
-use Rattle.command_words.proofs.Common.{matches_of, ErrorKind}
+use Rattle.command_words.{proofs.Common.{matches_of, ErrorKind}, specs.Command.{desk_app, replay_app, without_fault, matched_by}}
 use Rattle.clap.proofs.OnLiterals.{clap_on_literals}
-use Rattle.command_words.specs.Command.{desk_app, replay_app, without_fault, matched_by}
 
 pub simple : is_simple replay_app ≡ true
 unfolding clap_on_literals replay_app

@@ -1,17 +1,10 @@
 -- What words ask for has a limit from 1 to 1,000,000, and a load a number below 2^31.
 use Rattle.command_words.proofs.Common.{ℕ, List, Option, Some, None, IfSome, option_map, option_and_then, rules, Row, Text, first_of, IsLimit, IsLoadNumber}
 use Rattle.command_words.proofs.Common.{IsWithinBounds, asks_file, asks_resumed, asks_load, asks_parts, given_or, limited, load_numbered, mode_of}
-use Rattle.command_words.proofs.Common.{number_in_digits}
-use Rattle.std.specs.Prelude.{codes}
-use Rattle.std.proofs.lemmas.Bool.Decides.{nat_tests}
-use Rattle.command_words.specs.declared.asking.Asked.TheVariants.{Load}
-use Rattle.command_words.specs.declared.asking.Mode.{Mode}
-use Rattle.command_words.specs.declared.asking.Mode.TheVariants.{Run, Check, Lives, Proof, Save}
-use Rattle.std.specs.Prelude.{Bool, true, false, if◌then◌else◌}
-use Rattle.command_words.specs.Asked.{asked_rows, limit_written, load_number_of}
-use Rattle.command_words.specs.Desk.{HasLimit, asks_desk, desk_rows, is_set, runs_desk}
-use Rattle.command_words.specs.declared.desk.DeskWords.{DeskWords}
-use Rattle.command_words.specs.declared.desk.DeskWords.TheVariants.{Help, Version}
+use Rattle.command_words.{proofs.Common.{number_in_digits}, specs.declared.asking.{Asked.TheVariants.{Load}, Mode.{Mode, TheVariants.{Run, Check, Lives}}}}
+use Rattle.command_words.specs.{declared.asking.Mode.TheVariants.{Proof, Save}, Asked.{asked_rows, limit_written, load_number_of}, Desk.{HasLimit, asks_desk}}
+use Rattle.command_words.specs.{Desk.{desk_rows, is_set, runs_desk}, declared.desk.DeskWords.{DeskWords, TheVariants.{Help, Version}}}
+use Rattle.std.{specs.Prelude.{codes, Bool, true, false, if◌then◌else◌}, proofs.lemmas.Bool.Decides.{nat_tests}}
 
 limited_within : (n : ℕ) → IfSome (limited n) IsLimit
 limited_within n = search rules

@@ -1,16 +1,9 @@
 -- What the words behind the program's own name ask for.
 use Rattle.std.specs.Prelude.{ℕ, ◌<◌, ◌≤◌, ◌^◌, ◌&&◌, Bool, List, length, map, nat_lt, nat_le, Option, Some, None, option_map, option_and_then, unwrap_or}
-use Rattle.std.specs.Prelude.{if◌then◌else◌, codes, string_bytes}
-use Rattle.std.proofs.Common.{String, Global}
-use Rattle.std.specs.Char.{is_ascii_digit}
-use Rattle.std.specs.List.{list_all}
-use Rattle.std.specs.Str.{bytes_eq}
+use Rattle.std.{specs.{Prelude.{if◌then◌else◌, codes, string_bytes}, Char.{is_ascii_digit}, List.{list_all}, Str.{bytes_eq}}, proofs.Common.{String, Global}}
 use Rattle.std.specs.Str.Parse.{digits_value}
 use Rattle.clap.specs.Words.{Row, Text, first_of}
-use Rattle.command_words.specs.declared.asking.Asked.{Asked}
-use Rattle.command_words.specs.declared.asking.Asked.TheVariants.{RuleFile, Load}
-use Rattle.command_words.specs.declared.asking.Mode.{Mode}
-use Rattle.command_words.specs.declared.asking.Mode.TheVariants.{Run, Check, Lives, Proof, Save}
+use Rattle.command_words.specs.declared.asking.{Asked.{Asked, TheVariants.{RuleFile, Load}}, Mode.{Mode, TheVariants.{Run, Check, Lives, Proof, Save}}}
 use Rattle.command_words.specs.Command.{matched}
 
 -- the mode of this name

@@ -1,7 +1,6 @@
 -- The programs' commands, and what clap makes of words by them.
 use Rattle.std.specs.Prelude.{true, List, [], ◌∷◌, Option, Some, None, codes}
-use Rattle.clap.specs.Simple.{on_top}
-use Rattle.clap.specs.Words.{App, Kinds, Row, Rule, Text, fault_of, matches_of, new_app, new_rule, with_rule}
+use Rattle.clap.specs.{Simple.{on_top}, Words.{App, Kinds, Row, Rule, Text, fault_of, matches_of, new_app, new_rule, with_rule}}
 use Rattle.clap.specs.declared.builder.action.ArgAction.TheVariants.{Set, SetTrue}
 
 -- an option that is not required and has one value: `--NAME VALUE` or `--NAME=VALUE`

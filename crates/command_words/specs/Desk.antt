@@ -1,13 +1,9 @@
 -- What the words behind the own name of the program `desk` ask for.
-use Rattle.std.specs.Prelude.{ℕ, Bool, false, List, map, Option, Some, None, option_and_then, codes, string_bytes, if◌then◌else◌}
-use Rattle.std.proofs.Common.{String, Global}
-use Rattle.std.specs.Str.{bytes_eq}
+use Rattle.std.{specs.Prelude.{ℕ, Bool, false, List, map, Option, Some, None, option_and_then, codes, string_bytes, if◌then◌else◌}, proofs.Common.{String}}
+use Rattle.std.{proofs.Common.{Global}, specs.Str.{bytes_eq}}
 use Rattle.clap.specs.Words.{Row, Text, first_of}
-use Rattle.command_words.specs.Asked.{IsLimit, given_or, limit_written}
-use Rattle.command_words.specs.Command.{desk_app, matched_by}
-use Rattle.command_words.specs.declared.desk.DeskAsked.{DeskAsked}
-use Rattle.command_words.specs.declared.desk.DeskWords.{DeskWords}
-use Rattle.command_words.specs.declared.desk.DeskWords.TheVariants.{Run, Help, Version}
+use Rattle.command_words.specs.{Asked.{IsLimit, given_or, limit_written}, Command.{desk_app, matched_by}, declared.desk.DeskAsked.{DeskAsked}}
+use Rattle.command_words.specs.declared.desk.DeskWords.{DeskWords, TheVariants.{Run, Help, Version}}
 
 -- a flag is set
 abbrev pub is_set : Option Text → Bool

@@ -1,25 +1,21 @@
 -- What a node that stands for a snapshot counts of forgotten facts.
-use Rattle.condition_node.proofs.Common.{◌≡◌, ◌∙◌, sym, ap, refl, subst, ⊎_elim, inl, inr, ℕ, arith, map, length, List, [], ◌∷◌, Bool, true, false, cond}
-use Rattle.condition_node.proofs.Common.{◌&&◌, ◌||◌, Option, Some, None, ℤ, pos, eq_by_cmp, is_eq, In, Fact, in_rising_order, Extra, Named, name_equiv, Row}
-use Rattle.condition_node.proofs.Common.{row_cmp, InOrder, Accumulate, Condition, Negated, Existing, Folded, Pattern, Program, HaveDistinctTags, Holds}
-use Rattle.condition_node.proofs.Common.{pattern_of, argument, Snapshot, name_of, one_fact, once_filter, once_map, Look, joins, Memories, has_name, cleaned}
-use Rattle.condition_node.proofs.Common.{row_decides, BetaJoin, Witnesses, TallyNode, AreDistinct, counts_blockers, counts_witnesses, argument_given}
-use Rattle.condition_node.proofs.Common.{argument_of, gathers, extra_for, nothing_gathered, arguments_gathered, IsBeyond, IsExtraFor, AreExtrasOf, CountsOthers}
-use Rattle.condition_node.proofs.Common.{rows_of_extras, NotNode, HasAllOf, NameHeld, held, candidates_of, partners, held_all, values_gathered, lost_partners}
-use Rattle.condition_node.proofs.Common.{IsAside, IsLost, IsExtraBeside, AreExtrasBeside, FoldNode, Node, condition_of, CountsPartners, NodeStands}
-use Rattle.condition_node.proofs.Common.{AllByRecursion, lost_passing, others_law, length-rising, same_values, held_known, joining_alike, remembered_alike}
-use Rattle.condition_node.proofs.Common.{partner_in, partners_once, blocker_tallies, tallied_pattern}
+use Rattle.condition_node.proofs.Common.{◌≡◌, ◌∙◌, sym, ap, refl, subst, ⊎_elim, inl, inr, ℕ, arith, map, length, List, [], ◌∷◌, Bool, true, false, cond, ◌&&◌}
+use Rattle.condition_node.proofs.Common.{◌||◌, Option, Some, None, ℤ, pos, eq_by_cmp, is_eq, In, Fact, in_rising_order, Extra, Named, name_equiv, Row, row_cmp}
+use Rattle.condition_node.proofs.Common.{InOrder, Accumulate, Condition, Negated, Existing, Folded, Pattern, Program, HaveDistinctTags, Holds, pattern_of}
+use Rattle.condition_node.proofs.Common.{argument, Snapshot, name_of, one_fact, once_filter, once_map, Look, joins, Memories, has_name, cleaned, row_decides}
+use Rattle.condition_node.proofs.Common.{BetaJoin, Witnesses, TallyNode, AreDistinct, counts_blockers, counts_witnesses, argument_given, argument_of, gathers}
+use Rattle.condition_node.proofs.Common.{extra_for, nothing_gathered, arguments_gathered, IsBeyond, IsExtraFor, AreExtrasOf, CountsOthers, rows_of_extras}
+use Rattle.condition_node.proofs.Common.{NotNode, HasAllOf, NameHeld, held, candidates_of, partners, held_all, values_gathered, lost_partners, IsAside, IsLost}
+use Rattle.condition_node.proofs.Common.{IsExtraBeside, AreExtrasBeside, FoldNode, Node, condition_of, CountsPartners, NodeStands, AllByRecursion, lost_passing}
+use Rattle.condition_node.proofs.Common.{others_law, length-rising, same_values, held_known, joining_alike, remembered_alike, partner_in, partners_once}
+use Rattle.condition_node.proofs.{Common.{blocker_tallies, tallied_pattern}, Folding.{distinct, named_where, partners_named}}
 use Rattle.rule_model.proofs.Named.{of_filter}
-use Rattle.std.specs.declared.cmp.Ordering.TheVariants.{Less}
-use Rattle.std.specs.List.Sorted.{IsStrictlySortedBy}
-use Rattle.std.proofs.lemmas.List.{length-map}
+use Rattle.std.{specs.{declared.cmp.Ordering.TheVariants.{Less}, List.Sorted.{IsStrictlySortedBy}}, proofs.lemmas.List.{length-map}}
 use Rattle.fx_base.specs.declared.ids.RuleId.{RuleId}
 use Rattle.row_delta.specs.RowOrder.{same_equiv}
-use Rattle.condition_node.proofs.Folding.{distinct, named_where, partners_named}
 use Rattle.condition_node.specs.declared.node.Node.TheVariants as node
 use Rattle.condition_node.specs.Lending.{lent_to}
-use Rattle.pair_memory.specs.declared.candidates.Candidates.{Candidates}
-use Rattle.pair_memory.specs.Shared.{over, sharing}
+use Rattle.pair_memory.specs.{declared.candidates.Candidates.{Candidates}, Shared.{over, sharing}}
 use Rattle.not_node.specs.Doors.{with_tallies}
 
 -- ---- extras in the order of their rows

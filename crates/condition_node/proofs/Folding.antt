@@ -6,8 +6,7 @@ use Rattle.condition_node.proofs.Common.{cleaned, AlikeOn, without_value, shows_
 use Rattle.condition_node.proofs.Common.{shown, line, HasAllOf, NameHeld, held, candidates_of, held_all, candidates_named, FoldNode, FoldsFor, filter}
 use Rattle.condition_node.proofs.Common.{Decides-int_eq, result_of, named_alike, gathered_shown, false_from_ne_true, results_hold, name_in, held_known}
 use Rattle.condition_node.proofs.Common.{row_alike, and_implied, or_and_excluded, or_and_implied, partner_in, partners_once, valued_clean}
-use Rattle.condition_rows.specs.Lines.{is_result as is_given, gives}
-use Rattle.condition_rows.specs.Sets.{partners}
+use Rattle.condition_rows.specs.{Lines.{is_result as is_given, gives}, Sets.{partners}}
 use Rattle.rule_model.specs.Candidates.{candidates}
 
 pub distinct : (names : List Named) → EachOnce names → AreDistinct names

@@ -5,15 +5,13 @@ use Rattle.condition_node.proofs.Common.{Memories, has_name, has_left, has_right
 use Rattle.condition_node.proofs.Common.{without_value, shows_value, BetaJoin, counts_blockers, counts_witnesses, where_witnessed, gathers, result_for}
 use Rattle.condition_node.proofs.Common.{StandsCounted, itself, shows_any, shown, Witnesses, TallyNode, NotNode, IsInStep, not_rows, NoneDue, line, held}
 use Rattle.condition_node.proofs.Common.{candidates_of, FoldNode, Node, condition_of, CountsPartners, NodeStands, Decides-eqb, drop_law, itself_facts}
-use Rattle.condition_node.proofs.Common.{without_value_facts, dropped_none_due, and_parts, held_known, joining_alike}
-use Rattle.condition_node.proofs.Common.{awaited_entry, blocker_tallies, blocking_pattern, joined_pattern, reached_floor, tallied_pattern, waiting_rows}
+use Rattle.condition_node.proofs.Common.{without_value_facts, dropped_none_due, and_parts, held_known, joining_alike, awaited_entry, blocker_tallies}
+use Rattle.condition_node.{proofs.Common.{blocking_pattern, joined_pattern, reached_floor, tallied_pattern, waiting_rows}, specs.Forgetting.{ForgetsIn}}
+use Rattle.condition_node.proofs.{Folding.{fold_shown}, Shown.{join_shown, exists_shown, not_shown}}
 use Rattle.tally_node.proofs.Lawful.{forget_law as tally_forgets}
 use Rattle.std.specs.List.Sorted.{IsStrictlySortedBy}
 use Rattle.beta_join.proofs.Lawful.{forget_law as join_forgets}
 use Rattle.not_node.proofs.Lawful.{drop_law as not_drops}
-use Rattle.condition_node.specs.Forgetting.{ForgetsIn}
-use Rattle.condition_node.proofs.Folding.{fold_shown}
-use Rattle.condition_node.proofs.Shown.{join_shown, exists_shown, not_shown}
 use Rattle.condition_node.specs.declared.node.Node.TheVariants as node
 
 -- what goes of the rows of a node was one of them

@@ -1,21 +1,18 @@
 -- What the node of each kind does with candidates that are lent to it.
 use Rattle.condition_node.proofs.Common.{◌≡◌, ◌∙◌, sym, ap, refl, subst, cond, List, [], map, Bool, true, false, not, ◌&&◌, ◌||◌, None, Extra, Named, Row, has}
-use Rattle.condition_node.proofs.Common.{InOrder, Condition, Program, Snapshot, Look, Delta, Memories, IsDifference, KeepsMemories, has_left}
-use Rattle.condition_node.proofs.Common.{has_right, has_name, left_at, made, row_naming, clean, cleaned, either, no_rows, no_names, StandsFor, BetaJoin, TallyNode}
-use Rattle.condition_node.proofs.Common.{Witnesses, where_witnessed, result_for, without_value, shows_value, itself, shows_any, shown, NotNode, IsInStep, not_rows}
-use Rattle.condition_node.proofs.Common.{empty_snapshot, line, extra_for, FoldNode, Node, IsLoad, Laden, condition_of, NodeStands, IsConditionTurn, node_rows}
-use Rattle.condition_node.proofs.Common.{blocker_tallies, reached_floor}
-use Rattle.pair_memory.specs.declared.candidates.Candidates.{Candidates}
-use Rattle.pair_memory.specs.Shared.{sharing, ForgoesOld, TakesOver}
+use Rattle.condition_node.proofs.Common.{InOrder, Condition, Program, Snapshot, Look, Delta, Memories, IsDifference, KeepsMemories, has_left, has_right}
+use Rattle.condition_node.proofs.Common.{has_name, left_at, made, row_naming, clean, cleaned, either, no_rows, no_names, StandsFor, BetaJoin, TallyNode}
+use Rattle.condition_node.proofs.Common.{Witnesses, where_witnessed, result_for, without_value, shows_value, itself, shows_any, shown, NotNode, IsInStep}
+use Rattle.condition_node.proofs.Common.{not_rows, empty_snapshot, line, extra_for, FoldNode, Node, IsLoad, Laden, condition_of, NodeStands, IsConditionTurn}
+use Rattle.condition_node.{proofs.Common.{node_rows, blocker_tallies, reached_floor}, specs.{Forgetting.{ForgetsIn}, Lending.{with_candidates, NodeTakes}}}
+use Rattle.condition_node.specs.Lending.{NodeForgoes, HasCandidates, NodeHas}
+use Rattle.pair_memory.specs.{declared.candidates.Candidates.{Candidates}, Shared.{sharing, ForgoesOld, TakesOver}}
 use Rattle.not_node.specs.Doors.{with_tallies}
-use Rattle.condition_node.specs.Forgetting.{ForgetsIn}
-use Rattle.condition_node.specs.Lending.{with_candidates, NodeTakes, NodeForgoes, HasCandidates, NodeHas}
 use Rattle.condition_node.specs.declared.node.Node.TheVariants as node
 use Rattle.pair_memory.proofs.Handed.{keeps_shared}
 use Rattle.tally_node.proofs.Turning.{shown_alike}
 use Rattle.row_change.proofs.Alike.{difference_alike}
-use Rattle.condition_node.proofs.Forgetting.{Forgets, join_forgot, exists_forgot, not_forgot, fold_forgot}
-use Rattle.condition_node.proofs.Loading.{has_naming}
+use Rattle.condition_node.proofs.{Forgetting.{Forgets, join_forgot, exists_forgot, not_forgot, fold_forgot}, Loading.{has_naming}}
 
 -- the nodes with these candidates
 abbrev pub join_with : BetaJoin → Candidates → BetaJoin

@@ -10,18 +10,13 @@ use Rattle.condition_node.proofs.Common.{Blockers, Witnesses, IsNumber, zero_whe
 use Rattle.condition_node.proofs.Common.{IsTallyLaden, counts_more, blockers_laden, witnesses_laden, gathered_laden, argument_given, argument_of, gathers}
 use Rattle.condition_node.proofs.Common.{tested, result_for, is_result, all_passing, itself, shows_any, output_some, output_from, offers, shown, same_values}
 use Rattle.condition_node.proofs.Common.{NotNode, moment_at, not_rows, unblocked, mature, row_mature, moment_alike, quiet_law, in_name, name_in, Node}
-use Rattle.condition_node.proofs.Common.{condition_of, NodeStands, blocker_tallies, blocking_pattern, joined_pattern}
-use Rattle.condition_rows.specs.Lines.{is_ripe, is_result as is_given}
-use Rattle.condition_rows.specs.Sets.{has_partner}
+use Rattle.condition_node.proofs.{Common.{condition_of, NodeStands, blocker_tallies, blocking_pattern, joined_pattern}, Folding.{fold_shown, partners_distinct}}
+use Rattle.condition_node.proofs.{Folding.{partners_held, partners_named}, Shown.{join_shown, exists_shown, not_shown}, Loading.{all_clean}}
+use Rattle.condition_rows.specs.{Lines.{is_ripe, is_result as is_given}, Sets.{has_partner}}
 use Rattle.pair_memory.specs.Valued.{valued}
 use Rattle.laden_rows.specs.Laden.{laden_line, extra_values_of, laden_gives}
-use Rattle.fold_fn.specs.Laws.{HaveSame}
-use Rattle.fold_fn.specs.Results.{fold_result}
-use Rattle.fold_fn.proofs.Rising.{times-nil, times-cons, times-rising}
-use Rattle.condition_node.proofs.Folding.{fold_shown, partners_distinct, partners_held, partners_named}
-use Rattle.condition_node.proofs.Shown.{join_shown, exists_shown, not_shown}
+use Rattle.fold_fn.{specs.{Laws.{HaveSame}, Results.{fold_result}}, proofs.Rising.{times-nil, times-cons, times-rising}}
 use Rattle.tally_node.proofs.Counting.{nobody, somebody}
-use Rattle.condition_node.proofs.Loading.{all_clean}
 use Rattle.condition_node.specs.declared.node.Node.TheVariants as node
 
 -- ---- a node that stands

@@ -6,10 +6,8 @@ use Rattle.condition_node.proofs.Common.{has_left, has_right, KeepsMemories, row
 use Rattle.condition_node.proofs.Common.{Witnesses, TallyNode, counts_blockers, counts_witnesses, extra_for, blockers_laden, witnesses_laden, gathered_laden}
 use Rattle.condition_node.proofs.Common.{AllLaden, gathers, NotNode, IsInStep, later, none_due, empty_snapshot, held, candidates_of, FoldNode, Node}
 use Rattle.condition_node.proofs.Common.{CountsLaden, IsLoad, Laden, condition_of, NodeStands, same_from_decides, StandsLaden, load_law, held_known}
-use Rattle.condition_node.proofs.Common.{joining_alike, candidate_alike, ≤ℤ_trans}
-use Rattle.condition_node.proofs.Common.{awaited_entry, blocker_tallies, joined_pattern, reached_floor, tallied_pattern, blocking_pattern}
-use Rattle.condition_node.proofs.Moved.{no_candidates}
-use Rattle.condition_node.proofs.Turning.{later_is}
+use Rattle.condition_node.proofs.Common.{joining_alike, candidate_alike, ≤ℤ_trans, awaited_entry, blocker_tallies, joined_pattern, reached_floor}
+use Rattle.condition_node.proofs.{Common.{tallied_pattern, blocking_pattern}, Moved.{no_candidates}, Turning.{later_is}}
 use Rattle.condition_node.specs.declared.node.Node.TheVariants as node
 
 -- from a node that keeps nothing a load leads to the other, whatever is loaded so

@@ -1,11 +1,10 @@
 -- A node that is loaded with what is kept stands for all of it.
 use Rattle.condition_node.proofs.Common.{◌≡◌, ◌∙◌, sym, refl, subst, ℤ, ◌≤ℤ◌, List, map, Bool, Option, Extra, Named, Row, Fact, Condition, Negated, Existing}
-use Rattle.condition_node.proofs.Common.{Folded, Pattern, Program, Holds, pattern_of, Snapshot, name_of, Look, joins, Memories, remembered}
-use Rattle.condition_node.proofs.Common.{counts_blockers, counts_witnesses, blockers_laden, witnesses_laden, gathered_laden, nothing_gathered}
-use Rattle.condition_node.proofs.Common.{arguments_gathered, gathers, NoneDue, held, candidates_of, CountsLaden, IsAside, IsResumed, ResumesLaw}
-use Rattle.condition_node.proofs.Common.{values_gathered, CountsPartners, LadenLaw, resume_law, blockers_made_up, witnesses_made_up, gathered_made_up}
-use Rattle.condition_node.proofs.Common.{held_known, joining_alike, blocker_tallies, joined_pattern, reached_floor, waiting_rows, tallied_pattern}
-use Rattle.condition_node.proofs.Beyond.{tells_passing, nothing_told, arguments_told}
+use Rattle.condition_node.proofs.Common.{Folded, Pattern, Program, Holds, pattern_of, Snapshot, name_of, Look, joins, Memories, remembered, counts_blockers}
+use Rattle.condition_node.proofs.Common.{counts_witnesses, blockers_laden, witnesses_laden, gathered_laden, nothing_gathered, arguments_gathered, gathers}
+use Rattle.condition_node.proofs.Common.{NoneDue, held, candidates_of, CountsLaden, IsAside, IsResumed, ResumesLaw, values_gathered, CountsPartners, LadenLaw}
+use Rattle.condition_node.proofs.Common.{resume_law, blockers_made_up, witnesses_made_up, gathered_made_up, held_known, joining_alike, blocker_tallies}
+use Rattle.condition_node.proofs.{Common.{joined_pattern, reached_floor, waiting_rows, tallied_pattern}, Beyond.{tells_passing, nothing_told, arguments_told}}
 use Rattle.condition_node.proofs.Loading.{all_clean, all_remembered}
 use Rattle.condition_node.specs.declared.node.Node.TheVariants as node
 

@@ -4,10 +4,9 @@ use Rattle.condition_node.proofs.Common.{Existing, Pattern, Program, HaveDistinc
 use Rattle.condition_node.proofs.Common.{cleaned, StandsFor, Witnesses, counts_blockers, counts_witnesses, where_witnessed, StandsCounted, itself, shows_any}
 use Rattle.condition_node.proofs.Common.{shown, NotNode, IsInStep, not_rows, waits, mature, line, HasAllOf, NameHeld, held, candidates_of, candidate_names}
 use Rattle.condition_node.proofs.Common.{candidates_named, CountsPartners, WaitsFor, witnesses_shown, quiet_law, waits_own, moment_at, not_law, row_mature}
-use Rattle.condition_node.proofs.Common.{moment_alike, held_known, row_alike, joining_alike, asked_first}
-use Rattle.condition_node.proofs.Common.{awaited_entry, blocker_tallies, reached_floor, waiting_rows, blocking_pattern}
-use Rattle.condition_rows.specs.Lines.{is_ripe}
-use Rattle.condition_rows.specs.Sets.{has_partner}
+use Rattle.condition_node.proofs.Common.{moment_alike, held_known, row_alike, joining_alike, asked_first, awaited_entry, blocker_tallies, reached_floor}
+use Rattle.condition_node.proofs.Common.{waiting_rows, blocking_pattern}
+use Rattle.condition_rows.specs.{Lines.{is_ripe}, Sets.{has_partner}}
 use Rattle.std.proofs.Math.Bool.{and_assoc}
 use Rattle.rule_model.specs.Maturity.{is_mature}
 use Rattle.pair_memory.proofs.Worlds.{made_clean}

@@ -3,11 +3,9 @@ use Rattle.condition_node.proofs.Common.{◌≡◌, ◌∙◌, sym, ap, refl, su
 use Rattle.condition_node.proofs.Common.{Program, HaveDistinctTags, Snapshot, floor, Look, versions_at, joins, Memories, cleaned, StandsFor, BetaJoin}
 use Rattle.condition_node.proofs.Common.{Witnesses, TallyNode, counts_blockers, counts_witnesses, gathers, StandsCounted, NotNode, NoneDue, waits, line}
 use Rattle.condition_node.proofs.Common.{HasAllOf, NameHeld, candidates_of, FoldNode, Node, condition_of, CountsPartners, WaitsFor, FoldsFor, NodeStands}
-use Rattle.condition_node.proofs.Common.{at_clock}
-use Rattle.condition_node.proofs.Common.{awaited_entry, blocker_tallies, blocking_pattern, joined_pattern, reached_floor, tallied_pattern, waiting_rows}
+use Rattle.condition_node.proofs.Common.{at_clock, awaited_entry, blocker_tallies, blocking_pattern, joined_pattern, reached_floor, tallied_pattern}
+use Rattle.condition_node.proofs.{Common.{waiting_rows}, Folding.{fold_shown}, Shown.{join_shown, exists_shown, not_shown, not_early, not_ripe}}
 use Rattle.condition_rows.specs.Sets.{held}
-use Rattle.condition_node.proofs.Folding.{fold_shown}
-use Rattle.condition_node.proofs.Shown.{join_shown, exists_shown, not_shown, not_early, not_ripe}
 use Rattle.condition_node.specs.declared.node.Node.TheVariants as node
 
 -- a snapshot holds the same versions at another clock

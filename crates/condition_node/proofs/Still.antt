@@ -3,14 +3,10 @@
 use Rattle.condition_node.proofs.Common.{◌≡◌, ◌∙◌, sym, ap, refl, subst, ℤ, int_lt, Bool, true, false, not, ◌&&◌, ◌||◌, List, [], ◌∷◌, Delta, Named, Row, has}
 use Rattle.condition_node.proofs.Common.{Program, Negated, Moment, IsAt, Snapshot, floor, Look, Memories, row_naming, IsStepped, has_left, has_right, cleaned}
 use Rattle.condition_node.proofs.Common.{BetaJoin, counts_blockers, counts_witnesses, gathers, Witnesses, TallyNode, NotNode, NoneDue, waits, line, FoldNode}
-use Rattle.condition_node.proofs.Common.{Node, condition_of, CountsPartners, NodeStands, IsConditionTurn, are_none, changes_nothing, ≤ℤ_trans}
-use Rattle.condition_node.proofs.Common.{awaited_entry, blocker_tallies, reached_floor, waiting_rows}
+use Rattle.condition_node.proofs.Common.{Node, condition_of, CountsPartners, NodeStands, IsConditionTurn, are_none, changes_nothing, ≤ℤ_trans, awaited_entry}
+use Rattle.condition_node.proofs.{Common.{blocker_tallies, reached_floor, waiting_rows}, Folding.{fold_shown}, Knowing.{blockers_ask}, Shown.{join_shown}}
+use Rattle.condition_node.proofs.{Shown.{exists_shown, not_shown, not_early, not_ripe}, Telling.{join_turns, exists_turns, fold_turns}, Turning.{counts_next}}
 use Rattle.tally_node.proofs.Stepping.{no_step}
-use Rattle.condition_node.proofs.Folding.{fold_shown}
-use Rattle.condition_node.proofs.Knowing.{blockers_ask}
-use Rattle.condition_node.proofs.Shown.{join_shown, exists_shown, not_shown, not_early, not_ripe}
-use Rattle.condition_node.proofs.Telling.{join_turns, exists_turns, fold_turns}
-use Rattle.condition_node.proofs.Turning.{counts_next}
 use Rattle.condition_node.specs.declared.node.Node.TheVariants as node
 
 pub neither : (gone come : List Row) → are_none gone come ≡ true → (row : Row) → (has gone row ≡ false) × (has come row ≡ false)

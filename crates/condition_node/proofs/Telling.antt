@@ -4,12 +4,9 @@ use Rattle.condition_node.proofs.Common.{Pattern, Program, Snapshot, floor, Look
 use Rattle.condition_node.proofs.Common.{counts_blockers, counts_witnesses, where_witnessed, gathers, result_for, itself, shows_any, TallyStep, shown}
 use Rattle.condition_node.proofs.Common.{Witnesses, TallyNode, NotNode, IsInStep, not_rows, later, line, FoldNode, Node, condition_of, CountsPartners}
 use Rattle.condition_node.proofs.Common.{NodeStands, IsConditionTurn, ≤ℤ_trans, awaited_entry, blocker_tallies, reached_floor, tallied_pattern, joined_pattern}
-use Rattle.condition_node.proofs.Common.{blocking_pattern}
+use Rattle.condition_node.proofs.{Common.{blocking_pattern}, Folding.{fold_shown}, Knowing.{blockers_ask, witnesses_ask, gathers_ask}, Shown.{join_shown}}
+use Rattle.condition_node.proofs.{Shown.{exists_shown, not_shown}, Turning.{stands_next, counts_next, later_is, waits_on_time}}
 use Rattle.row_change.proofs.Alike.{difference_alike}
-use Rattle.condition_node.proofs.Folding.{fold_shown}
-use Rattle.condition_node.proofs.Knowing.{blockers_ask, witnesses_ask, gathers_ask}
-use Rattle.condition_node.proofs.Shown.{join_shown, exists_shown, not_shown}
-use Rattle.condition_node.proofs.Turning.{stands_next, counts_next, later_is, waits_on_time}
 use Rattle.condition_node.specs.declared.node.Node.TheVariants as node
 
 -- from rows and candidates for which the one node stands it turns to the other, for each turn with these differences

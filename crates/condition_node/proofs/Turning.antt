@@ -3,8 +3,8 @@ use Rattle.condition_node.proofs.Common.{◌≡◌, ◌∙◌, sym, ap, subst, �
 use Rattle.condition_node.proofs.Common.{Program, Snapshot, floor, pattern_of, Look, joins, Memories, IsStepped, IsNameDifference, no_names, remembered}
 use Rattle.condition_node.proofs.Common.{StandsFor, counts_blockers, StandsCounted, ForgottenStay, TallyStep, NotNode, IsInStep, later, none_due, held}
 use Rattle.condition_node.proofs.Common.{candidates_of, CountsPartners, WaitsFor, IsConditionTurn, IsAt, snapshot_at, Moment, tally_law, same_floor, held_known}
-use Rattle.condition_node.proofs.Common.{known_too, joining_alike, awaited_entry, blocker_tallies, reached_floor}
-use Rattle.condition_node.proofs.Knowing.{seen_alike, AsksOfSet, counted_alike}
+use Rattle.condition_node.proofs.{Common.{known_too, joining_alike, awaited_entry, blocker_tallies, reached_floor}, Knowing.{seen_alike, AsksOfSet}}
+use Rattle.condition_node.proofs.Knowing.{counted_alike}
 use Rattle.pair_memory.proofs.Steps.{steps_law}
 
 module _ {T : Type 0} (p : Program) (m n : Memories T) (look world : Look) (s next : Snapshot) (rows rows_now : Row → Bool) (forgotten : Named → Bool) (left right : Delta)

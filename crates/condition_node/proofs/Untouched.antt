@@ -1,25 +1,15 @@
 -- A node to which nothing is handed of the candidates that have turned stays as it is.
-use Rattle.condition_node.proofs.Common.{◌≡◌, ◌∙◌, sym, refl, subst, ℤ, [], Bool, true, false, Delta, Named, Row, has, Negated, Program, Snapshot, floor}
-use Rattle.condition_node.proofs.Common.{Look, joins, Memories, IsStepped, has_name, has_left, has_right, made, cleaned, without_value, shows_value, BetaJoin}
-use Rattle.condition_node.proofs.Common.{counts_blockers, counts_witnesses, gathers, result_for, Witnesses, TallyNode, NotNode, NoneDue, line, FoldNode}
-use Rattle.condition_node.proofs.Common.{Node, condition_of, NodeStands, IsConditionTurn, IsAt, Moment, ≤ℤ_trans, awaited_entry, blocker_tallies}
-use Rattle.condition_node.proofs.Common.{reached_floor, waiting_rows, changes_nothing}
-use Rattle.pair_memory.specs.declared.candidates.Candidates.{Candidates}
-use Rattle.pair_memory.specs.Handed.{moved}
-use Rattle.pair_memory.specs.Shared.{sharing, TakesOver}
-use Rattle.condition_node.specs.Lending.{with_candidates, NodeTakes}
+use Rattle.condition_node.proofs.Common.{◌≡◌, ◌∙◌, sym, refl, subst, ℤ, [], Bool, true, false, Delta, Named, Row, has, Negated, Program, Snapshot, floor, Look}
+use Rattle.condition_node.proofs.Common.{joins, Memories, IsStepped, has_name, has_left, has_right, made, cleaned, without_value, shows_value, BetaJoin}
+use Rattle.condition_node.proofs.Common.{counts_blockers, counts_witnesses, gathers, result_for, Witnesses, TallyNode, NotNode, NoneDue, line, FoldNode, Node}
+use Rattle.condition_node.proofs.Common.{condition_of, NodeStands, IsConditionTurn, IsAt, Moment, ≤ℤ_trans, awaited_entry, blocker_tallies, reached_floor}
+use Rattle.condition_node.{proofs.Common.{waiting_rows, changes_nothing}, specs.Lending.{with_candidates, NodeTakes}}
+use Rattle.pair_memory.specs.{declared.candidates.Candidates.{Candidates}, Handed.{moved}, Shared.{sharing, TakesOver}}
 use Rattle.condition_node.specs.declared.node.Node.TheVariants as node
-use Rattle.pair_memory.proofs.Handed.{keeps_shared, handed_joined, moved_none}
-use Rattle.pair_memory.proofs.Joining.{joined_alike}
-use Rattle.tally_node.proofs.Handing.{no_turn}
-use Rattle.tally_node.proofs.Turning.{shown_alike}
-use Rattle.condition_node.proofs.Folding.{fold_shown}
-use Rattle.condition_node.proofs.Knowing.{blockers_ask}
-use Rattle.condition_node.proofs.Lending.{join_with, exists_with, not_with, fold_with}
-use Rattle.condition_node.proofs.Shown.{join_shown, exists_shown, not_shown}
-use Rattle.condition_node.proofs.Still.{neither, same}
-use Rattle.condition_node.proofs.Telling.{join_turns, exists_turns, fold_turns}
-use Rattle.condition_node.proofs.Turning.{counts_next}
+use Rattle.pair_memory.proofs.{Handed.{keeps_shared, handed_joined, moved_none}, Joining.{joined_alike}}
+use Rattle.tally_node.proofs.{Handing.{no_turn}, Turning.{shown_alike}}
+use Rattle.condition_node.proofs.{Folding.{fold_shown}, Knowing.{blockers_ask}, Lending.{join_with, exists_with, not_with, fold_with}, Shown.{join_shown}}
+use Rattle.condition_node.proofs.{Shown.{exists_shown, not_shown}, Still.{neither, same}, Telling.{join_turns, exists_turns, fold_turns}, Turning.{counts_next}}
 
 module _ {S : Type 0} (m : Memories S) (was : Candidates) (look : Look) (left right : Delta) (takes : TakesOver m was look right [] []) where
   untouched_step : changes_nothing left ≡ true → IsStepped (sharing m was) m look left right

@@ -1,16 +1,11 @@
 -- What is given where a node forgets.
 use Rattle.std.specs.Prelude.{◌≡◌, not, true, Bool, List}
-use Rattle.row_delta.specs.declared.row.Named.{Named}
-use Rattle.row_delta.specs.declared.row.Row.{Row}
-use Rattle.row_delta.specs.Rows.{has}
-use Rattle.rule_model.specs.declared.program.Program.{Program}
-use Rattle.rule_model.specs.Distinct.{HaveDistinctTags}
-use Rattle.rule_model.specs.Snapshots.{Snapshot}
+use Rattle.row_delta.specs.{declared.row.{Named.{Named}, Row.{Row}}, Rows.{has}}
+use Rattle.rule_model.specs.{declared.program.Program.{Program}, Distinct.{HaveDistinctTags}, Snapshots.{Snapshot}}
 use Rattle.join_tests.specs.Joins.{Look}
 use Rattle.pair_memory.specs.Standing.{clean, cleaned}
 use Rattle.condition_rows.specs.Looks.{HasAllOf, NameHeld}
-use Rattle.condition_node.specs.declared.node.Node.{Node}
-use Rattle.condition_node.specs.Nodes.{NodeStands}
+use Rattle.condition_node.specs.{declared.node.Node.{Node}, Nodes.{NodeStands}}
 
 -- The node stands for these rows before it, in a snapshot of which the store has what was not forgotten before; and of these rows those are
 -- dropped that name an old fact.

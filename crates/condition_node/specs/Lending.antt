@@ -1,20 +1,10 @@
 -- Nodes whose candidates are shared: they are lent to a node for its turn, in place of its own.
-use Rattle.std.specs.Prelude.{◌≡◌, Bool, List, Option, Some, None}
-use Rattle.std.specs.Option.{is_some}
-use Rattle.fx_base.specs.declared.value.Value.{Value}
-use Rattle.fx_base.specs.Values.{same_value}
-use Rattle.row_delta.specs.declared.delta.Delta.{Delta}
-use Rattle.row_delta.specs.declared.row.Named.{Named}
-use Rattle.row_delta.specs.declared.row.Row.{Row}
-use Rattle.row_delta.specs.Rows.{row_cmp}
-use Rattle.alpha_memory.specs.declared.join_index.JoinIndex.{JoinIndex}
-use Rattle.alpha_memory.specs.JoinIndex.{at, bucket_at}
-use Rattle.join_tests.specs.Joins.{Look}
-use Rattle.join_tests.specs.Kept.{row_value}
-use Rattle.pair_memory.specs.declared.candidates.Candidates.{Candidates}
-use Rattle.pair_memory.specs.declared.memories.Memories.{Memories}
-use Rattle.pair_memory.specs.Joined.{has_name}
-use Rattle.pair_memory.specs.Memories.{has_right}
+use Rattle.std.specs.{Prelude.{◌≡◌, Bool, List, Option, Some, None}, Option.{is_some}}
+use Rattle.fx_base.specs.{declared.value.Value.{Value}, Values.{same_value}}
+use Rattle.row_delta.specs.{declared.{delta.Delta.{Delta}, row.{Named.{Named}, Row.{Row}}}, Rows.{row_cmp}}
+use Rattle.alpha_memory.specs.{declared.join_index.JoinIndex.{JoinIndex}, JoinIndex.{at, bucket_at}}
+use Rattle.join_tests.specs.{Joins.{Look}, Kept.{row_value}}
+use Rattle.pair_memory.specs.{declared.{candidates.Candidates.{Candidates}, memories.Memories.{Memories}}, Joined.{has_name}, Memories.{has_right}}
 use Rattle.pair_memory.specs.Shared.{sharing, NamesAgree, ForgoesOld, TakesOver}
 use Rattle.beta_join.specs.Doors.{joined_candidates}
 use Rattle.tally_node.specs.Doors.{tallied_candidates}

@@ -1,39 +1,19 @@
 -- What a node stands for once it is loaded with what is kept, and with extras of what is forgotten; and what it counts of what is forgotten.
 use Rattle.std.specs.Prelude.{◌≡◌, ◌≤ℤ◌, ◌<◌, ◌↔◌, ℕ, Bool, true, List, [], length, Option, Some, None}
-use Rattle.fx_base.specs.Lists.{In}
-use Rattle.fx_base.specs.declared.fact.Fact.{Fact}
-use Rattle.fx_base.specs.declared.ids.RuleId.{RuleId}
-use Rattle.row_delta.specs.declared.extra.Extra.{Extra}
-use Rattle.row_delta.specs.declared.row.Named.{Named}
-use Rattle.row_delta.specs.declared.row.Row.{Row}
-use Rattle.row_delta.specs.Rows.{has, InOrder}
-use Rattle.rule_model.specs.declared.condition.Condition.{Condition}
-use Rattle.rule_model.specs.declared.condition.Condition.TheVariants.{Plain}
-use Rattle.rule_model.specs.declared.program.Program.{Program}
-use Rattle.rule_model.specs.Distinct.{HaveDistinctTags}
-use Rattle.rule_model.specs.Rows.{pattern_of}
-use Rattle.rule_model.specs.Snapshots.{Snapshot, floor}
+use Rattle.fx_base.specs.{Lists.{In}, declared.{fact.Fact.{Fact}, ids.RuleId.{RuleId}}}
+use Rattle.row_delta.specs.{declared.{extra.Extra.{Extra}, row.{Named.{Named}, Row.{Row}}}, Rows.{has, InOrder}}
+use Rattle.rule_model.specs.{declared.{condition.Condition.{Condition, TheVariants.{Plain}}, program.Program.{Program}}, Distinct.{HaveDistinctTags}}
+use Rattle.rule_model.specs.{Rows.{pattern_of}, Snapshots.{Snapshot, floor}}
 use Rattle.join_tests.specs.Joins.{Look, joins}
-use Rattle.pair_memory.specs.declared.memories.Memories.{Memories}
-use Rattle.pair_memory.specs.Joined.{has_name}
-use Rattle.pair_memory.specs.Memories.{made}
-use Rattle.pair_memory.specs.Standing.{cleaned, remembered, no_names, StandsFor}
+use Rattle.pair_memory.specs.{declared.memories.Memories.{Memories}, Joined.{has_name}, Memories.{made}, Standing.{cleaned, remembered, no_names, StandsFor}}
 use Rattle.pair_memory.specs.Valued.{without_value, shows_value}
-use Rattle.tally_node.specs.Counts.{counts_blockers, counts_witnesses, where_witnessed}
-use Rattle.tally_node.specs.Extras.{blockers_laden, witnesses_laden, gathered_laden, rows_of_extras}
-use Rattle.tally_node.specs.Gathers.{gathers, result_for}
-use Rattle.tally_node.specs.Laws.{StandsLaden}
-use Rattle.not_node.specs.declared.node.NotNode.{NotNode}
-use Rattle.tally_node.specs.Origins.{itself, shows_any}
-use Rattle.tally_node.specs.Tallies.{shown}
+use Rattle.tally_node.specs.{Counts.{counts_blockers, counts_witnesses, where_witnessed}, Extras.{blockers_laden, witnesses_laden, gathered_laden}}
+use Rattle.tally_node.specs.{Extras.{rows_of_extras}, Gathers.{gathers, result_for}, Laws.{StandsLaden}, Origins.{itself, shows_any}, Tallies.{shown}}
 use Rattle.tally_node.specs.Doors.{tallied_pattern}
-use Rattle.not_node.specs.Rows.{IsInStep, not_rows}
-use Rattle.not_node.specs.Waiting.{NoneDue}
-use Rattle.not_node.specs.Doors.{awaited_entry, blocker_tallies, reached_floor, waiting_rows}
-use Rattle.condition_rows.specs.Looks.{empty_snapshot, HasAllOf, NameHeld}
-use Rattle.condition_rows.specs.Sets.{held, candidates_of}
-use Rattle.condition_node.specs.declared.node.FoldNode.{FoldNode}
-use Rattle.condition_node.specs.declared.node.Node.{Node}
+use Rattle.not_node.specs.{declared.node.NotNode.{NotNode}, Rows.{IsInStep, not_rows}, Waiting.{NoneDue}, Doors.{awaited_entry, blocker_tallies, reached_floor}}
+use Rattle.not_node.specs.Doors.{waiting_rows}
+use Rattle.condition_rows.specs.{Looks.{empty_snapshot, HasAllOf, NameHeld}, Sets.{held, candidates_of}}
+use Rattle.condition_node.specs.declared.node.{FoldNode.{FoldNode}, Node.{Node}}
 use Rattle.condition_node.specs.declared.node.Node.TheVariants as node
 use Rattle.condition_node.specs.Nodes.{condition_of, NodeStands}
 use Rattle.laden_rows.specs.Extras.{lost_partners, values_gathered}

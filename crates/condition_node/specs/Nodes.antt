@@ -1,25 +1,15 @@
 -- Of which condition a node is, and for which rows it stands.
 use Rattle.std.specs.Prelude.{◌≡◌, ◌≤ℤ◌, Bool, true, false}
-use Rattle.row_delta.specs.declared.row.Named.{Named}
-use Rattle.row_delta.specs.declared.row.Row.{Row}
-use Rattle.rule_model.specs.declared.condition.Condition.{Condition}
-use Rattle.rule_model.specs.declared.condition.Condition.TheVariants.{Plain, Negated, Existing, Folded}
-use Rattle.rule_model.specs.declared.program.Program.{Program}
+use Rattle.row_delta.specs.declared.row.{Named.{Named}, Row.{Row}}
+use Rattle.rule_model.specs.declared.{condition.Condition.{Condition, TheVariants.{Plain, Negated, Existing, Folded}}, program.Program.{Program}}
 use Rattle.rule_model.specs.Snapshots.{Snapshot, floor}
 use Rattle.join_tests.specs.Joins.{Look, joins}
-use Rattle.pair_memory.specs.declared.memories.Memories.{Memories}
-use Rattle.pair_memory.specs.Standing.{StandsFor}
-use Rattle.tally_node.specs.Counts.{counts_blockers, counts_witnesses}
-use Rattle.tally_node.specs.Gathers.{gathers}
-use Rattle.tally_node.specs.Laws.{StandsCounted}
-use Rattle.tally_node.specs.Doors.{tallied_pattern}
-use Rattle.not_node.specs.declared.node.NotNode.{NotNode}
-use Rattle.not_node.specs.Rows.{IsInStep}
-use Rattle.not_node.specs.Waiting.{NoneDue}
-use Rattle.not_node.specs.Doors.{awaited_entry, blocker_tallies, blocking_pattern, reached_floor, waiting_rows}
+use Rattle.pair_memory.specs.{declared.memories.Memories.{Memories}, Standing.{StandsFor}}
+use Rattle.tally_node.specs.{Counts.{counts_blockers, counts_witnesses}, Gathers.{gathers}, Laws.{StandsCounted}, Doors.{tallied_pattern}}
+use Rattle.not_node.specs.{declared.node.NotNode.{NotNode}, Rows.{IsInStep}, Waiting.{NoneDue}, Doors.{awaited_entry, blocker_tallies, blocking_pattern}}
+use Rattle.not_node.specs.Doors.{reached_floor, waiting_rows}
 use Rattle.condition_rows.specs.Sets.{held, candidates_of}
-use Rattle.condition_node.specs.declared.node.FoldNode.{FoldNode}
-use Rattle.condition_node.specs.declared.node.Node.{Node}
+use Rattle.condition_node.specs.declared.node.{FoldNode.{FoldNode}, Node.{Node}}
 use Rattle.condition_node.specs.declared.node.Node.TheVariants as node
 use Rattle.beta_join.specs.Doors.{joined_pattern}
 

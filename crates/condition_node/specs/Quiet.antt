@@ -1,18 +1,11 @@
 -- How long a move of the clock alone changes nothing.
 use Rattle.std.specs.Prelude.{◌≡◌, ◌≤ℤ◌, ◌<ℤ◌, ◌^◌, pos, ℤ, Bool, true, false, Option, Some, None}
-use Rattle.row_delta.specs.declared.row.Named.{Named}
-use Rattle.row_delta.specs.declared.row.Row.{Row}
-use Rattle.rule_model.specs.declared.program.Program.{Program}
-use Rattle.rule_model.specs.Distinct.{HaveDistinctTags}
-use Rattle.rule_model.specs.Rows.{pattern_of}
-use Rattle.rule_model.specs.Snapshots.{Snapshot}
+use Rattle.row_delta.specs.declared.row.{Named.{Named}, Row.{Row}}
+use Rattle.rule_model.specs.{declared.program.Program.{Program}, Distinct.{HaveDistinctTags}, Rows.{pattern_of}, Snapshots.{Snapshot}}
 use Rattle.join_tests.specs.Joins.{Look}
 use Rattle.pair_memory.specs.Standing.{cleaned}
-use Rattle.condition_rows.specs.Lines.{line}
-use Rattle.condition_rows.specs.Looks.{HasAllOf, NameHeld}
-use Rattle.condition_rows.specs.Sets.{candidates_of}
-use Rattle.condition_node.specs.declared.node.Node.{Node}
-use Rattle.condition_node.specs.Nodes.{condition_of, NodeStands}
+use Rattle.condition_rows.specs.{Lines.{line}, Looks.{HasAllOf, NameHeld}, Sets.{candidates_of}}
+use Rattle.condition_node.specs.{declared.node.Node.{Node}, Nodes.{condition_of, NodeStands}}
 
 -- the snapshot at another clock
 abbrev pub at_clock : Snapshot → ℤ → Snapshot

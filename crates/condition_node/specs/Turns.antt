@@ -1,21 +1,13 @@
 -- What is given for a step of a node.
 use Rattle.std.specs.Prelude.{ℕ, Bool, ◌≤ℤ◌}
-use Rattle.row_delta.specs.declared.delta.Delta.{Delta}
-use Rattle.row_delta.specs.declared.row.Named.{Named}
-use Rattle.row_delta.specs.declared.row.Row.{Row}
+use Rattle.row_delta.specs.declared.{delta.Delta.{Delta}, row.{Named.{Named}, Row.{Row}}}
 use Rattle.row_change.specs.Changes.{LeadsRows}
-use Rattle.rule_model.specs.declared.condition.Condition.{Condition}
-use Rattle.rule_model.specs.declared.condition.Condition.TheVariants.{Plain}
-use Rattle.rule_model.specs.declared.program.Program.{Program}
-use Rattle.rule_model.specs.Distinct.{HaveDistinctTags}
-use Rattle.rule_model.specs.Rows.{pattern_of}
-use Rattle.rule_model.specs.Snapshots.{Snapshot, floor}
+use Rattle.rule_model.specs.{declared.{condition.Condition.{Condition, TheVariants.{Plain}}, program.Program.{Program}}, Distinct.{HaveDistinctTags}}
+use Rattle.rule_model.specs.{Rows.{pattern_of}, Snapshots.{Snapshot, floor}}
 use Rattle.join_tests.specs.Joins.{Look, joins}
-use Rattle.pair_memory.specs.Inputs.{IsNameDifference}
-use Rattle.pair_memory.specs.Standing.{cleaned, remembered, no_names}
+use Rattle.pair_memory.specs.{Inputs.{IsNameDifference}, Standing.{cleaned, remembered, no_names}}
 use Rattle.tally_node.specs.Laws.{ForgottenStay}
-use Rattle.condition_rows.specs.Sets.{candidates_of}
-use Rattle.condition_rows.specs.Looks.{HasAllOf, NameHeld}
+use Rattle.condition_rows.specs.{Sets.{candidates_of}, Looks.{HasAllOf, NameHeld}}
 
 -- What a condition counts or gathers of forgotten facts stays as it is, and for rows that come there is none of it. A condition that binds
 -- a fact counts nothing: its rows name what they are made of.

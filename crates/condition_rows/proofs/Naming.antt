@@ -1,9 +1,6 @@
 -- What the rows of conditions name.
 use Rattle.condition_rows.proofs.Common.{◌≡◌, ap, subst, List, true, Row, Condition, Program, HaveDistinctTags, Snapshot, versions_at, held, rows_of, is_some}
-use Rattle.condition_rows.proofs.Common.{NameHeld}
-use Rattle.condition_rows.proofs.Holding.{versions_of}
-use Rattle.condition_rows.proofs.Ends.{tuple_of_row}
-use Rattle.condition_rows.proofs.Joined.{made_facts}
+use Rattle.condition_rows.proofs.{Common.{NameHeld}, Holding.{versions_of}, Ends.{tuple_of_row}, Joined.{made_facts}}
 
 pub rows_named : (p : Program) (s : Snapshot) → HaveDistinctTags s.facts → (cs : List Condition) → NameHeld s (rows_of p s cs)
 rows_named p s d cs row e =

@@ -1,23 +1,12 @@
 -- What one condition more at the end makes of the rows of the conditions before it, read backward from a row: for each kind of
 -- condition one line.
-use Rattle.std.specs.Prelude.{◌&&◌, not, Bool, false, ℤ, List, [], Option, Some, None}
-use Rattle.std.specs.List.{fold}
-use Rattle.std.specs.Ordering.{eq_by_cmp, int_eq}
-use Rattle.row_delta.specs.declared.row.Row.{Row}
-use Rattle.row_delta.specs.Rows.{row_cmp}
-use Rattle.rule_model.specs.declared.condition.Accumulate.{Accumulate}
-use Rattle.rule_model.specs.declared.condition.Condition.{Condition}
-use Rattle.rule_model.specs.declared.condition.Condition.TheVariants.{Plain, Negated, Existing, Folded}
-use Rattle.rule_model.specs.declared.condition.Pattern.{Pattern}
-use Rattle.rule_model.specs.declared.program.Program.{Program}
-use Rattle.rule_model.specs.Lent.{bound_in}
-use Rattle.rule_model.specs.Maturity.{is_mature}
-use Rattle.rule_model.specs.Rows.{result_of}
-use Rattle.rule_model.specs.Snapshots.{Snapshot, floor}
-use Rattle.rule_model.specs.Tests.{results_hold}
+use Rattle.std.specs.{Prelude.{◌&&◌, not, Bool, false, ℤ, List, [], Option, Some, None}, List.{fold}, Ordering.{eq_by_cmp, int_eq}}
+use Rattle.row_delta.specs.{declared.row.Row.{Row}, Rows.{row_cmp}}
+use Rattle.rule_model.specs.declared.condition.{Accumulate.{Accumulate}, Condition.{Condition, TheVariants.{Plain, Negated, Existing, Folded}}}
+use Rattle.rule_model.specs.{declared.{condition.Pattern.{Pattern}, program.Program.{Program}}, Lent.{bound_in}, Maturity.{is_mature}, Rows.{result_of}}
+use Rattle.rule_model.specs.{Snapshots.{Snapshot, floor}, Tests.{results_hold}}
 use Rattle.join_tests.specs.Joins.{joins}
-use Rattle.pair_memory.specs.Joined.{joined}
-use Rattle.pair_memory.specs.Valued.{valued}
+use Rattle.pair_memory.specs.{Joined.{joined}, Valued.{valued}}
 use Rattle.condition_rows.specs.Sets.{held, candidates_of, has_partner, partners}
 
 -- ---- what a condition asks of a row

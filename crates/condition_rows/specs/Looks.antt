@@ -1,12 +1,8 @@
 -- What a store has at hand of the facts of a snapshot, and rows that name these facts alone.
-use Rattle.std.specs.Prelude.{◌≡◌, Bool, true, false, pos, [], Some}
-use Rattle.std.specs.Option.{is_some}
-use Rattle.fx_base.specs.declared.fact.Fact.{Fact}
-use Rattle.fx_base.specs.declared.ids.Tag.{Tag}
-use Rattle.row_delta.specs.declared.row.Named.{Named}
-use Rattle.row_delta.specs.declared.row.Row.{Row}
-use Rattle.rule_model.specs.Snapshots.{nothing_reached, Snapshot}
-use Rattle.rule_model.specs.Tuples.{name_of}
+use Rattle.std.specs.{Prelude.{◌≡◌, Bool, true, false, pos, [], Some}, Option.{is_some}}
+use Rattle.fx_base.specs.declared.{fact.Fact.{Fact}, ids.Tag.{Tag}}
+use Rattle.row_delta.specs.declared.row.{Named.{Named}, Row.{Row}}
+use Rattle.rule_model.specs.{Snapshots.{nothing_reached, Snapshot}, Tuples.{name_of}}
 use Rattle.join_tests.specs.Joins.{Look, versions_at}
 use Rattle.condition_rows.specs.Sets.{held}
 

@@ -1,17 +1,9 @@
 -- The rows of conditions and the candidates of a pattern as sets, where sets are tests.
-use Rattle.std.specs.Prelude.{◌==◌, Bool, false, List, map, Option, Some, None}
-use Rattle.std.specs.List.{find, filter, list_any}
+use Rattle.std.specs.{Prelude.{◌==◌, Bool, false, List, map, Option, Some, None}, List.{find, filter, list_any}}
 use Rattle.fx_base.specs.declared.fact.Fact.{Fact}
-use Rattle.row_delta.specs.declared.row.Named.{Named}
-use Rattle.row_delta.specs.declared.row.Row.{Row}
-use Rattle.row_delta.specs.Rows.{has}
-use Rattle.rule_model.specs.declared.condition.Condition.{Condition}
-use Rattle.rule_model.specs.declared.condition.Pattern.{Pattern}
-use Rattle.rule_model.specs.declared.program.Program.{Program}
-use Rattle.rule_model.specs.Candidates.{is_candidate, candidates}
-use Rattle.rule_model.specs.Rows.{rows}
-use Rattle.rule_model.specs.Snapshots.{Snapshot}
-use Rattle.rule_model.specs.Tuples.{name_of}
+use Rattle.row_delta.specs.{declared.row.{Named.{Named}, Row.{Row}}, Rows.{has}}
+use Rattle.rule_model.specs.{declared.{condition.{Condition.{Condition}, Pattern.{Pattern}}, program.Program.{Program}}, Candidates.{is_candidate, candidates}}
+use Rattle.rule_model.specs.{Rows.{rows}, Snapshots.{Snapshot}, Tuples.{name_of}}
 use Rattle.join_tests.specs.Joins.{Look, version_at, joins}
 
 -- a row is one of the rows of the conditions

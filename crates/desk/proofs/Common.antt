@@ -1,7 +1,5 @@
 -- Files of which one byte more than they may have is read.
-use Rattle.std.proofs.Common.{◌≡◌, ◌+◌, ◌≤◌, ℕ, true, false, List, length, take, arith}
-use Rattle.std.specs.Prelude.{nat_lt}
-use Rattle.std.proofs.lemmas.Bool.Decides.{nat_tests}
+use Rattle.std.{proofs.{Common.{◌≡◌, ◌+◌, ◌≤◌, ℕ, true, false, List, length, take, arith}, lemmas.Bool.Decides.{nat_tests}}, specs.Prelude.{nat_lt}}
 use Rattle.std.proofs.lemmas.List.{length-take}
 pub use Rattle.std.proofs.lemmas.List.{take_all}
 

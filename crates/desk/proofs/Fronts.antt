@@ -1,9 +1,7 @@
 -- Fronts of bytes in two pieces.
-use Rattle.std.proofs.Common.{◌≡◌, ◌+◌, ◌++◌, ℕ, List, [], length, take, Option, sym, ap, ◌∙◌, arith}
-use Rattle.std.proofs.lemmas.List.{length-append}
-use Rattle.std.proofs.Math.Seq.{take-append-add, take-length}
-use Rattle.fx_io.specs.Outside.{append, AppendsFront}
-use Rattle.fx_io.proofs.Told.{append-append}
+use Rattle.std.proofs.{Common.{◌≡◌, ◌+◌, ◌++◌, ℕ, List, [], length, take, Option, sym, ap, ◌∙◌, arith}, lemmas.List.{length-append}, Math.Seq.{take-append-add}}
+use Rattle.std.proofs.Math.Seq.{take-length}
+use Rattle.fx_io.{specs.Outside.{append, AppendsFront}, proofs.Told.{append-append}}
 
 -- all
 pub all_front : (before after : Option (List ℕ)) (text : List ℕ) → after ≡ append before text → AppendsFront before after text

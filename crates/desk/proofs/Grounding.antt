@@ -6,8 +6,7 @@ use Rattle.image_laws.specs.Fitting.{Fits}
 use Rattle.image_making.specs.Loads.{CanBeLoaded}
 use Rattle.laden_rows.specs.Laden.{AreOwners}
 use Rattle.life_meaning.specs.Tables.{IsSafeTable}
-use Rattle.rule_model.specs.declared.life.LifeTable.{LifeTable}
-use Rattle.rule_model.specs.declared.program.Program.{Program}
+use Rattle.rule_model.specs.declared.{life.LifeTable.{LifeTable}, program.Program.{Program}}
 use Rattle.rule_world.specs.Programs.{IsRunnable}
 
 -- a network can be loaded from an image that fits plainly

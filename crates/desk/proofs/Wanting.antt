@@ -1,30 +1,18 @@
 -- What is wanted, by the files that were read.
-use Rattle.std.proofs.Common.{◌≡◌, ◌≢◌, ◌+◌, ℕ, Bool, true, false, not, List, take, Option, Some, None, refl, sym, subst, ap, ◌∙◌}
-use Rattle.std.specs.Prelude.{IfSome}
-use Rattle.command_words.specs.declared.desk.DeskAsked.{DeskAsked}
-use Rattle.command_words.specs.declared.desk.DeskWords.TheVariants.{Run}
+use Rattle.std.{proofs.Common.{◌≡◌, ◌≢◌, ◌+◌, ℕ, Bool, true, false, not, List, take, Option, Some, None, refl, sym, subst, ap, ◌∙◌}, specs.Prelude.{IfSome}}
+use Rattle.command_words.specs.declared.desk.{DeskAsked.{DeskAsked}, DeskWords.TheVariants.{Run}}
 use Rattle.drl_names.specs.declared.rule_names.RuleNames.{RuleNames}
 use Rattle.drl_parse.specs.Parsed.{file_limit}
 use Rattle.fx_io.specs.Outside.{IsMissing, IsOnShelf, file_told}
-use Rattle.replay.specs.declared.refusal.Refusal.{Refusal}
-use Rattle.replay.specs.declared.refusal.RefusalCode.TheVariants.{Missing}
-use Rattle.replay.specs.declared.refused_checkpoint.CheckpointCode.{CheckpointCode}
-use Rattle.replay.specs.Checkpoints.{rules_shown}
-use Rattle.replay.specs.Names.{names_read}
-use Rattle.replay.specs.Refusals.{reading, whole_file}
-use Rattle.replay.specs.Wanted.{Files}
-use Rattle.replay.proofs.Reports.{names_taken, rules_in_read, within_taken}
+use Rattle.replay.specs.declared.{refusal.{Refusal.{Refusal}, RefusalCode.TheVariants.{Missing}}, refused_checkpoint.CheckpointCode.{CheckpointCode}}
+use Rattle.replay.{specs.{Checkpoints.{rules_shown}, Names.{names_read}, Refusals.{reading, whole_file}, Wanted.{Files}}, proofs.Reports.{names_taken}}
+use Rattle.replay.proofs.Reports.{rules_in_read, within_taken}
 use Rattle.rule_model.specs.declared.program.Program.{Program}
-use Rattle.script_run.specs.declared.form.Form.{Form}
-use Rattle.script_run.specs.declared.form.Form.TheVariants.{Objects}
-use Rattle.desk.specs.declared.reading.Rules.{Rules}
-use Rattle.desk.specs.declared.start.Start.{Start as StartData}
-use Rattle.desk.specs.declared.start.Start.TheVariants.{Begins, Changes}
-use Rattle.desk.specs.declared.wanted.Setting.{Setting}
-use Rattle.desk.specs.Rules.{AreAccepted, AreRefused, AreRefusedIn, coming_as}
-use Rattle.desk.specs.Starts.{HasText, start_as, wanted_as}
-use Rattle.desk.specs.Wanted.{cannot_begin, cannot_come, come, coming, coming_in, form_of, over_old, refuses, refuses_image, setting_of}
-use Rattle.desk.specs.Wanted.{start, to_come, wanted_by, wanted_by_file, wanted_by_reading, wanted_from, wanted_with}
+use Rattle.script_run.specs.declared.form.Form.{Form, TheVariants.{Objects}}
+use Rattle.desk.specs.declared.{reading.Rules.{Rules}, start.Start.{Start as StartData, TheVariants.{Begins, Changes}}, wanted.Setting.{Setting}}
+use Rattle.desk.specs.{Rules.{AreAccepted, AreRefused, AreRefusedIn, coming_as}, Starts.{HasText, start_as, wanted_as}, Wanted.{cannot_begin, cannot_come}}
+use Rattle.desk.specs.Wanted.{come, coming, coming_in, form_of, over_old, refuses, refuses_image, setting_of, start, to_come, wanted_by, wanted_by_file}
+use Rattle.desk.specs.Wanted.{wanted_by_reading, wanted_from, wanted_with}
 
 -- ---- a rule file
 

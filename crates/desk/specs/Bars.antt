@@ -1,15 +1,8 @@
 -- Why a live run does not go, and what becomes of a change of rules, as the code tells it.
 use Rattle.std.specs.Prelude.{◌≡◌}
-use Rattle.desk.specs.declared.changing.Outcome.{Outcome}
-use Rattle.desk.specs.declared.changing.Outcome.TheVariants.{Taken, Refused, Unfit}
-use Rattle.desk.specs.declared.going.Bar.{Bar}
-use Rattle.desk.specs.declared.going.Bar.TheVariants.{Line, NoMemory}
-use Rattle.desk.specs.declared.going.Inferred.{Inferred}
-use Rattle.desk.specs.declared.wanted.Begun.{Begun}
-use Rattle.desk.specs.declared.wanted.Changing.{Changing}
-use Rattle.desk.specs.Changes.{Changed, IsRefusedOver, IsUnfit, begun_over}
-use Rattle.desk.specs.Going.{AreInferred, IsBarred, change_text}
-use Rattle.desk.specs.Report.{table_by}
+use Rattle.desk.specs.declared.{changing.Outcome.{Outcome, TheVariants.{Taken, Refused, Unfit}}, going.Bar.{Bar, TheVariants.{Line, NoMemory}}}
+use Rattle.desk.specs.{declared.{going.Inferred.{Inferred}, wanted.{Begun.{Begun}, Changing.{Changing}}}, Changes.{Changed, IsRefusedOver, IsUnfit, begun_over}}
+use Rattle.desk.specs.{Going.{AreInferred, IsBarred, change_text}, Report.{table_by}}
 use Rattle.rule_change.specs.declared.code.ChangeCode.{ChangeCode}
 
 abbrev pub IsBar : Begun → Bar → Type 0

@@ -2,22 +2,15 @@
 use Rattle.std.specs.Prelude.{◌≡◌, ◌⊎◌, ℕ, false, List, Option, Some}
 use Rattle.checkpoint.specs.declared.image.Image.{Image}
 use Rattle.image_laws.specs.Fitting.{Fits}
-use Rattle.image_making.specs.Change.{IsTakenOver, IsVerdictOf, IsWorldOf}
-use Rattle.image_making.specs.Loads.{CanBeLoaded}
+use Rattle.image_making.specs.{Change.{IsTakenOver, IsVerdictOf, IsWorldOf}, Loads.{CanBeLoaded}}
 use Rattle.change_rules.specs.AsLong.{are_as_long}
 use Rattle.replay.specs.declared.beginning.Beginning.TheVariants.{Behind}
-use Rattle.rule_change.specs.declared.code.ChangeCode.{ChangeCode}
-use Rattle.rule_change.specs.Alike.{HaveNames, HavePlaces}
-use Rattle.rule_change.specs.Changed.{AreFrom}
-use Rattle.rule_change.specs.Told.{rules_told}
+use Rattle.rule_change.specs.{declared.code.ChangeCode.{ChangeCode}, Alike.{HaveNames, HavePlaces}, Changed.{AreFrom}, Told.{rules_told}}
 use Rattle.life_meaning.specs.Tables.{AreLives, IsSafeTable}
 use Rattle.rule_lines.specs.Told.{told_lines}
 use Rattle.rule_model.specs.declared.life.LifeTable.{LifeTable}
 use Rattle.rule_world.specs.Worlds.{World}
-use Rattle.desk.specs.declared.wanted.Begun.{Begun}
-use Rattle.desk.specs.declared.wanted.Changing.{Changing}
-use Rattle.desk.specs.Going.{behind_table}
-use Rattle.desk.specs.Meanings.{is_text}
+use Rattle.desk.specs.{declared.wanted.{Begun.{Begun}, Changing.{Changing}}, Going.{behind_table}, Meanings.{is_text}}
 
 -- what is known of the change: the lives that are inferred of the old rules and of the new ones, and which rules stay
 pub record Known (c : Changing) : Type 0 where

@@ -1,21 +1,14 @@
 -- By which lives a live run goes, which of them its images say, and why it does not begin.
 use Rattle.std.specs.Prelude.{◌≡◌, ◌≢◌, ◌⊎◌, ◌≤◌, ◌^◌, ◌++◌, [], ◌∷◌, ℕ, length, true, false, List, Option, Some, None, slice_get, codes}
-use Rattle.change_rules.specs.AsLong.{are_as_long}
-use Rattle.change_rules.specs.Longest.{longest}
-use Rattle.replay.specs.declared.beginning.Beginning.{Beginning}
-use Rattle.replay.specs.declared.beginning.Beginning.TheVariants.{First, Behind}
-use Rattle.replay.specs.declared.refused_checkpoint.CheckpointCode.TheVariants.{Unfit}
+use Rattle.change_rules.specs.{AsLong.{are_as_long}, Longest.{longest}}
+use Rattle.replay.specs.declared.{beginning.Beginning.{Beginning, TheVariants.{First, Behind}}, refused_checkpoint.CheckpointCode.TheVariants.{Unfit}}
 use Rattle.replay.specs.Checkpoints.{checkpoint_text}
-use Rattle.rule_change.specs.declared.code.ChangeCode.{ChangeCode}
-use Rattle.rule_change.specs.declared.code.ChangeCode.TheVariants.{OtherTypes, OtherEntries, Pending, Longer, Forgotten}
-use Rattle.rule_change.specs.Refused.{IsFirstPlace, IsLonger}
+use Rattle.rule_change.specs.{declared.code.ChangeCode.{ChangeCode, TheVariants.{OtherTypes, OtherEntries, Pending, Longer, Forgotten}}, Refused.{IsFirstPlace}}
+use Rattle.rule_change.specs.Refused.{IsLonger}
 use Rattle.life_meaning.specs.Tables.{AreLives}
-use Rattle.rule_model.specs.declared.life.LifeTable.{LifeTable}
-use Rattle.rule_model.specs.declared.program.Program.{Program}
-use Rattle.rule_model.specs.declared.program.TypeInfo.{TypeInfo}
+use Rattle.rule_model.specs.declared.{life.LifeTable.{LifeTable}, program.{Program.{Program}, TypeInfo.{TypeInfo}}}
 use Rattle.fx_base.specs.declared.ids.TypeId.{TypeId}
-use Rattle.desk.specs.declared.going.Inferred.{Inferred}
-use Rattle.desk.specs.declared.going.Later.{Later}
+use Rattle.desk.specs.declared.going.{Inferred.{Inferred}, Later.{Later}}
 
 -- ---- the line with which other rules are refused
 

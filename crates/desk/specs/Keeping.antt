@@ -1,30 +1,20 @@
 -- An image that is put to a file.
 use Rattle.std.specs.Prelude.{◌≡◌, ◌≢◌, ◌⊎◌, ◌<◌, ◌≤◌, ◌++◌, [], ℕ, Bool, true, false, List, length, Option, Some, None, codes}
 use Rattle.fx_io.specs.Outside.{AppendsFront}
-use Rattle.fx_store.specs.Puts.{IsPut}
-use Rattle.fx_store.specs.declared.store.StoreFault.{StoreFault}
+use Rattle.fx_store.specs.{Puts.{IsPut}, declared.store.StoreFault.{StoreFault}}
 use Rattle.fx_store.specs.declared.store.StoreFault.TheVariants as store
-use Rattle.checkpoint.specs.declared.image.Image.{Image}
-use Rattle.checkpoint.specs.Bytes.{IsImage}
-use Rattle.checkpoint.specs.declared.image.RunPart.{RunPart}
+use Rattle.checkpoint.specs.{declared.image.{Image.{Image}, RunPart.{RunPart}}, Bytes.{IsImage}}
 use Rattle.desk_image.specs.Bytes.{AreImageLives, desk_bytes, lives_bytes}
 use Rattle.image_laws.specs.Images.{IsImageOf}
-use Rattle.rule_model.specs.declared.life.LifeTable.{LifeTable}
-use Rattle.rule_model.specs.declared.program.Program.{Program}
+use Rattle.rule_model.specs.declared.{life.LifeTable.{LifeTable}, program.Program.{Program}}
 use Rattle.rule_world.specs.Worlds.{World}
-use Rattle.line_run.specs.declared.fault.ImageFault.{ImageFault}
-use Rattle.line_run.specs.declared.fault.KeepFault.{KeepFault}
+use Rattle.line_run.specs.declared.fault.{ImageFault.{ImageFault}, KeepFault.{KeepFault}}
 use Rattle.line_run.specs.declared.fault.KeepFault.TheVariants as keep
 use Rattle.line_run.specs.declared.fault.ImageFault.TheVariants as fault
-use Rattle.line_run.specs.declared.turn.Ended.TheVariants.{Script}
-use Rattle.line_run.specs.Parts.{run_part_at}
-use Rattle.line_run.specs.Run.{RunState}
+use Rattle.line_run.specs.{declared.turn.Ended.TheVariants.{Script}, Parts.{run_part_at}, Run.{RunState}}
 use Rattle.script_run.specs.Live.{most_firings}
-use Rattle.replay.specs.declared.refused_checkpoint.CheckpointCode.{CheckpointCode}
-use Rattle.replay.specs.declared.refused_checkpoint.CheckpointCode.TheVariants.{Missing, TooLong, BadImage, OtherRules, Unfit}
-use Rattle.replay.specs.Report.{run_status}
-use Rattle.replay.specs.Checkpoints.{can_go_on, checkpoint_text, image_limit}
-use Rattle.replay.specs.Wanted.{Files}
+use Rattle.replay.specs.declared.refused_checkpoint.CheckpointCode.{CheckpointCode, TheVariants.{Missing, TooLong, BadImage, OtherRules, Unfit}}
+use Rattle.replay.specs.{Report.{run_status}, Checkpoints.{can_go_on, checkpoint_text, image_limit}, Wanted.{Files}}
 
 -- what stands in front of the bytes of an image
 abbrev pub front_bytes : Option LifeTable → List ℕ

@@ -1,8 +1,6 @@
 -- What engines answer: the one whose answers are written as text, and the one whose answers are written as objects.
 use Rattle.std.specs.Prelude.{Bool, true, false}
-use Rattle.script_run.specs.Firings.{Gives, Fires, Counts}
-use Rattle.script_run.specs.declared.form.Form.{Form}
-use Rattle.script_run.specs.declared.form.Form.TheVariants.{Text, Objects}
+use Rattle.script_run.specs.{Firings.{Gives, Fires, Counts}, declared.form.Form.{Form, TheVariants.{Text, Objects}}}
 
 -- the answers of an engine, and how many events it keeps
 pub record Meanings : Type 0 where

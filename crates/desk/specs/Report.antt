@@ -1,33 +1,18 @@
 -- What a desk writes, its status, and the image that it puts, with an engine of these meanings.
 use Rattle.std.specs.Prelude.{◌≡◌, ◌≢◌, ◌⊎◌, ◌≤◌, ◌++◌, [], ◌∷◌, ℕ, List, Option, Some, None, IfSome, codes, is_some}
-use Rattle.fx_io.specs.Outside.{append, AppendsFront}
-use Rattle.fx_io.specs.Lines.{lines_of}
+use Rattle.fx_io.specs.{Outside.{append, AppendsFront}, Lines.{lines_of}}
 use Rattle.rule_model.specs.declared.life.LifeTable.{LifeTable}
 use Rattle.rule_change.specs.declared.code.ChangeCode.{ChangeCode}
 use Rattle.rule_world.specs.Worlds.{World}
-use Rattle.line_run.specs.declared.turn.Ended.TheVariants.{Limit}
-use Rattle.line_run.specs.Parts.{progress_behind}
-use Rattle.line_run.specs.Prompt.{whole_lines}
-use Rattle.line_run.specs.Run.{Done, Outcome, RunState, saves, state_after, state_in}
-use Rattle.line_run.specs.Saves.{ArePut}
-use Rattle.line_run.specs.Unfinished.{StoppedKept}
+use Rattle.line_run.specs.{declared.turn.Ended.TheVariants.{Limit}, Parts.{progress_behind}, Prompt.{whole_lines}, Run.{Done, Outcome, RunState, saves}}
+use Rattle.line_run.specs.{Run.{state_after, state_in}, Saves.{ArePut}, Unfinished.{StoppedKept}}
 use Rattle.script_run.specs.Live.{LiveSetting, live_by, live_step, most_firings, run_live, saved_live}
-use Rattle.replay.specs.declared.refused_checkpoint.CheckpointCode.{CheckpointCode}
-use Rattle.replay.specs.declared.refused_checkpoint.CheckpointCode.TheVariants.{Unfit}
-use Rattle.replay.specs.Beginnings.{BeginsIn, CanBegin, part_of}
-use Rattle.replay.specs.Checkpoints.{checkpoint_text}
-use Rattle.replay.specs.Refusals.{refusal_text}
-use Rattle.replay.specs.Report.{run_status}
-use Rattle.replay.specs.Wanted.{Files}
-use Rattle.desk.specs.Keeping.{IsPutBehind, IsRefusedBehind}
-use Rattle.desk.specs.Meanings.{Engines, Meanings, meanings}
-use Rattle.desk.specs.declared.live.Live.{Live}
-use Rattle.desk.specs.declared.wanted.Begun.{Begun}
-use Rattle.desk.specs.declared.wanted.Changing.{Changing}
-use Rattle.desk.specs.declared.going.Inferred.{Inferred}
-use Rattle.desk.specs.Changes.{Changed, IsRefusedOver, IsUnfit, begun_over}
-use Rattle.desk.specs.Going.{AreInferred, IsBarred, IsTold, MayGoBy, change_text, table_in}
-use Rattle.desk.specs.Wanted.{Wanted, usage_line, says, refuses, refuses_image, runs, runs_over}
+use Rattle.replay.specs.{declared.refused_checkpoint.CheckpointCode.{CheckpointCode, TheVariants.{Unfit}}, Beginnings.{BeginsIn, CanBegin, part_of}}
+use Rattle.replay.specs.{Checkpoints.{checkpoint_text}, Refusals.{refusal_text}, Report.{run_status}, Wanted.{Files}}
+use Rattle.desk.specs.{Keeping.{IsPutBehind, IsRefusedBehind}, Meanings.{Engines, Meanings, meanings}, declared.{live.Live.{Live}, wanted.Begun.{Begun}}}
+use Rattle.desk.specs.{declared.{wanted.Changing.{Changing}, going.Inferred.{Inferred}}, Changes.{Changed, IsRefusedOver, IsUnfit, begun_over}}
+use Rattle.desk.specs.{Going.{AreInferred, IsBarred, IsTold, MayGoBy, change_text, table_in}, Wanted.{Wanted, usage_line, says, refuses, refuses_image, runs}}
+use Rattle.desk.specs.Wanted.{runs_over}
 
 -- the usage line
 abbrev pub usage : List ℕ

@@ -1,13 +1,8 @@
 -- Rule files, as the code reads them.
 use Rattle.std.specs.Prelude.{◌≡◌, ℕ, Bool, true, List, Option, Some, None}
-use Rattle.desk.specs.declared.reading.Rules.{Rules}
-use Rattle.desk.specs.Wanted.{ToCome, none_come, come}
-use Rattle.replay.specs.declared.refusal.Refusal.{Refusal}
-use Rattle.replay.specs.declared.refusal.RefusalCode.TheVariants.{Missing}
-use Rattle.replay.specs.declared.rule_file.Reading.TheVariants.{Accepted, Refused}
-use Rattle.replay.specs.Checkpoints.{rules_shown}
-use Rattle.replay.specs.Names.{names_read}
-use Rattle.replay.specs.Refusals.{reading, whole_file}
+use Rattle.desk.specs.{declared.reading.Rules.{Rules}, Wanted.{ToCome, none_come, come}}
+use Rattle.replay.specs.declared.{refusal.{Refusal.{Refusal}, RefusalCode.TheVariants.{Missing}}, rule_file.Reading.TheVariants.{Accepted, Refused}}
+use Rattle.replay.specs.{Checkpoints.{rules_shown}, Names.{names_read}, Refusals.{reading, whole_file}}
 use Rattle.rule_model.specs.declared.program.Program.{Program}
 
 -- of a file with these bytes: with the text of its rules, and the names of their variables, where they are wanted

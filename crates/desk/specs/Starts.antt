@@ -1,12 +1,8 @@
 -- Where a live run begins, as the code tells it.
 use Rattle.std.specs.Prelude.{◌≡◌, ℕ, List}
-use Rattle.desk.specs.declared.start.Start.{Start as StartData}
-use Rattle.desk.specs.declared.start.Start.TheVariants.{Begins, Changes}
-use Rattle.desk.specs.declared.wanted.Setting.{Setting}
-use Rattle.desk.specs.Wanted.{Start, Wanted, begins, changes, cannot_begin, over_old, runs}
-use Rattle.replay.specs.Refusals.{reading}
-use Rattle.replay.specs.declared.checkpoint_file.CheckpointFault.{CheckpointFault}
-use Rattle.replay.specs.declared.checkpoint_file.CheckpointFault.TheVariants.{Refused, ReadFault, NoMemory}
+use Rattle.desk.specs.{declared.{start.Start.{Start as StartData, TheVariants.{Begins, Changes}}, wanted.Setting.{Setting}}, Wanted.{Start, Wanted, begins}}
+use Rattle.desk.specs.Wanted.{changes, cannot_begin, over_old, runs}
+use Rattle.replay.specs.{Refusals.{reading}, declared.checkpoint_file.CheckpointFault.{CheckpointFault, TheVariants.{Refused, ReadFault, NoMemory}}}
 
 abbrev pub start_as : StartData → Start
 start_as (Begins beginning lives) = begins beginning lives

@@ -1,33 +1,17 @@
 -- What the words of a desk, its rule file and its image ask for.
-use Rattle.std.specs.Prelude.{ℕ, ◌++◌, Bool, true, false, List, [], ◌∷◌, length, nat_lt, Option, Some, None, codes, if◌then◌else◌}
-use Rattle.std.specs.Str.{bytes_eq}
+use Rattle.std.specs.{Prelude.{ℕ, ◌++◌, Bool, true, false, List, [], ◌∷◌, length, nat_lt, Option, Some, None, codes, if◌then◌else◌}, Str.{bytes_eq}}
 use Rattle.std.proofs.Common.{String, Global}
-use Rattle.command_words.specs.declared.desk.DeskAsked.{DeskAsked}
-use Rattle.command_words.specs.declared.desk.DeskWords.{DeskWords}
-use Rattle.command_words.specs.declared.desk.DeskWords.TheVariants.{Run, Help, Version}
-use Rattle.command_words.specs.Desk.{desk_by}
+use Rattle.command_words.specs.{declared.desk.{DeskAsked.{DeskAsked}, DeskWords.{DeskWords, TheVariants.{Run, Help, Version}}}, Desk.{desk_by}}
 use Rattle.drl_names.specs.declared.rule_names.RuleNames.{RuleNames}
 use Rattle.checkpoint.specs.declared.image.Image.{Image}
-use Rattle.desk.specs.declared.wanted.Begun.{Begun}
-use Rattle.desk.specs.declared.wanted.Changing.{Changing}
-use Rattle.desk.specs.declared.wanted.Setting.{Setting}
+use Rattle.desk.specs.declared.wanted.{Begun.{Begun}, Changing.{Changing}, Setting.{Setting}}
 use Rattle.desk_image.specs.Reading.{desk_decoded}
-use Rattle.rule_model.specs.declared.life.LifeTable.{LifeTable}
-use Rattle.rule_model.specs.declared.program.Program.{Program}
-use Rattle.script_run.specs.declared.form.Form.{Form}
-use Rattle.script_run.specs.declared.form.Form.TheVariants.{Text, Objects}
-use Rattle.replay.specs.declared.beginning.Beginning.{Beginning}
-use Rattle.replay.specs.declared.beginning.Beginning.TheVariants.{First, Behind}
-use Rattle.replay.specs.declared.refusal.Refusal.{Refusal}
-use Rattle.replay.specs.declared.refusal.RefusalCode.TheVariants.{Missing}
-use Rattle.replay.specs.declared.refused_checkpoint.CheckpointCode.{CheckpointCode}
-use Rattle.replay.specs.declared.refused_checkpoint.CheckpointCode.TheVariants.{TooLong, BadImage, Unfit}
-use Rattle.replay.specs.declared.rule_file.Reading.{Reading}
-use Rattle.replay.specs.declared.rule_file.Reading.TheVariants.{Accepted, Refused}
-use Rattle.replay.specs.Checkpoints.{image_limit, rules_shown}
-use Rattle.replay.specs.Names.{names_read}
-use Rattle.replay.specs.Refusals.{reading, whole_file}
-use Rattle.replay.specs.Wanted.{Files}
+use Rattle.rule_model.specs.declared.{life.LifeTable.{LifeTable}, program.Program.{Program}}
+use Rattle.script_run.specs.declared.form.Form.{Form, TheVariants.{Text, Objects}}
+use Rattle.replay.specs.declared.{beginning.Beginning.{Beginning, TheVariants.{First, Behind}}, refusal.{Refusal.{Refusal}, RefusalCode.TheVariants.{Missing}}}
+use Rattle.replay.specs.declared.{refused_checkpoint.CheckpointCode.{CheckpointCode, TheVariants.{TooLong, BadImage, Unfit}}, rule_file.Reading.{Reading}}
+use Rattle.replay.specs.{declared.rule_file.Reading.TheVariants.{Accepted, Refused}, Checkpoints.{image_limit, rules_shown}, Names.{names_read}}
+use Rattle.replay.specs.{Refusals.{reading, whole_file}, Wanted.{Files}}
 
 -- ---- what is said where no run is wanted
 

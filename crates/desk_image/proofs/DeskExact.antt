@@ -1,14 +1,11 @@
 -- The bytes of an image with its lives, and the image with its lives of bytes.
-use Rattle.desk_image.proofs.Common.{◌∙◌, ◌≡◌, ap, subst, sym, ◌++◌, List, Some, [], refl, ℕ, ◌∷◌, None, true, Bool, Option, Err, Ok, Result, cond}
-use Rattle.desk_image.proofs.Common.{◌&&◌, ◌==◌, IfErr, IfOk, codes, AreOctets, ReadBytes, behind, bind_some, some_is, TellsDecodeFault, ◌>>=◌, decoded}
-use Rattle.desk_image.proofs.Common.{DecodeFault, BadImage, NoMemory, Image, LifeTable, AreImageLives, desk_bytes, lives_bytes}
-use Rattle.checkpoint.proofs.Whole.{decoded_again, decoded_takes}
-use Rattle.checkpoint.specs.Bytes.{IsImage, image_bytes}
-use Rattle.std.proofs.Common.{false}
-use Rattle.std.proofs.lemmas.Bool.{and_parts, eqb-true}
-use Rattle.desk_image.specs.Reading.{behind_lives_header, desk_by_header, desk_decoded, lives_at, with_lives}
-use Rattle.desk_image.specs.declared.whole.DeskImage.{DeskImage}
+use Rattle.desk_image.proofs.Common.{◌∙◌, ◌≡◌, ap, subst, sym, ◌++◌, List, Some, [], refl, ℕ, ◌∷◌, None, true, Bool, Option, Err, Ok, Result, cond, ◌&&◌, ◌==◌}
+use Rattle.desk_image.proofs.Common.{IfErr, IfOk, codes, AreOctets, ReadBytes, behind, bind_some, some_is, TellsDecodeFault, ◌>>=◌, decoded, DecodeFault}
+use Rattle.desk_image.{proofs.Common.{BadImage, NoMemory, Image, LifeTable, AreImageLives, desk_bytes, lives_bytes}, specs.Reading.{behind_lives_header}}
+use Rattle.desk_image.specs.{Reading.{desk_by_header, desk_decoded, lives_at, with_lives}, declared.whole.DeskImage.{DeskImage}}
 use Rattle.desk_image.proofs.LivesExact.{lives_exact}
+use Rattle.checkpoint.{proofs.Whole.{decoded_again, decoded_takes}, specs.Bytes.{IsImage, image_bytes}}
+use Rattle.std.proofs.{Common.{false}, lemmas.Bool.{and_parts, eqb-true}}
 
 if_some : {A : Type 0} (b : Bool) (x y : A) → cond b (Some x) None ≡ Some y → (b ≡ true) × (x ≡ y)
 if_some true x y e = (refl, cc)

@@ -1,10 +1,7 @@
 -- The bytes of an image of a desk, with the lives by which it goes on.
 use Rattle.std.specs.Prelude.{List, [], ◌∷◌, ◌++◌, Option, Some, None, codes, ℕ}
-use Rattle.checkpoint.specs.Bytes.{AreAll, IsSigned, image_bytes, list_bytes, signed_bytes}
-use Rattle.checkpoint.specs.declared.image.Image.{Image}
-use Rattle.rule_model.specs.declared.life.Life.{Life}
-use Rattle.rule_model.specs.declared.life.Life.TheVariants.{Plain, Explicit, Finite, Infinite}
-use Rattle.rule_model.specs.declared.life.LifeTable.{LifeTable}
+use Rattle.checkpoint.specs.{Bytes.{AreAll, IsSigned, image_bytes, list_bytes, signed_bytes}, declared.image.Image.{Image}}
+use Rattle.rule_model.specs.declared.life.{Life.{Life, TheVariants.{Plain, Explicit, Finite, Infinite}}, LifeTable.{LifeTable}}
 
 -- its kind, and its milliseconds where it has some
 abbrev pub life_bytes : Life → List ℕ

@@ -1,10 +1,7 @@
 -- Reading an image of a desk from its bytes: the same as the spelling, as functions from the left.
 use Rattle.std.specs.Prelude.{zero, suc, ◌==◌, ◌&&◌, List, [], ◌∷◌, Option, Some, None, option_map, if◌then◌else◌, ℕ}
-use Rattle.checkpoint.specs.Reading.{◌>>=◌, ReadBytes, decoded, list_at, made_at, signed_at}
-use Rattle.checkpoint.specs.declared.image.Image.{Image}
-use Rattle.rule_model.specs.declared.life.Life.{Life}
-use Rattle.rule_model.specs.declared.life.Life.TheVariants.{Plain, Explicit, Finite, Infinite}
-use Rattle.rule_model.specs.declared.life.LifeTable.{LifeTable}
+use Rattle.checkpoint.specs.{Reading.{◌>>=◌, ReadBytes, decoded, list_at, made_at, signed_at}, declared.image.Image.{Image}}
+use Rattle.rule_model.specs.declared.life.{Life.{Life, TheVariants.{Plain, Explicit, Finite, Infinite}}, LifeTable.{LifeTable}}
 
 unfoldable pub life_at : List ℕ → ReadBytes Life
 life_at [] = None

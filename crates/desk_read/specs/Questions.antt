@@ -1,12 +1,8 @@
 -- What a line of a live script asks beside the commands of every script.
-use Rattle.std.specs.Prelude.{◌≡◌, ℕ, List, Option, Some, None, if◌then◌else◌, option_and_then, codes}
-use Rattle.std.specs.Str.{bytes_eq}
+use Rattle.std.specs.{Prelude.{◌≡◌, ℕ, List, Option, Some, None, if◌then◌else◌, option_and_then, codes}, Str.{bytes_eq}}
 use Rattle.serde_json.specs.Data.{Data}
-use Rattle.script_read.specs.Asked.{IsLineReading, reading}
-use Rattle.script_read.specs.Form.{has_count}
-use Rattle.script_read.specs.Members.{text_member, count}
-use Rattle.desk_read.specs.declared.asked.Question.{Question}
-use Rattle.desk_read.specs.declared.asked.Question.TheVariants.{Save, Facts, Counts}
+use Rattle.script_read.specs.{Asked.{IsLineReading, reading}, Form.{has_count}, Members.{text_member, count}}
+use Rattle.desk_read.specs.declared.asked.Question.{Question, TheVariants.{Save, Facts, Counts}}
 
 -- The forms, one for each kind of line: an object with exactly the members that are named. Since each name stands once,
 -- an object of n members that has n given names has no other.

@@ -1,9 +1,8 @@
 -- The name that a setter makes is text.
 use Rattle.drl_action.proofs.Common.{◌≡◌, ℕ, zero, suc, ◌<◌, Bool, true, false, List, [], ◌∷◌, length, take, drop, get_or, Result, Ok, Err, refl, ap, arith}
 use Rattle.drl_action.proofs.Common.{MatchResult, IsOk, nat_lt, codes, IsUtf8, IsAscii, bytes_eq, to_ascii_lowercase, bytes_eq-Decides}
-use Rattle.std.proofs.lemmas.Bool.{ltb-true, ltb-false}
-use Rattle.std.proofs.lemmas.Str.{IsUtf8-from_ascii, IsUtf8-append, IsUtf8-drop, IsCharBoundary-after_ascii}
-use Rattle.std.proofs.lemmas.Str.Ascii.{lowercase_is, lowercase_ascii}
+use Rattle.std.proofs.lemmas.{Bool.{ltb-true, ltb-false}, Str.{IsUtf8-from_ascii, IsUtf8-append, IsUtf8-drop, IsCharBoundary-after_ascii, Ascii.{lowercase_is}}}
+use Rattle.std.proofs.lemmas.Str.Ascii.{lowercase_ascii}
 
 one_ascii : (b : ℕ) → b < 128 → IsAscii (b ∷ [])
 one_ascii b low zero = low

@@ -1,21 +1,12 @@
 -- Reading an action: the tree and what follows.
-use Rattle.std.specs.Prelude.{◌&&◌, ℕ, List, [], ◌∷◌, Option, Some, None, if◌then◌else◌, take, drop, codes}
-use Rattle.std.specs.Str.{bytes_eq}
-use Rattle.drl_lex.specs.Bytes.{begins_word}
-use Rattle.drl_lex.specs.declared.token.TokenKind.{TokenKind}
-use Rattle.drl_lex.specs.declared.token.TokenKind.TheVariants.{Word, Var, Mark}
-use Rattle.drl_lex.specs.declared.token.Mark.TheVariants.{OpenParenthesis, CloseParenthesis, OpenBrace, Assign}
-use Rattle.drl_expr.specs.Exact.{Read}
-use Rattle.drl_expr.specs.Reading.{expression_at}
-use Rattle.drl_expr.specs.Tree.{Tree}
-use Rattle.drl_expr.specs.Words.{is_ident}
-use Rattle.drl_grammar.specs.Actions.{small}
-use Rattle.drl_grammar.specs.declared.action.ActTree.{ActTree}
-use Rattle.drl_grammar.specs.declared.action.ActTree.TheVariants.{Insert, Modify, Retract}
+use Rattle.std.specs.{Prelude.{◌&&◌, ℕ, List, [], ◌∷◌, Option, Some, None, if◌then◌else◌, take, drop, codes}, Str.{bytes_eq}}
+use Rattle.drl_lex.specs.{Bytes.{begins_word}, declared.token.{TokenKind.{TokenKind, TheVariants.{Word, Var, Mark}}, Mark.TheVariants.{OpenParenthesis}}}
+use Rattle.drl_lex.specs.declared.token.Mark.TheVariants.{CloseParenthesis, OpenBrace, Assign}
+use Rattle.drl_expr.specs.{Exact.{Read}, Reading.{expression_at}, Tree.{Tree}, Words.{is_ident}}
+use Rattle.drl_grammar.specs.{Actions.{small}, declared.action.ActTree.{ActTree, TheVariants.{Insert, Modify, Retract}}}
 use Rattle.drl_phrase.specs.declared.phrase.Punctuation.TheVariants as p
 use Rattle.drl_phrase.specs.Reading.{◌>>=◌, ident, closed, separated_at, listed_at, optional_at}
-use Rattle.drl_action.specs.declared.word.ActionWord.{ActionWord}
-use Rattle.drl_action.specs.declared.word.ActionWord.TheVariants.{InsertWord, ModifyWord, RetractWord}
+use Rattle.drl_action.specs.declared.word.ActionWord.{ActionWord, TheVariants.{InsertWord, ModifyWord, RetractWord}}
 
 -- ---- setters
 

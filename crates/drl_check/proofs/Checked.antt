@@ -1,12 +1,8 @@
 -- What an answer that is the checked one tells.
 use Rattle.drl_check.proofs.Common.{◌≡◌, ℕ, Option, Some, None, Result, Ok, Err, refl, sym, ap, subst, ◌∙◌, IfOk, All, File, Program, Rule, IsRunnable}
 use Rattle.drl_check.proofs.Common.{AreSolvable, CheckCode, Refused, NoMemory, Failure, failure_of, IsAcceptedFile, IsFirstFailure, program_of}
-use Rattle.drl_check.specs.declared.fault.CheckFault.{CheckFault}
-use Rattle.drl_check.specs.Outcomes.{checked_by, checked}
-use Rattle.drl_check.specs.Answers.{within_32_bits, check_fault_of, GivesChecked}
-use Rattle.drl_check.proofs.Exact.{exact_none, is_first_failure}
-use Rattle.drl_check.proofs.Runnable.{accepted_runnable}
-use Rattle.drl_check.proofs.Solvable.{accepted_match}
+use Rattle.drl_check.specs.{declared.fault.CheckFault.{CheckFault}, Outcomes.{checked_by, checked}, Answers.{within_32_bits, check_fault_of, GivesChecked}}
+use Rattle.drl_check.proofs.{Exact.{exact_none, is_first_failure}, Runnable.{accepted_runnable}, Solvable.{accepted_match}}
 
 by_ok : (o : Option Failure) (p q : Program) → checked_by o p ≡ Ok q → (o ≡ None) × (q ≡ p)
 by_ok None p q e = (refl, cc)

@@ -3,8 +3,7 @@ use Rattle.drl_check.proofs.Common.{◌≡◌, ◌↔◌, inl, inr, ◌+◌, ◌
 use Rattle.drl_check.proofs.Common.{◌∙◌, append_assoc, length-append, arith, append-nil, same_Some, Body, File, Item, CheckCode, TwiceDeclared, LimitPassed}
 use Rattle.drl_check.proofs.Common.{UnknownType, UnknownField, UnknownVariable, WrongKind, NotAnEvent, BadTimestamp, BadReference, EventFixed, EventObserved}
 use Rattle.drl_check.proofs.Common.{ReferenceFixed, BadParams, NeverMatches, Failure, codes_in_order, fails, first_code, FailsFirst, PassesChecks, AllPass}
-use Rattle.drl_check.proofs.Common.{IsAcceptedFile, IsFirstFailure, failure_at, failure_of}
-use Rattle.drl_check.specs.Checks.{failure_from}
+use Rattle.drl_check.{proofs.Common.{IsAcceptedFile, IsFirstFailure, failure_at, failure_of}, specs.Checks.{failure_from}}
 
 -- ---- codes
 

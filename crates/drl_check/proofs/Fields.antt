@@ -2,8 +2,7 @@
 use Rattle.drl_check.proofs.Common.{◌≡◌, ◌++◌, ◌∷◌, ◌||◌, ℕ, zero, suc, Bool, true, false, not, List, [], map, slice_get, Some, refl, sym, ap, subst, ◌∙◌}
 use Rattle.drl_check.proofs.Common.{list_all, filter, bytes_eq, Body, Item, TypeTree, types_of, rules_of, type_in, type_names, rule_names, field_names}
 use Rattle.drl_check.proofs.Common.{declared_entries, is_among, word_kind, taken_by, TwiceDeclared, AllPass, annotation_word, is_repeated}
-use Rattle.std.proofs.lemmas.Bool.{and_from, not-false, not-true}
-use Rattle.std.specs.Cmp.Lexicographic.{bytes_decides}
+use Rattle.std.{proofs.lemmas.Bool.{and_from, not-false, not-true}, specs.Cmp.Lexicographic.{bytes_decides}}
 use Rattle.drl_grammar.specs.declared.file.Body.TheVariants as body
 use Rattle.drl_sight.specs.Names.{are_distinct}
 use Rattle.drl_uses.specs.Kinds.{fields_once}

@@ -13,8 +13,7 @@ use Rattle.temporal_ops.specs.declared.edge.OpEdge.{OpEdge}
 use Rattle.rule_model.specs.declared.condition.Condition.TheVariants as condition
 use Rattle.rule_model.specs.Rows.{pattern_of}
 use Rattle.drl_sight.specs.Sight.{meaning_of}
-use Rattle.drl_program.specs.Operators.{operator_of}
-use Rattle.drl_program.specs.Programs.{conditions_meant}
+use Rattle.drl_program.specs.{Operators.{operator_of}, Programs.{conditions_meant}}
 use Rattle.drl_uses.specs.Uses.{any_condition}
 use Rattle.fx_base.proofs.Tests.{or_first_false, or_second_false}
 

@@ -6,13 +6,10 @@ use Rattle.drl_check.proofs.Common.{has_few_entries, exceeds_limit_behind, condi
 use Rattle.drl_check.proofs.Common.{any_condition, has_unknown_type, has_unknown_variable, has_wrong_kind, CheckCode, LimitPassed, UnknownType, UnknownVariable}
 use Rattle.drl_check.proofs.Common.{WrongKind, NeverMatches, lacks_type, lacks_variable, is_wrong_kind, fails, AllPass, IsAcceptedFile, HasFewConditions}
 use Rattle.drl_check.proofs.Common.{HasNetwork}
-use Rattle.std.proofs.lemmas.Bool.{leb-true}
-use Rattle.std.specs.Bool.{Decides}
+use Rattle.std.{proofs.lemmas.Bool.{leb-true}, specs.Bool.{Decides}}
 use Rattle.drl_grammar.specs.declared.file.Body.TheVariants as body
-use Rattle.expiry_infer.specs.Solvable.{can_match}
-use Rattle.expiry_infer.proofs.Matching.{can_match_is_exact}
-use Rattle.drl_check.proofs.Named.{rule_named}
-use Rattle.drl_check.proofs.Sound.{not_and_right}
+use Rattle.expiry_infer.{specs.Solvable.{can_match}, proofs.Matching.{can_match_is_exact}}
+use Rattle.drl_check.proofs.{Named.{rule_named}, Sound.{not_and_right}}
 use Rattle.fx_base.proofs.Tests.{and_first, and_second, or_first_false}
 
 -- ---- what earlier checks have told

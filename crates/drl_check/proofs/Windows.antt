@@ -14,14 +14,11 @@ use Rattle.drl_grammar.specs.declared.condition.CondTree.TheVariants as tree
 use Rattle.drl_grammar.specs.declared.condition.WindowTree.{WindowTree}
 use Rattle.drl_grammar.specs.declared.condition.WindowTree.TheVariants as window
 use Rattle.drl_grammar.specs.declared.file.Body.TheVariants as body
-use Rattle.rule_model.specs.Simple.{is_whole}
-use Rattle.rule_model.specs.Types.{is_event}
+use Rattle.rule_model.specs.{Simple.{is_whole}, Types.{is_event}}
 use Rattle.drl_sight.specs.Annotations as annotation
 use Rattle.drl_program.specs.Programs.{conditions_meant}
-use Rattle.drl_uses.specs.Times.{part_lacks_times, source_lacks_times, has_no_times}
-use Rattle.drl_uses.specs.Uses.{any_condition}
-use Rattle.drl_check.proofs.Places.{type_placed}
-use Rattle.drl_check.proofs.Sound.{not_and_right, is_time, given_time, few_types}
+use Rattle.drl_uses.specs.{Times.{part_lacks_times, source_lacks_times, has_no_times}, Uses.{any_condition}}
+use Rattle.drl_check.proofs.{Places.{type_placed}, Sound.{not_and_right, is_time, given_time, few_types}}
 use Rattle.fx_base.proofs.Tests.{and_first, and_second, or_first_false, or_second_false}
 
 -- ---- bounds

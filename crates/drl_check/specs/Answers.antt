@@ -1,8 +1,6 @@
 -- What `check` answers, against what is checked.
 use Rattle.std.specs.Prelude.{◌≡◌, ℕ, min, Option, Some, None, Result, Ok, Err}
-use Rattle.drl_check.specs.declared.fault.CheckFault.{CheckFault}
-use Rattle.drl_check.specs.declared.fault.CheckFault.TheVariants.{Refused, NoMemory}
-use Rattle.drl_check.specs.Checks.{Failure}
+use Rattle.drl_check.specs.{declared.fault.CheckFault.{CheckFault, TheVariants.{Refused, NoMemory}}, Checks.{Failure}}
 
 -- a number of 32 bits, which stands still at the last one
 abbrev pub within_32_bits : ℕ → ℕ

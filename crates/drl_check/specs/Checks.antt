@@ -1,25 +1,17 @@
 -- The checks of a file, by their codes; the first item that fails one, and the first code that it fails.
-use Rattle.std.specs.Prelude.{◌≡◌, ◌⊎◌, ℕ, ◌+◌, ◌||◌, Bool, true, false, List, [], ◌∷◌, ◌++◌, length, Option, Some, None, if◌then◌else◌}
-use Rattle.std.specs.List.{list_any}
-use Rattle.drl_grammar.specs.declared.file.File.{File}
-use Rattle.drl_grammar.specs.declared.file.Body.{Body}
+use Rattle.std.specs.{Prelude.{◌≡◌, ◌⊎◌, ℕ, ◌+◌, ◌||◌, Bool, true, false, List, [], ◌∷◌, ◌++◌, length, Option, Some, None, if◌then◌else◌}, List.{list_any}}
+use Rattle.drl_grammar.specs.declared.file.{File.{File}, Body.{Body}}
 use Rattle.drl_grammar.specs.declared.file.Body.TheVariants as body
-use Rattle.drl_grammar.specs.declared.file.Item.{Item}
-use Rattle.drl_grammar.specs.declared.file.TypeTree.{TypeTree}
-use Rattle.drl_check.specs.declared.fault.CheckCode.{CheckCode}
-use Rattle.drl_check.specs.declared.fault.CheckCode.TheVariants.{TwiceDeclared, LimitPassed, UnknownType, UnknownField, UnknownVariable, WrongKind, NotAnEvent}
-use Rattle.drl_check.specs.declared.fault.CheckCode.TheVariants.{BadTimestamp, BadReference, EventFixed, EventObserved, ReferenceFixed, BadParams, NeverMatches}
-use Rattle.drl_sight.specs.Declarations.{types_of}
-use Rattle.drl_sight.specs.Observed.{is_watched_type}
-use Rattle.drl_sight.specs.Sight.{begin, sight_of_actions}
-use Rattle.drl_check.specs.Twice.{is_twice}
+use Rattle.drl_grammar.specs.declared.file.{Item.{Item}, TypeTree.{TypeTree}}
+use Rattle.drl_check.specs.declared.fault.CheckCode.{CheckCode, TheVariants.{TwiceDeclared, LimitPassed, UnknownType, UnknownField, UnknownVariable, WrongKind}}
+use Rattle.drl_check.specs.declared.fault.CheckCode.TheVariants.{NotAnEvent, BadTimestamp, BadReference, EventFixed, EventObserved, ReferenceFixed, BadParams}
+use Rattle.drl_check.specs.{declared.fault.CheckCode.TheVariants.{NeverMatches}, Twice.{is_twice}, Events.{annotation_lacks, is_no_event, has_bad_timestamp}}
+use Rattle.drl_check.specs.{Events.{marks_event, modifies_event, retracts_observed, fixes_reference}, Params.{is_negative_number, expires_at_once}}
+use Rattle.drl_check.specs.{Params.{is_condition_refused}, Solvable.{never_matches}}
+use Rattle.drl_sight.specs.{Declarations.{types_of}, Observed.{is_watched_type}, Sight.{begin, sight_of_actions}}
 use Rattle.drl_limits.specs.Limits.{exceeds_limit}
 use Rattle.drl_uses.specs.Uses.{any_condition, has_unknown_type, has_unknown_field, has_unknown_variable, inserts_unknown_type, action_lacks, action_unseen}
-use Rattle.drl_check.specs.Events.{annotation_lacks, is_no_event, has_bad_timestamp, marks_event, modifies_event, retracts_observed, fixes_reference}
-use Rattle.drl_check.specs.Params.{is_negative_number, expires_at_once, is_condition_refused}
-use Rattle.drl_check.specs.Solvable.{never_matches}
-use Rattle.drl_uses.specs.Kinds.{has_unknown_kind, has_wrong_kind, action_misfits}
-use Rattle.drl_uses.specs.Times.{has_no_times}
+use Rattle.drl_uses.specs.{Kinds.{has_unknown_kind, has_wrong_kind, action_misfits}, Times.{has_no_times}}
 
 abbrev pub lacks_type : List TypeTree → Body → Bool
 lacks_type types (body.Rule r) = has_unknown_type types r.conditions || list_any (inserts_unknown_type types) r.actions

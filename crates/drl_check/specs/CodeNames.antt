@@ -1,8 +1,8 @@
 -- The names of the codes of checks, as the line of a refused file prints them.
 use Rattle.std.specs.Prelude.{ℕ, List, codes}
-use Rattle.drl_check.specs.declared.fault.CheckCode.{CheckCode}
-use Rattle.drl_check.specs.declared.fault.CheckCode.TheVariants.{TwiceDeclared, LimitPassed, UnknownType, UnknownField, UnknownVariable, WrongKind, NotAnEvent}
-use Rattle.drl_check.specs.declared.fault.CheckCode.TheVariants.{BadTimestamp, BadReference, EventFixed, EventObserved, ReferenceFixed, BadParams, NeverMatches}
+use Rattle.drl_check.specs.declared.fault.CheckCode.{CheckCode, TheVariants.{TwiceDeclared, LimitPassed, UnknownType, UnknownField, UnknownVariable, WrongKind}}
+use Rattle.drl_check.specs.declared.fault.CheckCode.TheVariants.{NotAnEvent, BadTimestamp, BadReference, EventFixed, EventObserved, ReferenceFixed, BadParams}
+use Rattle.drl_check.specs.declared.fault.CheckCode.TheVariants.{NeverMatches}
 
 abbrev pub check_code_name : CheckCode → List ℕ
 check_code_name TwiceDeclared = codes "TwiceDeclared"

@@ -1,15 +1,12 @@
 -- What an annotation and an action do with events.
-use Rattle.std.specs.Prelude.{ℕ, ◌&&◌, Bool, true, false, not, List, Option, Some, None}
-use Rattle.std.specs.List.{list_any}
+use Rattle.std.specs.{Prelude.{ℕ, ◌&&◌, Bool, true, false, not, List, Option, Some, None}, List.{list_any}}
 use Rattle.drl_grammar.specs.declared.action.ActTree.{ActTree}
 use Rattle.drl_grammar.specs.declared.action.ActTree.TheVariants as action
 use Rattle.drl_grammar.specs.declared.file.Meta.{Meta}
 use Rattle.drl_grammar.specs.declared.file.Meta.TheVariants as meta
 use Rattle.drl_grammar.specs.declared.file.TypeTree.{TypeTree}
-use Rattle.drl_sight.specs.Annotations.{is_tree_of_events, reference_of}
-use Rattle.drl_sight.specs.Declarations.{type_tree_named}
-use Rattle.drl_sight.specs.Meanings.{lacks, field_kind}
-use Rattle.drl_sight.specs.Sight.{Sight, Meaning, of_fact, of_field, of_result, meaning_of}
+use Rattle.drl_sight.specs.{Annotations.{is_tree_of_events, reference_of}, Declarations.{type_tree_named}, Meanings.{lacks, field_kind}, Sight.{Sight, Meaning}}
+use Rattle.drl_sight.specs.Sight.{of_fact, of_field, of_result, meaning_of}
 use Rattle.drl_uses.specs.Kinds.{is_int}
 
 -- ---- annotations

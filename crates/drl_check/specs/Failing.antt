@@ -1,18 +1,15 @@
 -- The first code that an item fails, given the program of the types of the file alone, these types, the names of those that its conditions watch, and what earlier
 -- items declare.
 use Rattle.std.specs.Prelude.{ℕ, List, length, Option, Some, None, if◌then◌else◌}
-use Rattle.drl_grammar.specs.declared.file.Body.{Body}
-use Rattle.drl_grammar.specs.declared.file.TypeTree.{TypeTree}
+use Rattle.drl_grammar.specs.declared.file.{Body.{Body}, TypeTree.{TypeTree}}
 use Rattle.rule_model.specs.declared.program.Program.{Program}
 use Rattle.drl_sight.specs.Observed.{is_event_among}
-use Rattle.drl_check.specs.declared.fault.CheckCode.{CheckCode}
-use Rattle.drl_check.specs.declared.fault.CheckCode.TheVariants.{TwiceDeclared, LimitPassed, UnknownType, UnknownField, UnknownVariable, WrongKind, NotAnEvent}
-use Rattle.drl_check.specs.declared.fault.CheckCode.TheVariants.{BadTimestamp, BadReference, EventFixed, EventObserved, ReferenceFixed, BadParams, NeverMatches}
-use Rattle.drl_check.specs.Twice.{is_repeated}
+use Rattle.drl_check.specs.declared.fault.CheckCode.{CheckCode, TheVariants.{TwiceDeclared, LimitPassed, UnknownType, UnknownField, UnknownVariable, WrongKind}}
+use Rattle.drl_check.specs.declared.fault.CheckCode.TheVariants.{NotAnEvent, BadTimestamp, BadReference, EventFixed, EventObserved, ReferenceFixed, BadParams}
+use Rattle.drl_check.specs.{declared.fault.CheckCode.TheVariants.{NeverMatches}, Twice.{is_repeated}, Checks.{lacks_type, lacks_field, lacks_variable}}
+use Rattle.drl_check.specs.Checks.{is_wrong_kind, needs_event, needs_whole_times, has_bad_reference, fixes_event, drops_observed, changes_reference}
+use Rattle.drl_check.specs.{Checks.{has_bad_params}, Solvable.{never_matches_alone}}
 use Rattle.drl_limits.specs.Limits.{exceeds_limit_behind}
-use Rattle.drl_check.specs.Checks.{lacks_type, lacks_field, lacks_variable, is_wrong_kind, needs_event, needs_whole_times, has_bad_reference, fixes_event}
-use Rattle.drl_check.specs.Checks.{drops_observed, changes_reference, has_bad_params}
-use Rattle.drl_check.specs.Solvable.{never_matches_alone}
 
 abbrev pub first_failing_event : Program → List TypeTree → List (List ℕ) → Body → Option CheckCode
 first_failing_event alone all watched b =

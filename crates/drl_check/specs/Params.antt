@@ -1,12 +1,7 @@
 -- Parameters of temporal tests, windows and expiries with which they mean nothing.
-use Rattle.std.specs.Prelude.{ℤ, pos, ◌&&◌, ◌||◌, Bool, false, not, int_lt, List, Option, Some, None, is_none}
-use Rattle.std.specs.List.{list_any}
-use Rattle.temporal_ops.specs.declared.word.OpWord.{OpWord}
-use Rattle.temporal_ops.specs.Operators.{edges_of}
-use Rattle.temporal_ops.specs.Table.{takes_negative}
-use Rattle.drl_grammar.specs.declared.condition.CondTree.{CondTree}
-use Rattle.drl_grammar.specs.declared.condition.SourceTree.{SourceTree}
-use Rattle.drl_grammar.specs.declared.condition.Part.{Part}
+use Rattle.std.specs.{Prelude.{ℤ, pos, ◌&&◌, ◌||◌, Bool, false, not, int_lt, List, Option, Some, None, is_none}, List.{list_any}}
+use Rattle.temporal_ops.specs.{declared.word.OpWord.{OpWord}, Operators.{edges_of}, Table.{takes_negative}}
+use Rattle.drl_grammar.specs.declared.condition.{CondTree.{CondTree}, SourceTree.{SourceTree}, Part.{Part}}
 use Rattle.drl_grammar.specs.declared.condition.Part.TheVariants as part
 use Rattle.drl_grammar.specs.declared.condition.WindowTree.{WindowTree}
 use Rattle.drl_grammar.specs.declared.condition.WindowTree.TheVariants as window

@@ -3,14 +3,11 @@
 use Rattle.std.specs.Prelude.{◌≤◌, Bool, false, not, List, [], length}
 use Rattle.drl_grammar.specs.declared.file.Body.{Body}
 use Rattle.drl_grammar.specs.declared.file.Body.TheVariants as body
-use Rattle.drl_grammar.specs.declared.file.Item.{Item}
-use Rattle.drl_grammar.specs.declared.file.TypeTree.{TypeTree}
+use Rattle.drl_grammar.specs.declared.file.{Item.{Item}, TypeTree.{TypeTree}}
 use Rattle.rule_model.specs.declared.program.Program.{Program}
 use Rattle.life_edges.specs.Edges.{HaveNetwork}
 use Rattle.expiry_infer.specs.Solvable.{can_match}
-use Rattle.drl_sight.specs.Declarations.{types_of}
-use Rattle.drl_sight.specs.EntryPoints.{entry_names}
-use Rattle.drl_sight.specs.Sight.{begin}
+use Rattle.drl_sight.specs.{Declarations.{types_of}, EntryPoints.{entry_names}, Sight.{begin}}
 use Rattle.drl_program.specs.Programs.{conditions_meant, program_of, rule_of}
 
 abbrev pub never_matches : List Item → Body → Bool

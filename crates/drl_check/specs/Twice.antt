@@ -1,26 +1,21 @@
 -- What may stand once and stands twice.
-use Rattle.std.specs.Prelude.{ℕ, ◌||◌, Bool, true, false, not, List, [], ◌∷◌, ◌++◌, map, Option, Some, None, codes}
-use Rattle.std.specs.List.{flat_map, list_all}
+use Rattle.std.specs.{Prelude.{ℕ, ◌||◌, Bool, true, false, not, List, [], ◌∷◌, ◌++◌, map, Option, Some, None, codes}, List.{flat_map, list_all}}
 use Rattle.drl_expr.specs.Tree.{Tree}
 use Rattle.drl_grammar.specs.declared.action.ActTree.{ActTree}
 use Rattle.drl_grammar.specs.declared.action.ActTree.TheVariants as action
 use Rattle.drl_grammar.specs.declared.condition.CondTree.{CondTree}
 use Rattle.drl_grammar.specs.declared.condition.CondTree.TheVariants as condition
-use Rattle.drl_grammar.specs.declared.condition.SourceTree.{SourceTree}
-use Rattle.drl_grammar.specs.declared.condition.Part.{Part}
+use Rattle.drl_grammar.specs.declared.condition.{SourceTree.{SourceTree}, Part.{Part}}
 use Rattle.drl_grammar.specs.declared.condition.Part.TheVariants as part
 use Rattle.drl_grammar.specs.declared.file.Attr.{Attr}
 use Rattle.drl_grammar.specs.declared.file.Attr.TheVariants as attr
 use Rattle.drl_grammar.specs.declared.file.Body.{Body}
 use Rattle.drl_grammar.specs.declared.file.Body.TheVariants as body
-use Rattle.drl_grammar.specs.declared.file.Item.{Item}
-use Rattle.drl_grammar.specs.declared.file.Meta.{Meta}
+use Rattle.drl_grammar.specs.declared.file.{Item.{Item}, Meta.{Meta}}
 use Rattle.drl_grammar.specs.declared.file.Meta.TheVariants as meta
 use Rattle.drl_grammar.specs.declared.file.RuleTree.{RuleTree}
-use Rattle.drl_sight.specs.Names.{are_distinct}
+use Rattle.drl_sight.specs.{Names.{are_distinct}, Declarations.{types_of, rules_of, type_names, rule_names, field_names}, EntryPoints.{declared_entries}}
 use Rattle.drl_expr.specs.Words.{is_among}
-use Rattle.drl_sight.specs.Declarations.{types_of, rules_of, type_names, rule_names, field_names}
-use Rattle.drl_sight.specs.EntryPoints.{declared_entries}
 
 abbrev pub attr_word : Attr → List ℕ
 attr_word (attr.Salience n) = codes "salience"

@@ -9,9 +9,7 @@ use Rattle.drl_phrase.specs.declared.phrase.Punctuation.TheVariants as p
 use Rattle.drl_phrase.specs.Reading.{after_word}
 use Rattle.drl_phrase.proofs.ShapeLaws as shapes
 use Rattle.drl_condition.specs.Choices.{ends_all, all_turns, all_at, any_turns, any_at, alternatives_at, after_open, choice_at, pieces_at}
-use Rattle.drl_condition.proofs.WordLaws.{ident_differs}
-use Rattle.drl_condition.proofs.ChoiceSteps.{one_is}
-use Rattle.drl_condition.proofs.ConditionLaws.{condition_exact, condition_begins}
+use Rattle.drl_condition.proofs.{WordLaws.{ident_differs}, ChoiceSteps.{one_is}, ConditionLaws.{condition_exact, condition_begins}}
 
 -- ---- what is read stands there
 

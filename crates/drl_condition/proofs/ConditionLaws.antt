@@ -8,11 +8,9 @@ use Rattle.drl_grammar.specs.Conditions as g
 use Rattle.drl_phrase.proofs.Carried.{ident_binds}
 use Rattle.drl_condition.specs.declared.words.Form.{Form}
 use Rattle.drl_condition.specs.declared.words.Form.TheVariants as form
-use Rattle.drl_condition.specs.Words.{word_form}
-use Rattle.drl_condition.specs.Reading.{form_at, formed_at, condition_at}
-use Rattle.drl_condition.proofs.WordLaws.{ident_differs, name_form}
-use Rattle.drl_condition.proofs.PatternLaws.{source_exact, group_exact}
-use Rattle.drl_condition.proofs.FoldLaws.{number_sound, number_again, accumulate_sound, accumulate_again, folded_shorter}
+use Rattle.drl_condition.{specs.{Words.{word_form}, Reading.{form_at, formed_at, condition_at}}, proofs.WordLaws.{ident_differs, name_form}}
+use Rattle.drl_condition.proofs.{PatternLaws.{source_exact, group_exact}, FoldLaws.{number_sound, number_again, accumulate_sound, accumulate_again}}
+use Rattle.drl_condition.proofs.FoldLaws.{folded_shorter}
 
 -- ---- forms
 

@@ -13,9 +13,8 @@ use Rattle.drl_phrase.specs.declared.phrase.Punctuation.TheVariants as p
 use Rattle.drl_phrase.specs.Reading.{closed, after}
 use Rattle.drl_condition.specs.Reading.{window_at, place_at, value_test_at, result_test_at, result_tests_at, call_at, last_call_at, number_call_at}
 use Rattle.drl_condition.specs.Reading.{number_source_at, number_tests_at, number_at, result_at, accumulate_call_at, accumulate_at}
-use Rattle.drl_condition.proofs.WordLaws.{fold_sound, fold_again, result_sound, result_again}
-use Rattle.drl_condition.proofs.ValueLaws.{operand_exact}
-use Rattle.drl_condition.proofs.PatternLaws.{binding_sound, binding_again, binding_shorter, source_again, source_exact}
+use Rattle.drl_condition.proofs.{WordLaws.{fold_sound, fold_again, result_sound, result_again}, ValueLaws.{operand_exact}, PatternLaws.{binding_sound}}
+use Rattle.drl_condition.proofs.PatternLaws.{binding_again, binding_shorter, source_again, source_exact}
 
 -- ---- tests of the result
 

@@ -9,8 +9,7 @@ use Rattle.drl_grammar.specs.declared.condition.Part.TheVariants as part
 use Rattle.drl_grammar.specs.Conditions as g
 use Rattle.drl_phrase.specs.declared.phrase.Punctuation.TheVariants as p
 use Rattle.drl_phrase.specs.Reading.{closed, after}
-use Rattle.drl_condition.specs.Reading.{params_at, other_at, temporal_at, any_of_at, part_at}
-use Rattle.drl_condition.proofs.WordLaws.{op_sound, op_again, ident_differs}
+use Rattle.drl_condition.{specs.Reading.{params_at, other_at, temporal_at, any_of_at, part_at}, proofs.WordLaws.{op_sound, op_again, ident_differs}}
 use Rattle.drl_condition.proofs.ValueLaws.{disj_exact, Named, disj_begins}
 
 -- ---- temporal tests

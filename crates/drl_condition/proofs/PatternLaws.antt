@@ -9,9 +9,8 @@ use Rattle.drl_grammar.specs.declared.condition.WindowTree.{WindowTree}
 use Rattle.drl_grammar.specs.Conditions as g
 use Rattle.drl_phrase.specs.declared.phrase.Punctuation.TheVariants as p
 use Rattle.drl_phrase.specs.Reading.{closed, after}
-use Rattle.drl_condition.specs.Reading.{extent_at, window_at, place_at, binding_at, pattern_at, source_at, group_at}
-use Rattle.drl_condition.proofs.WordLaws.{window_text, window_sound, window_again, word_differs}
-use Rattle.drl_condition.proofs.PartLaws.{parts_exact}
+use Rattle.drl_condition.{specs.Reading.{extent_at, window_at, place_at, binding_at, pattern_at, source_at, group_at}, proofs.WordLaws.{window_text}}
+use Rattle.drl_condition.proofs.{WordLaws.{window_sound, window_again, word_differs}, PartLaws.{parts_exact}}
 
 -- ---- windows and entry points
 

@@ -5,8 +5,7 @@ use Rattle.drl_condition.proofs.Common.{Separated, IsOperand, IsDisj, phrase_bin
 use Rattle.drl_condition.proofs.Common.{same_bytes, closed_then, separated_exact, disj_at, Text, Dot, And, single, more, IsLiteral, IsCmp, IsConj, as_operand}
 use Rattle.drl_condition.proofs.Common.{conj_at}
 use Rattle.drl_lex.specs.declared.token.Mark.TheVariants.{Or}
-use Rattle.drl_expr.specs.Words.{is_ident}
-use Rattle.drl_expr.specs.declared.literal.LitTree.{LitTree}
+use Rattle.drl_expr.specs.{Words.{is_ident}, declared.literal.LitTree.{LitTree}}
 use Rattle.drl_expr.specs.declared.literal.LitTree.TheVariants as lit
 use Rattle.drl_grammar.specs.declared.condition.Operand.TheVariants as operand
 use Rattle.drl_grammar.specs.Conditions as g

@@ -5,9 +5,8 @@ use Rattle.drl_condition.proofs.Common.{LengthWord}
 use Rattle.temporal_ops.specs.declared.word.OpWord.TheVariants.{After, Before, Coincides, During, Includes, Finishes, FinishedBy, Starts, StartedBy, Meets}
 use Rattle.temporal_ops.specs.declared.word.OpWord.TheVariants.{MetBy, Overlaps, OverlappedBy}
 use Rattle.drl_expr.specs.Words.{is_ident}
-use Rattle.drl_grammar.specs.declared.condition.FoldWord.TheVariants.{Count, Sum, Min, Max, Average}
-use Rattle.drl_grammar.specs.declared.condition.ResultWord.{ResultWord}
-use Rattle.drl_grammar.specs.declared.condition.ResultWord.TheVariants.{LongValue, IntValue}
+use Rattle.drl_grammar.specs.declared.condition.{FoldWord.TheVariants.{Count, Sum, Min, Max, Average}, ResultWord.{ResultWord, TheVariants.{LongValue}}}
+use Rattle.drl_grammar.specs.declared.condition.ResultWord.TheVariants.{IntValue}
 use Rattle.drl_condition.specs.declared.words.Form.TheVariants as form
 use Rattle.drl_condition.specs.Words.{op_word, fold_word, result_word, window_word, word_form}
 

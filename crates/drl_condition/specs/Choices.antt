@@ -1,12 +1,8 @@
 -- Reading what a rule asks for: conditions and alternatives, one after the other.
-use Rattle.std.specs.Prelude.{ℕ, zero, suc, ◌||◌, length, List, [], ◌∷◌, ◌++◌, Bool, true, false, Option, Some, None, if◌then◌else◌, codes}
-use Rattle.std.specs.Str.{bytes_eq}
-use Rattle.drl_lex.specs.declared.token.TokenKind.{TokenKind}
-use Rattle.drl_lex.specs.declared.token.TokenKind.TheVariants.{Word, Mark}
-use Rattle.drl_lex.specs.declared.token.Mark.TheVariants.{OpenParenthesis, CloseParenthesis}
+use Rattle.std.specs.{Prelude.{ℕ, zero, suc, ◌||◌, length, List, [], ◌∷◌, ◌++◌, Bool, true, false, Option, Some, None, if◌then◌else◌, codes}, Str.{bytes_eq}}
+use Rattle.drl_lex.specs.declared.token.{TokenKind.{TokenKind, TheVariants.{Word, Mark}}, Mark.TheVariants.{OpenParenthesis, CloseParenthesis}}
 use Rattle.drl_expr.specs.Exact.{Read}
-use Rattle.drl_grammar.specs.declared.written.Piece.{Piece}
-use Rattle.drl_grammar.specs.declared.written.Piece.TheVariants.{One, Open, Or, Close}
+use Rattle.drl_grammar.specs.declared.written.Piece.{Piece, TheVariants.{One, Open, Or, Close}}
 use Rattle.drl_phrase.specs.declared.phrase.Punctuation.TheVariants as p
 use Rattle.drl_phrase.specs.Reading.{◌>>=◌, after_word, closed, with_front}
 use Rattle.drl_condition.specs.Reading.{condition_at}

@@ -1,14 +1,9 @@
 -- Reading the conditions of a rule: the tree and what follows.
-use Rattle.std.specs.Prelude.{◌&&◌, ℕ, ℤ, List, [], ◌∷◌, pos, neg_ℤ, Option, Some, None, true, false, if◌then◌else◌, codes}
-use Rattle.std.specs.Str.{bytes_eq}
+use Rattle.std.specs.{Prelude.{◌&&◌, ℕ, ℤ, List, [], ◌∷◌, pos, neg_ℤ, Option, Some, None, true, false, if◌then◌else◌, codes}, Str.{bytes_eq}}
 use Rattle.temporal_ops.specs.declared.word.OpWord.{OpWord}
-use Rattle.drl_lex.specs.declared.token.Rel.{Rel}
-use Rattle.drl_lex.specs.declared.token.TokenKind.{TokenKind}
-use Rattle.drl_lex.specs.declared.token.TokenKind.TheVariants.{Word, Var, Number, Text, Mark}
-use Rattle.drl_lex.specs.declared.token.Mark.TheVariants.{OpenParenthesis, CloseParenthesis, OpenBracket, Comma, Semicolon, Colon, Dot, Minus, Comparison}
-use Rattle.drl_expr.specs.Exact.{Read}
-use Rattle.drl_expr.specs.Words.{is_ident}
-use Rattle.drl_expr.specs.declared.literal.LitTree.{LitTree}
+use Rattle.drl_lex.specs.declared.token.{Rel.{Rel}, TokenKind.{TokenKind, TheVariants.{Word, Var, Number, Text, Mark}}, Mark.TheVariants.{OpenParenthesis}}
+use Rattle.drl_lex.specs.declared.token.Mark.TheVariants.{CloseParenthesis, OpenBracket, Comma, Semicolon, Colon, Dot, Minus, Comparison}
+use Rattle.drl_expr.specs.{Exact.{Read}, Words.{is_ident}, declared.literal.LitTree.{LitTree}}
 use Rattle.drl_expr.specs.declared.literal.LitTree.TheVariants as lit
 use Rattle.drl_grammar.specs.declared.condition.Operand.{Operand}
 use Rattle.drl_grammar.specs.declared.condition.Operand.TheVariants as operand
@@ -18,15 +13,11 @@ use Rattle.drl_grammar.specs.declared.condition.Part.{Part}
 use Rattle.drl_grammar.specs.declared.condition.Part.TheVariants as part
 use Rattle.drl_grammar.specs.declared.condition.WindowTree.{WindowTree}
 use Rattle.drl_grammar.specs.declared.condition.WindowTree.TheVariants as window
-use Rattle.drl_grammar.specs.declared.condition.SourceTree.{SourceTree}
-use Rattle.drl_grammar.specs.declared.condition.FoldWord.{FoldWord}
-use Rattle.drl_grammar.specs.declared.condition.CondTree.{CondTree}
+use Rattle.drl_grammar.specs.declared.condition.{SourceTree.{SourceTree}, FoldWord.{FoldWord}, CondTree.{CondTree}}
 use Rattle.drl_grammar.specs.declared.condition.CondTree.TheVariants as condition
 use Rattle.drl_phrase.specs.declared.phrase.Punctuation.TheVariants as p
 use Rattle.drl_phrase.specs.Reading.{◌>>=◌, closed, ident, separated_at, listed_at, maybe_at, span_at, name_at}
-use Rattle.drl_condition.specs.declared.words.WindowWord.{WindowWord}
-use Rattle.drl_condition.specs.declared.words.WindowWord.TheVariants.{TimeWord, LengthWord}
-use Rattle.drl_condition.specs.declared.words.Form.{Form}
+use Rattle.drl_condition.specs.declared.words.{WindowWord.{WindowWord, TheVariants.{TimeWord, LengthWord}}, Form.{Form}}
 use Rattle.drl_condition.specs.declared.words.Form.TheVariants as form
 use Rattle.drl_condition.specs.Words.{op_word, fold_word, result_word, window_word, word_form}
 

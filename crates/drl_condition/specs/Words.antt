@@ -1,16 +1,10 @@
 -- The words that have a meaning in one place of a condition.
-use Rattle.std.specs.Prelude.{ℕ, List, Option, Some, None, if◌then◌else◌, codes}
-use Rattle.std.specs.Str.{bytes_eq}
-use Rattle.temporal_ops.specs.declared.word.OpWord.{OpWord}
-use Rattle.temporal_ops.specs.declared.word.OpWord.TheVariants.{After, Before, Coincides, During, Includes, Finishes, FinishedBy, Starts, StartedBy, Meets}
-use Rattle.temporal_ops.specs.declared.word.OpWord.TheVariants.{MetBy, Overlaps, OverlappedBy}
-use Rattle.drl_grammar.specs.declared.condition.FoldWord.{FoldWord}
-use Rattle.drl_grammar.specs.declared.condition.FoldWord.TheVariants.{Count, Sum, Min, Max, Average}
-use Rattle.drl_grammar.specs.declared.condition.ResultWord.{ResultWord}
+use Rattle.std.specs.{Prelude.{ℕ, List, Option, Some, None, if◌then◌else◌, codes}, Str.{bytes_eq}}
+use Rattle.temporal_ops.specs.declared.word.OpWord.{OpWord, TheVariants.{After, Before, Coincides, During, Includes, Finishes, FinishedBy, Starts, StartedBy}}
+use Rattle.temporal_ops.specs.declared.word.OpWord.TheVariants.{Meets, MetBy, Overlaps, OverlappedBy}
+use Rattle.drl_grammar.specs.declared.condition.{FoldWord.{FoldWord, TheVariants.{Count, Sum, Min, Max, Average}}, ResultWord.{ResultWord}}
 use Rattle.drl_grammar.specs.declared.condition.ResultWord.TheVariants.{LongValue, IntValue}
-use Rattle.drl_condition.specs.declared.words.WindowWord.{WindowWord}
-use Rattle.drl_condition.specs.declared.words.WindowWord.TheVariants.{TimeWord, LengthWord}
-use Rattle.drl_condition.specs.declared.words.Form.{Form}
+use Rattle.drl_condition.specs.declared.words.{WindowWord.{WindowWord, TheVariants.{TimeWord, LengthWord}}, Form.{Form}}
 use Rattle.drl_condition.specs.declared.words.Form.TheVariants as form
 
 unfoldable pub op_word : List ℕ → Option OpWord

@@ -1,8 +1,7 @@
 -- Operands with operators between them, grouped to the left: what is read stands in the grammar, and what stands in it is read.
 use Rattle.drl_expr.proofs.Common.{◌≡◌, ℕ, zero, suc, ◌+◌, ◌-◌, ◌<◌, ◌≤◌, max, Bool, true, false, cond, List, ◌∷◌, Option, Some, None, refl, ◌∙◌, arith, nat_lt}
 use Rattle.drl_expr.proofs.Common.{ltb-true, lt-ltb, TokenKind, Mark, CloseParenthesis, Tree, height, Read, Phrase, Found, ◌>>=◌, Operator, ExpressionReader}
-use Rattle.drl_expr.proofs.Common.{chain_step, chained}
-use Rattle.drl_expr.specs.Reading.{after_close, chain_at}
+use Rattle.drl_expr.{proofs.Common.{chain_step, chained}, specs.Reading.{after_close, chain_at}}
 
 -- a phrase is read first, then what go reads
 pub then : (Is : Phrase Tree) (ts : List TokenKind) (o : Read Tree) (go : Tree × List TokenKind → Read Tree) (Wanted : Phrase Tree) (whole : List TokenKind)

@@ -3,14 +3,13 @@ use Rattle.drl_expr.proofs.Common.{◌≡◌, ℕ, zero, suc, ◌-◌, ◌<◌, 
 use Rattle.drl_expr.proofs.Common.{◌∙◌, arith, IfSome, codes, TokenKind, Word, Var, Number, Text, Mark, OpenParenthesis, CloseParenthesis, Dot, Plus, Minus}
 use Rattle.drl_expr.proofs.Common.{Star, Opening, Negative, Parenthesis, Tree, lit, var, var_field, neg, add, sub, mul, height, Read, Phrase, Found}
 use Rattle.drl_expr.proofs.Common.{expression_binds, Exact, ExpressionReader, factor_step}
-use Rattle.std.specs.Str.{bytes_eq}
-use Rattle.std.proofs.lemmas.Slice.Eq.{bytes_eq-Decides}
+use Rattle.std.{specs.Str.{bytes_eq}, proofs.lemmas.Slice.Eq.{bytes_eq-Decides}}
 use Rattle.drl_expr.specs.declared.literal.LitTree.TheVariants as l
 use Rattle.drl_expr.specs.Words.{is_ident}
 use Rattle.drl_expr.specs.Grammar as g
-use Rattle.drl_expr.specs.Grammar.{IsExpr, IsTerm, IsFactor, IsExpression}
-use Rattle.drl_expr.specs.Reading.{opening_at, after_close, atom_at, plus_at, star_at, factor_at, term_at, expr_at, inside_at, expression_at}
-use Rattle.drl_expr.proofs.Chains.{then, closed_then, Low, Joins, chain_sound, Left, chain_done, chain_turn, chain_starts}
+use Rattle.drl_expr.specs.{Grammar.{IsExpr, IsTerm, IsFactor, IsExpression}, Reading.{opening_at, after_close, atom_at, plus_at, star_at, factor_at, term_at}}
+use Rattle.drl_expr.{specs.Reading.{expr_at, inside_at, expression_at}, proofs.Chains.{then, closed_then, Low, Joins, chain_sound, Left, chain_done}}
+use Rattle.drl_expr.proofs.Chains.{chain_turn, chain_starts}
 
 -- ---- what is read stands in the grammar
 

@@ -1,8 +1,7 @@
 -- The steps of reading an expression, as the code takes them.
 use Rattle.drl_expr.proofs.Common.{◌≡◌, ℕ, zero, suc, ◌+◌, ◌-◌, ◌<◌, ◌≤◌, Bool, true, false, List, Some, None, refl, sym, ap, ◌∙◌, arith, TokenKind, Opening}
 use Rattle.drl_expr.proofs.Common.{Negative, Parenthesis, Tree, neg, height, Read, ◌>>=◌, opening_at, after_close, atom_at, Operator, ExpressionReader, chained}
-use Rattle.drl_expr.proofs.Common.{factor_step, expr_at, nat_lt, lt-ltb, le-ltb}
-use Rattle.drl_expr.specs.Reading.{chain_at, factor_at, inside_at}
+use Rattle.drl_expr.{proofs.Common.{factor_step, expr_at, nat_lt, lt-ltb, le-ltb}, specs.Reading.{chain_at, factor_at, inside_at}}
 
 opens : (inside : ExpressionReader) (h : ℕ) (ts : List TokenKind) → 0 < h → factor_at inside h ts ≡ factor_step (opening_at ts) ts (factor_at inside (h - 1)) (inside h)
 unfolding factor_at

@@ -1,8 +1,6 @@
 -- What it means that a reading function reads exactly the phrases of a grammar.
 use Rattle.std.specs.Prelude.{◌≡◌, ℕ, ◌<◌, ◌≤◌, List, ◌∷◌, length, Option, Some, None}
-use Rattle.drl_lex.specs.declared.token.TokenKind.{TokenKind}
-use Rattle.drl_lex.specs.declared.token.TokenKind.TheVariants.{Mark}
-use Rattle.drl_lex.specs.declared.token.Mark.TheVariants.{Dot, Star, Plus, Minus, And, Or, Comma, Semicolon}
+use Rattle.drl_lex.specs.declared.token.{TokenKind.{TokenKind, TheVariants.{Mark}}, Mark.TheVariants.{Dot, Star, Plus, Minus, And, Or, Comma, Semicolon}}
 
 -- what is read at the front of some tokens, and the tokens behind it
 abbrev pub Read : Type 0 → Type 0

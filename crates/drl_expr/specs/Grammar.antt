@@ -1,11 +1,9 @@
 -- The grammar of expressions, by one case for each line and each alternative of it. The number says how deep parentheses may still go.
 use Rattle.std.specs.Prelude.{ℕ, suc, ◌≤◌, List, ◌∷◌, pos, true, false, codes}
-use Rattle.drl_lex.specs.declared.token.TokenKind.{TokenKind}
-use Rattle.drl_lex.specs.declared.token.TokenKind.TheVariants.{Word, Var, Number, Text, Mark}
-use Rattle.drl_lex.specs.declared.token.Mark.TheVariants.{OpenParenthesis, CloseParenthesis, Dot, Plus, Minus, Star}
+use Rattle.drl_lex.specs.declared.token.{TokenKind.{TokenKind, TheVariants.{Word, Var, Number, Text, Mark}}, Mark.TheVariants.{OpenParenthesis}}
+use Rattle.drl_lex.specs.declared.token.Mark.TheVariants.{CloseParenthesis, Dot, Plus, Minus, Star}
 use Rattle.drl_expr.specs.declared.literal.LitTree.TheVariants as l
-use Rattle.drl_expr.specs.Tree.{Tree, lit, var, var_field, neg, add, sub, mul, height}
-use Rattle.drl_expr.specs.Words.{IsIdent}
+use Rattle.drl_expr.specs.{Tree.{Tree, lit, var, var_field, neg, add, sub, mul, height}, Words.{IsIdent}}
 
 mutual
   -- expr := term (('+' | '-') term)*, grouped to the left

@@ -1,7 +1,6 @@
 -- The node at the top of an expression, and the tree that it is.
-use Rattle.drl_expr.specs.Tree.{Tree, lit, var, var_field, neg, add, sub, mul}
-use Rattle.drl_expr.specs.declared.tree.Node.{Node}
-use Rattle.drl_expr.specs.declared.tree.Node.TheVariants.{Lit, Var, VarField, Neg, Add, Sub, Mul}
+use Rattle.drl_expr.specs.{Tree.{Tree, lit, var, var_field, neg, add, sub, mul}, declared.tree.Node.{Node, TheVariants.{Lit, Var, VarField, Neg, Add, Sub}}}
+use Rattle.drl_expr.specs.declared.tree.Node.TheVariants.{Mul}
 
 -- a node, whose children are trees already
 abbrev pub tree_of : Node → Tree

@@ -1,19 +1,12 @@
 -- Reading an expression: the tree and what follows.
 use Rattle.std.specs.Prelude.{ℕ, zero, suc, ◌-◌, nat_lt, List, ◌∷◌, pos, Option, Some, None, option_and_then, true, false, if◌then◌else◌, codes}
 use Rattle.std.specs.Str.{bytes_eq}
-use Rattle.drl_lex.specs.declared.token.TokenKind.{TokenKind}
-use Rattle.drl_lex.specs.declared.token.TokenKind.TheVariants.{Word, Var, Number, Text, Mark}
-use Rattle.drl_lex.specs.declared.token.Mark.TheVariants.{OpenParenthesis, CloseParenthesis, Dot, Plus, Minus, Star}
+use Rattle.drl_lex.specs.declared.token.{TokenKind.{TokenKind, TheVariants.{Word, Var, Number, Text, Mark}}, Mark.TheVariants.{OpenParenthesis}}
+use Rattle.drl_lex.specs.declared.token.Mark.TheVariants.{CloseParenthesis, Dot, Plus, Minus, Star}
 use Rattle.drl_expr.specs.declared.literal.LitTree.TheVariants as l
-use Rattle.drl_expr.specs.declared.marks.Operation.{Operation}
-use Rattle.drl_expr.specs.declared.marks.Operation.TheVariants.{Sum, Difference, Product}
-use Rattle.drl_expr.specs.declared.marks.Level.{Level}
-use Rattle.drl_expr.specs.declared.marks.Level.TheVariants.{Sums, Products}
-use Rattle.drl_expr.specs.declared.marks.Opening.{Opening}
-use Rattle.drl_expr.specs.declared.marks.Opening.TheVariants.{Negative, Parenthesis}
-use Rattle.drl_expr.specs.Tree.{Tree, lit, var, var_field, neg, add, sub, mul, height}
-use Rattle.drl_expr.specs.Words.{is_ident}
-use Rattle.drl_expr.specs.Exact.{Read}
+use Rattle.drl_expr.specs.declared.marks.{Operation.{Operation, TheVariants.{Sum, Difference, Product}}, Level.{Level, TheVariants.{Sums, Products}}}
+use Rattle.drl_expr.specs.{declared.marks.Opening.{Opening, TheVariants.{Negative, Parenthesis}}, Tree.{Tree, lit, var, var_field, neg, add, sub, mul, height}}
+use Rattle.drl_expr.specs.{Words.{is_ident}, Exact.{Read}}
 
 infixl 10 ◌>>=◌
 abbrev pub ◌>>=◌ : {A B : Type 0} → Option A → (A → Option B) → Option B

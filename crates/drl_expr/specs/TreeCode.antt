@@ -1,7 +1,6 @@
 -- How a tree is stored: its parts one after another, each operator behind what it takes.
-use Rattle.std.specs.Prelude.{◌≡◌, ℕ, zero, suc, ℤ, List, [], ◌∷◌, ◌++◌, Bool, ◌⊎◌, refl}
-use Rattle.std.specs.Coded.{Coded, code_by, coded_list, coded_bool, coded_ℕ, coded_ℤ, coded⊎}
-use Rattle.std.proofs.Common.{inl, inr, ap, ◌∙◌}
+use Rattle.std.specs.{Prelude.{◌≡◌, ℕ, zero, suc, ℤ, List, [], ◌∷◌, ◌++◌, Bool, ◌⊎◌, refl}, Coded.{Coded, code_by, coded_list, coded_bool, coded_ℕ, coded_ℤ}}
+use Rattle.std.{specs.Coded.{coded⊎}, proofs.Common.{inl, inr, ap, ◌∙◌}}
 use Rattle.drl_expr.specs.declared.literal.LitTree.{LitTree}
 use Rattle.drl_expr.specs.declared.literal.LitTree.TheVariants as v
 use Rattle.drl_expr.specs.Tree.{Tree, lit, var, var_field, neg, add, sub, mul}

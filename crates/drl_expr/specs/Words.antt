@@ -1,7 +1,5 @@
 -- The reserved words, and the words that may stand as names.
-use Rattle.std.specs.Prelude.{◌≡◌, ◌||◌, ℕ, List, [], ◌∷◌, Bool, true, not, codes}
-use Rattle.std.specs.List.{list_any}
-use Rattle.std.specs.Str.{bytes_eq}
+use Rattle.std.specs.{Prelude.{◌≡◌, ◌||◌, ℕ, List, [], ◌∷◌, Bool, true, not, codes}, List.{list_any}, Str.{bytes_eq}}
 
 -- the reserved words
 abbrev pub item_words : List (List ℕ)

@@ -1,15 +1,9 @@
 -- The grammar of actions, by one case for each line and each alternative of it.
 use Rattle.std.specs.Prelude.{◌≡◌, ◌&&◌, ◌+◌, ◌++◌, nat_le, ℕ, true, List, ◌∷◌, if◌then◌else◌, codes}
-use Rattle.drl_lex.specs.Bytes.{begins_word}
-use Rattle.drl_lex.specs.declared.token.TokenKind.{TokenKind}
-use Rattle.drl_lex.specs.declared.token.TokenKind.TheVariants.{Word, Var, Mark}
-use Rattle.drl_lex.specs.declared.token.Mark.TheVariants.{OpenParenthesis, CloseParenthesis, OpenBrace, CloseBrace, Comma, Semicolon, Assign}
-use Rattle.drl_expr.specs.Grammar.{IsExpression}
-use Rattle.drl_expr.specs.Tree.{Tree}
-use Rattle.drl_expr.specs.Words.{IsIdent}
-use Rattle.drl_grammar.specs.declared.action.ActTree.{ActTree}
-use Rattle.drl_grammar.specs.declared.action.ActTree.TheVariants.{Insert, Modify, Retract}
-use Rattle.drl_grammar.specs.Shapes.{Optional, Separated, Listed}
+use Rattle.drl_lex.specs.{Bytes.{begins_word}, declared.token.{TokenKind.{TokenKind, TheVariants.{Word, Var, Mark}}, Mark.TheVariants.{OpenParenthesis}}}
+use Rattle.drl_lex.specs.declared.token.Mark.TheVariants.{CloseParenthesis, OpenBrace, CloseBrace, Comma, Semicolon, Assign}
+use Rattle.drl_expr.specs.{Grammar.{IsExpression}, Tree.{Tree}, Words.{IsIdent}}
+use Rattle.drl_grammar.specs.{declared.action.ActTree.{ActTree, TheVariants.{Insert, Modify, Retract}}, Shapes.{Optional, Separated, Listed}}
 
 -- an ASCII capital made small; any other byte as it is
 abbrev pub small : ℕ → ℕ

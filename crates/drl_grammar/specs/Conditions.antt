@@ -1,16 +1,11 @@
 -- The grammar of conditions, by one case for each line and each alternative of it.
 use Rattle.std.specs.Prelude.{ℕ, ℤ, suc, List, [], ◌∷◌, ◌++◌, pos, neg_ℤ, true, false, Option, Some, None, codes}
-use Rattle.temporal_ops.specs.declared.word.OpWord.{OpWord}
-use Rattle.temporal_ops.specs.declared.word.OpWord.TheVariants.{After, Before, Coincides, During, Includes, Finishes, FinishedBy, Starts, StartedBy, Meets}
-use Rattle.temporal_ops.specs.declared.word.OpWord.TheVariants.{MetBy, Overlaps, OverlappedBy}
-use Rattle.drl_lex.specs.declared.token.Rel.{Rel}
-use Rattle.drl_lex.specs.declared.token.TokenKind.{TokenKind}
-use Rattle.drl_lex.specs.declared.token.TokenKind.TheVariants.{Word, Var, Number, Time, Text, Mark}
+use Rattle.temporal_ops.specs.declared.word.OpWord.{OpWord, TheVariants.{After, Before, Coincides, During, Includes, Finishes, FinishedBy, Starts, StartedBy}}
+use Rattle.temporal_ops.specs.declared.word.OpWord.TheVariants.{Meets, MetBy, Overlaps, OverlappedBy}
+use Rattle.drl_lex.specs.declared.token.{Rel.{Rel}, TokenKind.{TokenKind, TheVariants.{Word, Var, Number, Time, Text, Mark}}}
 use Rattle.drl_lex.specs.declared.token.Mark.TheVariants.{OpenParenthesis, CloseParenthesis, OpenBracket, CloseBracket, Comma, Semicolon, Colon, Dot, Minus}
 use Rattle.drl_lex.specs.declared.token.Mark.TheVariants.{Comparison, Or, And}
-use Rattle.drl_expr.specs.Exact.{Phrase}
-use Rattle.drl_expr.specs.Words.{IsIdent}
-use Rattle.drl_expr.specs.declared.literal.LitTree.{LitTree}
+use Rattle.drl_expr.specs.{Exact.{Phrase}, Words.{IsIdent}, declared.literal.LitTree.{LitTree}}
 use Rattle.drl_expr.specs.declared.literal.LitTree.TheVariants as lit
 use Rattle.drl_grammar.specs.declared.condition.Operand.{Operand}
 use Rattle.drl_grammar.specs.declared.condition.Operand.TheVariants as operand
@@ -20,12 +15,8 @@ use Rattle.drl_grammar.specs.declared.condition.Part.{Part}
 use Rattle.drl_grammar.specs.declared.condition.Part.TheVariants as part
 use Rattle.drl_grammar.specs.declared.condition.WindowTree.{WindowTree}
 use Rattle.drl_grammar.specs.declared.condition.WindowTree.TheVariants as window
-use Rattle.drl_grammar.specs.declared.condition.SourceTree.{SourceTree}
-use Rattle.drl_grammar.specs.declared.condition.FoldWord.{FoldWord}
-use Rattle.drl_grammar.specs.declared.condition.FoldWord.TheVariants.{Count, Sum, Min, Max, Average}
-use Rattle.drl_grammar.specs.declared.condition.ResultWord.{ResultWord}
-use Rattle.drl_grammar.specs.declared.condition.ResultWord.TheVariants.{LongValue, IntValue}
-use Rattle.drl_grammar.specs.declared.condition.CondTree.{CondTree}
+use Rattle.drl_grammar.specs.declared.condition.{SourceTree.{SourceTree}, FoldWord.{FoldWord, TheVariants.{Count, Sum, Min, Max, Average}}}
+use Rattle.drl_grammar.specs.declared.condition.{ResultWord.{ResultWord, TheVariants.{LongValue, IntValue}}, CondTree.{CondTree}}
 use Rattle.drl_grammar.specs.declared.condition.CondTree.TheVariants as condition
 use Rattle.drl_grammar.specs.declared.written.Piece.{Piece}
 use Rattle.drl_grammar.specs.declared.written.Piece.TheVariants as piece

@@ -1,17 +1,9 @@
 -- How the tokens of a file are split into items, which items stand for them, and which item is refused.
-use Rattle.std.specs.Prelude.{ℕ, ◌+◌, ◌-◌, ◌^◌, ◌==◌, min, map, List, [], ◌∷◌, length, take, drop, Bool, false, not, if◌then◌else◌, codes}
-use Rattle.std.specs.List.{take_while, filter}
-use Rattle.std.specs.Str.{bytes_eq}
-use Rattle.drl_lex.specs.declared.token.Token.{Token}
-use Rattle.drl_lex.specs.declared.token.TokenKind.{TokenKind}
-use Rattle.drl_lex.specs.declared.token.TokenKind.TheVariants.{Word}
-use Rattle.drl_lex.specs.Tokens.{AreTokens}
-use Rattle.drl_lex.specs.Kinds.{kinds, starts}
+use Rattle.std.specs.{Prelude.{ℕ, ◌+◌, ◌-◌, ◌^◌, ◌==◌, min, map, List, [], ◌∷◌, length, take, drop, Bool, false, not, if◌then◌else◌, codes}, List.{take_while}}
+use Rattle.std.specs.{List.{filter}, Str.{bytes_eq}}
+use Rattle.drl_lex.specs.{declared.token.{Token.{Token}, TokenKind.{TokenKind, TheVariants.{Word}}}, Tokens.{AreTokens}, Kinds.{kinds, starts}}
 use Rattle.drl_expr.specs.Words.{is_among}
-use Rattle.drl_grammar.specs.declared.written.Written.{Written}
-use Rattle.drl_grammar.specs.declared.written.WrittenItem.{WrittenItem}
-use Rattle.drl_grammar.specs.declared.written.WrittenBody.{WrittenBody}
-use Rattle.drl_grammar.specs.Items.{IsItem}
+use Rattle.drl_grammar.specs.{declared.written.{Written.{Written}, WrittenItem.{WrittenItem}, WrittenBody.{WrittenBody}}, Items.{IsItem}}
 
 -- an item that begins with one of these words ends with the word `end`
 unfoldable pub opens_block : TokenKind → Bool

@@ -1,22 +1,15 @@
 -- The grammar of items, by one case for each line and each alternative of it.
 use Rattle.std.specs.Prelude.{ℕ, ℤ, List, ◌∷◌, pos, neg_ℤ, Bool, true, false, Option, codes}
-use Rattle.drl_lex.specs.declared.token.TokenKind.{TokenKind}
-use Rattle.drl_lex.specs.declared.token.TokenKind.TheVariants.{Word, Number, Text, Mark}
-use Rattle.drl_lex.specs.declared.token.Mark.TheVariants.{OpenParenthesis, CloseParenthesis, Comma, Semicolon, Colon, Dot, At, Minus, Star}
+use Rattle.drl_lex.specs.declared.token.{TokenKind.{TokenKind, TheVariants.{Word, Number, Text, Mark}}, Mark.TheVariants.{OpenParenthesis, CloseParenthesis}}
+use Rattle.drl_lex.specs.declared.token.Mark.TheVariants.{Comma, Semicolon, Colon, Dot, At, Minus, Star}
 use Rattle.drl_expr.specs.Words.{IsIdent}
-use Rattle.drl_grammar.specs.declared.action.ActTree.{ActTree}
-use Rattle.drl_grammar.specs.declared.file.Attr.{Attr}
+use Rattle.drl_grammar.specs.declared.{action.ActTree.{ActTree}, file.Attr.{Attr}}
 use Rattle.drl_grammar.specs.declared.file.Attr.TheVariants as attr
 use Rattle.drl_grammar.specs.declared.file.Meta.{Meta}
 use Rattle.drl_grammar.specs.declared.file.Meta.TheVariants as meta
-use Rattle.drl_grammar.specs.declared.written.Piece.{Piece}
-use Rattle.drl_grammar.specs.declared.written.WrittenType.{WrittenType}
-use Rattle.drl_grammar.specs.declared.written.WrittenRule.{WrittenRule}
-use Rattle.drl_grammar.specs.declared.written.WrittenBody.{WrittenBody}
+use Rattle.drl_grammar.specs.declared.written.{Piece.{Piece}, WrittenType.{WrittenType}, WrittenRule.{WrittenRule}, WrittenBody.{WrittenBody}}
 use Rattle.drl_grammar.specs.declared.written.WrittenBody.TheVariants as body
-use Rattle.drl_grammar.specs.Shapes.{Maybe, Optional, Many}
-use Rattle.drl_grammar.specs.Conditions.{IsSpan, IsName, IsAsked}
-use Rattle.drl_grammar.specs.Actions.{IsAction}
+use Rattle.drl_grammar.specs.{Shapes.{Maybe, Optional, Many}, Conditions.{IsSpan, IsName, IsAsked}, Actions.{IsAction}}
 
 -- ---- names with dots
 

@@ -1,8 +1,6 @@
 -- The shapes that recur in the grammar. A phrase relates a value, the tokens at whose front it stands, and the tokens behind it.
 use Rattle.std.specs.Prelude.{List, [], ◌∷◌, Option, Some, None}
-use Rattle.drl_lex.specs.declared.token.TokenKind.{TokenKind}
-use Rattle.drl_lex.specs.declared.token.TokenKind.TheVariants.{Mark}
-use Rattle.drl_lex.specs.declared.token.Mark.TheVariants.{CloseParenthesis, Comma}
+use Rattle.drl_lex.specs.declared.token.{TokenKind.{TokenKind, TheVariants.{Mark}}, Mark.TheVariants.{CloseParenthesis, Comma}}
 use Rattle.drl_expr.specs.Exact.{Phrase}
 
 -- [x]

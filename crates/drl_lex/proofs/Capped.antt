@@ -1,12 +1,8 @@
 -- Sums and products that stop at the greatest number of 64 bits.
 use Rattle.drl_lex.proofs.Common.{◌≡◌, ℕ, ◌+◌, ◌*◌, ◌-◌, ◌^◌, ◌<◌, min, List, length, take, get_or, true, refl, arith, Option, Some, None, option_map, codes}
 use Rattle.drl_lex.proofs.Common.{nat_lt, list_all, is_ascii_digit, digits_value, leb-true, unit_part_at, last_at, time_of, total_of, digit_value}
-use Rattle.drl_lex.proofs.Common.{digit_value_digit}
-use Rattle.std.proofs.lemmas.Bool.{and_parts}
-use Rattle.std.proofs.lemmas.Int.Digits.{digits_value_more}
-use Rattle.drl_lex.specs.TimeReading.{capped}
-use Rattle.drl_lex.proofs.FrontLaws.{passes_at}
-use Rattle.drl_lex.proofs.TimeLaws.{Parts, parts_again}
+use Rattle.drl_lex.{proofs.{Common.{digit_value_digit}, FrontLaws.{passes_at}, TimeLaws.{Parts, parts_again}}, specs.TimeReading.{capped}}
+use Rattle.std.proofs.lemmas.{Bool.{and_parts}, Int.Digits.{digits_value_more}}
 
 digit_is : (c : ℕ) → is_ascii_digit c ≡ true → digit_value c + 48 ≡ c
 digit_is c h = let parts = and_parts _ _ h in digit_value_digit c (leb-true 48 c parts.0, leb-true c 57 parts.1)

@@ -1,11 +1,9 @@
 -- The bytes of a file are one list of tokens, or have one first fault, and that is what is read.
 use Rattle.drl_lex.proofs.Common.{◌≡◌, ℕ, zero, suc, ◌+◌, ◌-◌, ◌<◌, ◌≤◌, ◌++◌, List, [], ◌∷◌, length, Option, Some, None, Result, Ok, Err, refl, sym, ap, ◌∙◌}
 use Rattle.drl_lex.proofs.Common.{arith, length-append, append-nil, Token, TokenKind, LexCode, kept, IsLexFault, ReadToken, piece_at, IsPiece, ReadsTokens}
-use Rattle.drl_lex.proofs.Common.{AreTokens, IsRefused, with_token, behind_piece, lexed_step}
-use Rattle.drl_lex.specs.Reading.{lexed_from, lexed}
+use Rattle.drl_lex.{proofs.Common.{AreTokens, IsRefused, with_token, behind_piece, lexed_step}, specs.Reading.{lexed_from, lexed}}
 use Rattle.drl_lex.specs.Tokens as p
-use Rattle.drl_lex.proofs.PieceLaws.{Stands, piece_sound}
-use Rattle.drl_lex.proofs.PiecesAgain.{piece_again, fault_again, piece_some, fault_some}
+use Rattle.drl_lex.proofs.{PieceLaws.{Stands, piece_sound}, PiecesAgain.{piece_again, fault_again, piece_some, fault_some}}
 
 -- ---- one piece more
 

@@ -1,12 +1,10 @@
 -- Reading the pieces of a file one after the other, as a loop does.
 use Rattle.drl_lex.proofs.Common.{◌≡◌, ℕ, ◌+◌, ◌-◌, ◌<◌, ◌≤◌, ◌++◌, Bool, true, false, eqb, List, [], ◌∷◌, length, Option, Result, Ok, Err, refl, sym, ap, ◌∙◌}
 use Rattle.drl_lex.proofs.Common.{arith, eqb-true, eqb-false, length-append, Token, TokenKind, LexCode, kept, IsLexFault, IsFirstFault, ReadToken, piece_at}
-use Rattle.drl_lex.proofs.Common.{lexed, ReadsTokens, AreTokens, IfErr, IsErrAnd, FailsLexing, GivesTokens}
-use Rattle.drl_lex.specs.declared.fault.LexFault.{LexFault}
+use Rattle.drl_lex.{proofs.Common.{lexed, ReadsTokens, AreTokens, IfErr, IsErrAnd, FailsLexing, GivesTokens}, specs.declared.fault.LexFault.{LexFault}}
 use Rattle.drl_lex.specs.declared.fault.LexFault.TheVariants.{Refused, NoMemory}
 use Rattle.drl_lex.specs.Tokens as p
-use Rattle.drl_lex.proofs.FileLaws.{reads_on, refused_again, ends_there}
-use Rattle.drl_lex.proofs.PieceLaws.{Front, Stands, piece_sound}
+use Rattle.drl_lex.proofs.{FileLaws.{reads_on, refused_again, ends_there}, PieceLaws.{Front, Stands, piece_sound}}
 
 pub starts : (tokens : List Token) (bytes : List ℕ) → tokens ≡ [] → ReadsTokens 0 tokens bytes (length bytes - length bytes) bytes
 starts tokens bytes e = let same : length bytes - length bytes ≡ 0 = omega arith in rw (e, same) p.done

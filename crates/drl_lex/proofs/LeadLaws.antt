@@ -1,7 +1,6 @@
 -- What a byte is, by what it can begin.
 use Rattle.drl_lex.proofs.Common.{◌≡◌, ℕ, Bool, true, false, cond, eqb, refl, arith, is_ascii_digit, eqb-true, eqb-false, nat_tests, Lead, Blank, Hash, Slash}
-use Rattle.drl_lex.proofs.Common.{Quote, Dollar, Digit, Letter, Other}
-use Rattle.drl_lex.specs.Bytes.{is_blank, begins_word, is_word_byte, is_run_byte, is_quote}
+use Rattle.drl_lex.{proofs.Common.{Quote, Dollar, Digit, Letter, Other}, specs.Bytes.{is_blank, begins_word, is_word_byte, is_run_byte, is_quote}}
 use Rattle.drl_lex.specs.Leads.{lead_of}
 
 pub record IsOther (b : ℕ) : Type 0 where

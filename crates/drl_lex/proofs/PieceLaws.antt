@@ -5,22 +5,15 @@ use Rattle.drl_lex.proofs.Common.{TokenKind, Word, Var, Number, Time, Text, Mark
 use Rattle.drl_lex.proofs.Common.{LexCode, BadChar, Lead, Blank, Hash, Slash, Quote, Dollar, Digit, Letter, Other, is_word_byte, is_run_byte, is_line_byte}
 use Rattle.drl_lex.proofs.Common.{begins, BeginsNothing, IsDigitRun, IsOpened, IsLexFault, behind_close, mark_text, lengthens, ReadToken, behind_block}
 use Rattle.drl_lex.proofs.Common.{token_read, mark_read, var_step, run_kind, with_rest, text_step, content_at, Spells, longer, IsComment, IsPiece, lead_of}
-use Rattle.drl_lex.proofs.Common.{comment_read, text_read}
+use Rattle.drl_lex.{proofs.Common.{comment_read, text_read}, specs.{declared.token.Mark.{Mark as MarkData}, Bytes.{is_blank, begins_word, is_quote}}}
 use Rattle.std.proofs.lemmas.Bool.{and_parts}
-use Rattle.drl_lex.specs.declared.token.Mark.{Mark as MarkData}
-use Rattle.drl_lex.specs.Bytes.{is_blank, begins_word, is_quote}
 use Rattle.drl_lex.specs.Faults as f
-use Rattle.drl_lex.specs.Fronts.{longest}
-use Rattle.drl_lex.specs.MarkReading.{mark_at, single_mark, double_mark}
-use Rattle.drl_lex.specs.Reading.{slash_at, word_at, var_at, run_at, text_at, piece_of, piece_at}
-use Rattle.drl_lex.specs.Texts.{utf8_text}
+use Rattle.drl_lex.specs.{Fronts.{longest}, MarkReading.{mark_at, single_mark, double_mark}, Reading.{slash_at, word_at, var_at, run_at, text_at, piece_of}}
+use Rattle.drl_lex.specs.{Reading.{piece_at}, Texts.{utf8_text}}
 use Rattle.drl_lex.specs.Tokens as p
-use Rattle.drl_lex.proofs.CommentLaws.{CloseIs, close_is}
-use Rattle.drl_lex.proofs.FrontLaws.{longest_is}
-use Rattle.drl_lex.proofs.LeadLaws.{IsOther, LeadIs, lead_is, digit_runs, letter_is_word_byte}
-use Rattle.drl_lex.proofs.MarkLaws.{MarkIs, mark_sound, mark_again}
-use Rattle.drl_lex.proofs.RunLaws.{KindIs, run_kind_sound, numeral_begins, time_begins}
-use Rattle.drl_lex.proofs.TextLaws.{Stops, Closed, ContentIs, content_sound}
+use Rattle.drl_lex.proofs.{CommentLaws.{CloseIs, close_is}, FrontLaws.{longest_is}, LeadLaws.{IsOther, LeadIs, lead_is, digit_runs, letter_is_word_byte}}
+use Rattle.drl_lex.proofs.{MarkLaws.{MarkIs, mark_sound, mark_again}, RunLaws.{KindIs, run_kind_sound, numeral_begins, time_begins}, TextLaws.{Stops, Closed}}
+use Rattle.drl_lex.proofs.TextLaws.{ContentIs, content_sound}
 use Rattle.drl_lex.proofs.TextLaws as x
 
 -- a piece at the front, and the bytes behind it

@@ -5,22 +5,15 @@ use Rattle.drl_lex.proofs.Common.{TokenKind, Word, Var, Number, Time, Text, Mark
 use Rattle.drl_lex.proofs.Common.{Dollar, Digit, Letter, Other, is_word_byte, is_run_byte, is_line_byte, begins, IsWithout, BeginsNothing, IsDigitRun, IsOpened}
 use Rattle.drl_lex.proofs.Common.{IsLexFault, longest, behind_close, mark_text, lengthens, token_read, mark_read, number_kind, time_kind, run_kind, with_rest}
 use Rattle.drl_lex.proofs.Common.{var_step, behind_block, text_step, content_at, time_of, IsNumeral, IsTime, IsText, Spells, longer, IsComment, IsPiece}
-use Rattle.drl_lex.proofs.Common.{OpenComment, begins_word, mark_at}
+use Rattle.drl_lex.{proofs.Common.{OpenComment, begins_word, mark_at}, specs.{declared.token.Mark.{Mark as MarkData}, Bytes.{is_blank, is_quote}}}
 use Rattle.std.proofs.lemmas.Bool.{and_parts}
-use Rattle.drl_lex.specs.declared.token.Mark.{Mark as MarkData}
-use Rattle.drl_lex.specs.Bytes.{is_blank, is_quote}
 use Rattle.drl_lex.specs.Faults as f
-use Rattle.drl_lex.specs.Leads.{lead_of}
-use Rattle.drl_lex.specs.Reading.{slash_at, word_at, var_at, run_at, text_at, piece_of, piece_at}
-use Rattle.drl_lex.specs.Texts.{utf8_text}
+use Rattle.drl_lex.specs.{Leads.{lead_of}, Reading.{slash_at, word_at, var_at, run_at, text_at, piece_of, piece_at}, Texts.{utf8_text}}
 use Rattle.drl_lex.specs.Tokens as p
-use Rattle.drl_lex.proofs.CommentLaws.{close_again, open_again}
-use Rattle.drl_lex.proofs.FrontLaws.{longest_is, longest_again}
-use Rattle.drl_lex.proofs.LeadLaws.{LeadIs, lead_is, letter_is_word_byte, blank_lead, digit_lead, letter_lead, quote_lead}
-use Rattle.drl_lex.proofs.MarkLaws.{MarkIs, mark_sound, mark_again}
-use Rattle.drl_lex.proofs.PieceLaws.{mark_some}
-use Rattle.drl_lex.proofs.RunLaws.{numeral_begins, numeral_runs, time_begins, time_runs, time_unit, number_again, other_again}
-use Rattle.drl_lex.proofs.TimeLaws.{time_sound, time_again}
+use Rattle.drl_lex.proofs.{CommentLaws.{close_again, open_again}, FrontLaws.{longest_is, longest_again}, LeadLaws.{LeadIs, lead_is, letter_is_word_byte}}
+use Rattle.drl_lex.proofs.{LeadLaws.{blank_lead, digit_lead, letter_lead, quote_lead}, MarkLaws.{MarkIs, mark_sound, mark_again}, PieceLaws.{mark_some}}
+use Rattle.drl_lex.proofs.{RunLaws.{numeral_begins, numeral_runs, time_begins, time_runs, time_unit, number_again, other_again}, TimeLaws.{time_sound}}
+use Rattle.drl_lex.proofs.TimeLaws.{time_again}
 use Rattle.drl_lex.proofs.TextLaws as x
 use Rattle.drl_lex.proofs.TextLaws.{Stops, closed_again, stopped_again}
 

@@ -3,15 +3,13 @@ use Rattle.drl_lex.proofs.Common.{◌≡◌, ℕ, ◌^◌, ◌<◌, ◌++◌, Bo
 use Rattle.drl_lex.proofs.Common.{◌∙◌, arith, append_assoc, codes, nat_lt, nat_le, IfSome, list_all, is_ascii_digit, digits_value, ltb-true, leb-true}
 use Rattle.drl_lex.proofs.Common.{length-append, append-nil, TokenKind, Number, Time, LexCode, NumberLarge, begins, IsDigitRun, IsLexFault, longest}
 use Rattle.drl_lex.proofs.Common.{number_kind, time_kind, is_empty_text, time_of, IsNumeral, IsTimePart, IsLastPart, IsTime, Spells, longer, ltb-false}
-use Rattle.drl_lex.proofs.Common.{leb-false}
+use Rattle.drl_lex.{proofs.Common.{leb-false}, specs.Bytes.{is_run_byte, is_unit_byte, is_word_byte}}
 use Rattle.std.proofs.lemmas.Bool.{and_parts, not-true}
-use Rattle.drl_lex.specs.Bytes.{is_run_byte, is_unit_byte, is_word_byte}
 use Rattle.drl_lex.specs.Faults as f
 use Rattle.drl_lex.specs.Reading.{run_kind}
 use Rattle.drl_lex.specs.Times as t
-use Rattle.drl_lex.proofs.FrontLaws.{longest_is}
-use Rattle.drl_lex.proofs.LeadLaws.{digit_runs}
-use Rattle.drl_lex.proofs.TimeLaws.{IsUnit, seconds_unit, minutes_unit, hours_unit, days_unit, millis_unit, whole, follows_time, time_sound, time_again}
+use Rattle.drl_lex.proofs.{FrontLaws.{longest_is}, LeadLaws.{digit_runs}, TimeLaws.{IsUnit, seconds_unit, minutes_unit, hours_unit, days_unit, millis_unit}}
+use Rattle.drl_lex.proofs.TimeLaws.{whole, follows_time, time_sound, time_again}
 
 -- ---- the form of a time
 

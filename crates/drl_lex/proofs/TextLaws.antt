@@ -2,13 +2,9 @@
 use Rattle.drl_lex.proofs.Common.{◌≡◌, ℕ, ◌+◌, ◌++◌, ◌||◌, Bool, true, false, not, cond, eqb, List, [], ◌∷◌, length, Option, Some, None, Ok, Err, eq-eqb, refl}
 use Rattle.drl_lex.proofs.Common.{ap, ◌∙◌, arith, is_some, eqb-true, nat_tests, append-nil, LexCode, BadChar, OpenText, Backslash, Plain, begins, ReadToken}
 use Rattle.drl_lex.proofs.Common.{with_byte, escaped_byte, Closing, Newline, content_end, content_step, escape_step, IsContent}
-use Rattle.drl_lex.specs.declared.bytes.TextByte.{TextByte}
-use Rattle.drl_lex.specs.Bytes.{is_line_byte, is_quote}
-use Rattle.drl_lex.specs.Leads.{text_byte_of}
-use Rattle.drl_lex.specs.Reading.{content_at}
+use Rattle.drl_lex.specs.{declared.bytes.TextByte.{TextByte}, Bytes.{is_line_byte, is_quote}, Leads.{text_byte_of}, Reading.{content_at}}
 use Rattle.drl_lex.specs.Texts as t
-use Rattle.drl_lex.specs.Texts.{is_plain}
-use Rattle.drl_lex.proofs.TextTurns.{behind}
+use Rattle.drl_lex.{specs.Texts.{is_plain}, proofs.TextTurns.{behind}}
 
 -- ---- what is read stands there
 

@@ -1,7 +1,6 @@
 -- Reading the bytes of a text one after the other, as a loop does.
 use Rattle.drl_lex.proofs.Common.{◌≡◌, ℕ, ◌-◌, ◌+◌, ◌≤◌, List, [], ◌∷◌, ◌++◌, length, take, drop, get_or, Some, Ok, Err, refl, ap, ◌∙◌, arith, take_all}
-use Rattle.drl_lex.proofs.Common.{Backslash, Plain, ReadToken, with_byte, escaped_byte, text_byte_of}
-use Rattle.drl_lex.specs.Reading.{content_at}
+use Rattle.drl_lex.{proofs.Common.{Backslash, Plain, ReadToken, with_byte, escaped_byte, text_byte_of}, specs.Reading.{content_at}}
 
 -- what was read before, and what is still read
 abbrev pub behind : List ℕ → ReadToken (List ℕ) → ReadToken (List ℕ)

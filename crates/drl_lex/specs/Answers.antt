@@ -1,10 +1,7 @@
 -- What a function of the lexer answers, against what is read.
 use Rattle.std.specs.Prelude.{◌≡◌, ℕ, List, [], ◌∷◌, Option, Some, None, Result, Ok, Err}
-use Rattle.drl_lex.specs.declared.token.Token.{Token}
-use Rattle.drl_lex.specs.declared.token.TokenKind.{TokenKind}
-use Rattle.drl_lex.specs.declared.fault.LexCode.{LexCode}
-use Rattle.drl_lex.specs.declared.fault.LexFault.{LexFault}
-use Rattle.drl_lex.specs.declared.fault.LexFault.TheVariants.{Refused, NoMemory}
+use Rattle.drl_lex.specs.declared.{token.{Token.{Token}, TokenKind.{TokenKind}}, fault.{LexCode.{LexCode}, LexFault.{LexFault, TheVariants.{Refused}}}}
+use Rattle.drl_lex.specs.declared.fault.LexFault.TheVariants.{NoMemory}
 
 abbrev pub FailsLexing : {Y : Type 0} → LexFault → Result Y (LexCode × ℕ) → Type 0
 FailsLexing (Refused code place) read = read ≡ Err (code, place)

@@ -1,6 +1,6 @@
 -- Classes of bytes, and fronts of lists of bytes.
-use Rattle.std.specs.Prelude.{◌≡◌, ℕ, ◌==◌, ◌||◌, ◌++◌, List, [], ◌∷◌, Bool, false, not, count_by, ◌+◌, take}
-use Rattle.std.specs.Char.{is_ascii_alphabetic, is_ascii_alphanumeric, is_ascii_digit}
+use Rattle.std.specs.{Prelude.{◌≡◌, ℕ, ◌==◌, ◌||◌, ◌++◌, List, [], ◌∷◌, Bool, false, not, count_by, ◌+◌, take}, Char.{is_ascii_alphabetic}}
+use Rattle.std.specs.Char.{is_ascii_alphanumeric, is_ascii_digit}
 
 -- space, tab, carriage return, newline
 unfoldable pub is_blank : ℕ → Bool

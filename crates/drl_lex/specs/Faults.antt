@@ -1,17 +1,9 @@
 -- Where a file is no list of tokens: the fault that stands first.
-use Rattle.std.specs.Prelude.{◌≡◌, ℕ, ◌<◌, ◌≤◌, ◌+◌, ◌^◌, ◌++◌, List, ◌∷◌, length, true, false, is_some, codes}
-use Rattle.std.specs.List.{list_all}
-use Rattle.std.specs.Char.{is_ascii_digit}
+use Rattle.std.specs.{Prelude.{◌≡◌, ℕ, ◌<◌, ◌≤◌, ◌+◌, ◌^◌, ◌++◌, List, ◌∷◌, length, true, false, is_some, codes}, List.{list_all}, Char.{is_ascii_digit}}
 use Rattle.std.specs.Str.{is_utf8}
-use Rattle.drl_lex.specs.declared.token.Token.{Token}
-use Rattle.drl_lex.specs.declared.token.TokenKind.{TokenKind}
-use Rattle.drl_lex.specs.declared.fault.LexCode.{LexCode}
-use Rattle.drl_lex.specs.declared.fault.LexCode.TheVariants.{BadChar, OpenText, OpenComment, NumberLarge}
-use Rattle.drl_lex.specs.declared.fault.LexFault.{LexFault}
-use Rattle.drl_lex.specs.declared.fault.LexFault.TheVariants.{Refused, NoMemory}
-use Rattle.drl_lex.specs.Bytes.{is_blank, is_run_byte, is_quote, is_line_byte, begins, IsWithout}
-use Rattle.drl_lex.specs.Times.{IsNumeral, IsTime}
-use Rattle.drl_lex.specs.Texts.{escaped_byte, IsContent}
+use Rattle.drl_lex.specs.declared.{token.{Token.{Token}, TokenKind.{TokenKind}}, fault.LexCode.{LexCode, TheVariants.{BadChar, OpenText, OpenComment}}}
+use Rattle.drl_lex.specs.{declared.fault.{LexCode.TheVariants.{NumberLarge}, LexFault.{LexFault, TheVariants.{Refused, NoMemory}}}, Bytes.{is_blank}}
+use Rattle.drl_lex.specs.{Bytes.{is_run_byte, is_quote, is_line_byte, begins, IsWithout}, Times.{IsNumeral, IsTime}, Texts.{escaped_byte, IsContent}}
 use Rattle.drl_lex.specs.Tokens.{Spells, ReadsTokens}
 
 -- no token stands at the front of the bytes, and their first byte is no blank and begins no comment, no text

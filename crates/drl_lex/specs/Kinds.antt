@@ -1,7 +1,6 @@
 -- What tokens say, and where they stand.
 use Rattle.std.specs.Prelude.{ℕ, List, map}
-use Rattle.drl_lex.specs.declared.token.Token.{Token}
-use Rattle.drl_lex.specs.declared.token.TokenKind.{TokenKind}
+use Rattle.drl_lex.specs.declared.token.{Token.{Token}, TokenKind.{TokenKind}}
 
 -- what each token says
 abbrev pub kinds : List Token → List TokenKind

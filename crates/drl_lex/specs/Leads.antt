@@ -1,13 +1,9 @@
 -- What a piece of a file begins with.
-use Rattle.std.specs.Prelude.{ℕ, Bool, ◌==◌, if◌then◌else◌}
-use Rattle.std.specs.Char.{is_ascii_digit}
-use Rattle.drl_lex.specs.declared.bytes.Lead.{Lead}
-use Rattle.drl_lex.specs.declared.bytes.Lead.TheVariants.{Blank, Hash, Slash, Quote, Dollar, Digit, Letter, Other}
-use Rattle.drl_lex.specs.declared.bytes.TextByte.{TextByte}
-use Rattle.drl_lex.specs.declared.bytes.TextByte.TheVariants.{Closing, Backslash, Newline, Plain}
-use Rattle.drl_lex.specs.declared.bytes.Class.{Class}
-use Rattle.drl_lex.specs.declared.bytes.Class.TheVariants.{WordBytes, RunBytes, Digits, UnitBytes, LineBytes}
-use Rattle.drl_lex.specs.Bytes.{is_blank, is_quote, begins_word, is_word_byte, is_run_byte, is_unit_byte, is_line_byte}
+use Rattle.std.specs.{Prelude.{ℕ, Bool, ◌==◌, if◌then◌else◌}, Char.{is_ascii_digit}}
+use Rattle.drl_lex.specs.declared.bytes.{Lead.{Lead, TheVariants.{Blank, Hash, Slash, Quote, Dollar, Digit, Letter, Other}}, TextByte.{TextByte}}
+use Rattle.drl_lex.specs.declared.bytes.{TextByte.TheVariants.{Closing, Backslash, Newline, Plain}, Class.{Class, TheVariants.{WordBytes, RunBytes, Digits}}}
+use Rattle.drl_lex.specs.{declared.bytes.Class.TheVariants.{UnitBytes, LineBytes}, Bytes.{is_blank, is_quote, begins_word, is_word_byte, is_run_byte}}
+use Rattle.drl_lex.specs.Bytes.{is_unit_byte, is_line_byte}
 
 unfoldable pub lead_of : ℕ → Lead
 lead_of b = if is_blank b then Blank else

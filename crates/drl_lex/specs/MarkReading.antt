@@ -1,7 +1,6 @@
 -- The mark that begins with a byte.
 use Rattle.std.specs.Prelude.{ℕ, ◌==◌, ◌&&◌, List, [], ◌∷◌, Option, Some, None, option_map, if◌then◌else◌}
-use Rattle.drl_lex.specs.declared.token.Rel.TheVariants.{Equal, NotEqual, Less, LessOrEqual, Greater, GreaterOrEqual}
-use Rattle.drl_lex.specs.declared.token.Mark.{Mark}
+use Rattle.drl_lex.specs.declared.token.{Rel.TheVariants.{Equal, NotEqual, Less, LessOrEqual, Greater, GreaterOrEqual}, Mark.{Mark}}
 use Rattle.drl_lex.specs.declared.token.Mark.TheVariants.{OpenParenthesis, CloseParenthesis, OpenBrace, CloseBrace, OpenBracket, CloseBracket, Comma, Semicolon}
 use Rattle.drl_lex.specs.declared.token.Mark.TheVariants.{Colon, Dot, At, Plus, Minus, Star, Assign, Comparison, Or, And}
 

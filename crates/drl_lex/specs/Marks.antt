@@ -1,8 +1,6 @@
 -- How marks are written.
 use Rattle.std.specs.Prelude.{ℕ, ◌==◌, List, Bool, false, codes}
-use Rattle.drl_lex.specs.declared.token.Rel.{Rel}
-use Rattle.drl_lex.specs.declared.token.Rel.TheVariants.{Equal, NotEqual, Less, LessOrEqual, Greater, GreaterOrEqual}
-use Rattle.drl_lex.specs.declared.token.Mark.{Mark}
+use Rattle.drl_lex.specs.declared.token.{Rel.{Rel, TheVariants.{Equal, NotEqual, Less, LessOrEqual, Greater, GreaterOrEqual}}, Mark.{Mark}}
 use Rattle.drl_lex.specs.declared.token.Mark.TheVariants.{OpenParenthesis, CloseParenthesis, OpenBrace, CloseBrace, OpenBracket, CloseBracket, Comma, Semicolon}
 use Rattle.drl_lex.specs.declared.token.Mark.TheVariants.{Colon, Dot, At, Plus, Minus, Star, Assign, Comparison, Or, And}
 

@@ -1,23 +1,12 @@
 -- Reading from the left. Each function gives what stands at the front and the bytes behind it, or a fault and its
 -- offset; `at` is the offset of the first byte.
 use Rattle.std.specs.Prelude.{ℕ, zero, suc, ◌+◌, ◌-◌, ◌^◌, ◌==◌, List, [], ◌∷◌, length, Option, Some, None, Result, Ok, Err, nat_lt, nat_le, if◌then◌else◌}
-use Rattle.std.specs.Char.{is_ascii_digit}
-use Rattle.std.specs.Str.Parse.{digits_value}
-use Rattle.drl_lex.specs.declared.token.Token.{Token}
-use Rattle.drl_lex.specs.declared.token.TokenKind.{TokenKind}
-use Rattle.drl_lex.specs.declared.token.TokenKind.TheVariants.{Word, Var, Number, Time, Text, Mark}
-use Rattle.drl_lex.specs.declared.token.Mark.{Mark as MarkData}
-use Rattle.drl_lex.specs.declared.fault.LexCode.{LexCode}
-use Rattle.drl_lex.specs.declared.fault.LexCode.TheVariants.{BadChar, OpenText, OpenComment, NumberLarge}
-use Rattle.drl_lex.specs.declared.bytes.Lead.{Lead}
-use Rattle.drl_lex.specs.declared.bytes.Lead.TheVariants.{Blank, Hash, Slash, Quote, Dollar, Digit, Letter, Other}
-use Rattle.drl_lex.specs.declared.bytes.TextByte.{TextByte}
-use Rattle.drl_lex.specs.declared.bytes.TextByte.TheVariants.{Closing, Backslash, Newline, Plain}
-use Rattle.drl_lex.specs.Bytes.{is_word_byte, is_run_byte, is_line_byte}
-use Rattle.drl_lex.specs.Fronts.{longest, behind_close}
-use Rattle.drl_lex.specs.Leads.{lead_of, text_byte_of}
-use Rattle.drl_lex.specs.MarkReading.{mark_at}
-use Rattle.drl_lex.specs.Texts.{escaped_byte, utf8_text}
+use Rattle.std.specs.{Char.{is_ascii_digit}, Str.Parse.{digits_value}}
+use Rattle.drl_lex.specs.declared.token.{Token.{Token}, TokenKind.{TokenKind, TheVariants.{Word, Var, Number, Time, Text, Mark}}, Mark.{Mark as MarkData}}
+use Rattle.drl_lex.specs.declared.{fault.LexCode.{LexCode, TheVariants.{BadChar, OpenText, OpenComment, NumberLarge}}, bytes.Lead.{Lead, TheVariants.{Blank}}}
+use Rattle.drl_lex.specs.declared.bytes.{Lead.TheVariants.{Hash, Slash, Quote, Dollar, Digit, Letter, Other}, TextByte.{TextByte, TheVariants.{Closing}}}
+use Rattle.drl_lex.specs.{declared.bytes.TextByte.TheVariants.{Backslash, Newline, Plain}, Bytes.{is_word_byte, is_run_byte, is_line_byte}, Fronts.{longest}}
+use Rattle.drl_lex.specs.{Fronts.{behind_close}, Leads.{lead_of, text_byte_of}, MarkReading.{mark_at}, Texts.{escaped_byte, utf8_text}}
 use Rattle.drl_lex.specs.TimeReading.{is_empty_text, time_of}
 
 abbrev pub ReadToken : Type 0 → Type 0

@@ -1,8 +1,6 @@
 -- One turn of the loop over a text.
 use Rattle.std.specs.Prelude.{◌≡◌, ℕ, ◌<◌, ◌+◌, List, [], length, Ok, Err}
-use Rattle.drl_lex.specs.declared.fault.LexCode.TheVariants.{BadChar, OpenText}
-use Rattle.drl_lex.specs.declared.texts.TextStep.{TextStep}
-use Rattle.drl_lex.specs.declared.texts.TextStep.TheVariants.{Closed, Byte, BadEscape, Open}
+use Rattle.drl_lex.specs.declared.{fault.LexCode.TheVariants.{BadChar, OpenText}, texts.TextStep.{TextStep, TheVariants.{Closed, Byte, BadEscape, Open}}}
 use Rattle.drl_lex.specs.Reading.{ReadToken, content_at, with_byte}
 
 -- what is read from offset `place` on, where the bytes there begin with this

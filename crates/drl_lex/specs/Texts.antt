@@ -1,6 +1,5 @@
 -- Quoted texts, and what their escapes stand for.
-use Rattle.std.specs.Str.{is_utf8}
-use Rattle.std.specs.Prelude.{◌≡◌, ℕ, ◌==◌, ◌||◌, List, [], ◌∷◌, Bool, true, not, Option, Some, None, if◌then◌else◌}
+use Rattle.std.specs.{Str.{is_utf8}, Prelude.{◌≡◌, ℕ, ◌==◌, ◌||◌, List, [], ◌∷◌, Bool, true, not, Option, Some, None, if◌then◌else◌}}
 
 -- the byte that the letter behind a `\` stands for: `"`, `'` and `\` for themselves, `n` for a newline, `t` for a tab
 -- and `r` for a carriage return

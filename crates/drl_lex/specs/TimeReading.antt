@@ -1,11 +1,7 @@
 -- Reading a length of time from the left, part by part.
 use Rattle.std.specs.Prelude.{ℕ, ◌+◌, ◌-◌, ◌*◌, ◌^◌, min, ◌&&◌, ◌||◌, List, [], ◌∷◌, length, Bool, true, false, not, Option, Some, None, option_map, nat_lt}
-use Rattle.std.specs.Prelude.{codes, if◌then◌else◌}
-use Rattle.std.specs.Char.{is_ascii_digit}
-use Rattle.std.specs.Str.{bytes_eq}
-use Rattle.std.specs.Str.Parse.{digits_value}
-use Rattle.drl_lex.specs.Bytes.{is_unit_byte}
-use Rattle.drl_lex.specs.Fronts.{longest}
+use Rattle.std.specs.{Prelude.{codes, if◌then◌else◌}, Char.{is_ascii_digit}, Str.{bytes_eq, Parse.{digits_value}}}
+use Rattle.drl_lex.specs.{Bytes.{is_unit_byte}, Fronts.{longest}}
 
 abbrev pub is_empty_text : List ℕ → Bool
 is_empty_text [] = true

@@ -1,8 +1,5 @@
 -- Numbers and lengths of time as they are written.
-use Rattle.std.specs.Prelude.{◌≡◌, ℕ, ◌<◌, ◌+◌, ◌*◌, ◌++◌, List, [], length, true, codes}
-use Rattle.std.specs.List.{list_all}
-use Rattle.std.specs.Char.{is_ascii_digit}
-use Rattle.std.specs.Str.Parse.{digits_value}
+use Rattle.std.specs.{Prelude.{◌≡◌, ℕ, ◌<◌, ◌+◌, ◌*◌, ◌++◌, List, [], length, true, codes}, List.{list_all}, Char.{is_ascii_digit}, Str.Parse.{digits_value}}
 
 -- decimal digits, at least one, and the number that they write
 pub record IsNumeral (n : ℕ) (text : List ℕ) : Type 0 where

@@ -1,14 +1,9 @@
 -- The tokens of a file, parted by blanks and comments.
-use Rattle.std.specs.Prelude.{◌≡◌, ℕ, ◌<◌, ◌≤◌, ◌+◌, ◌^◌, ◌++◌, List, [], ◌∷◌, length, Bool, true, false, Option, Some, None, codes}
-use Rattle.std.specs.List.{list_all}
+use Rattle.std.specs.{Prelude.{◌≡◌, ℕ, ◌<◌, ◌≤◌, ◌+◌, ◌^◌, ◌++◌, List, [], ◌∷◌, length, Bool, true, false, Option, Some, None, codes}, List.{list_all}}
 use Rattle.std.specs.Str.{is_utf8}
-use Rattle.drl_lex.specs.declared.token.Token.{Token}
-use Rattle.drl_lex.specs.declared.token.TokenKind.{TokenKind}
-use Rattle.drl_lex.specs.declared.token.TokenKind.TheVariants.{Word, Var, Number, Time, Text, Mark}
-use Rattle.drl_lex.specs.Bytes.{is_blank, begins_word, is_word_byte, is_run_byte, is_quote, is_line_byte, begins, IsWithout}
-use Rattle.drl_lex.specs.Times.{IsNumeral, IsTime}
-use Rattle.drl_lex.specs.Texts.{IsContent}
-use Rattle.drl_lex.specs.Marks.{mark_text, lengthens}
+use Rattle.drl_lex.specs.{declared.token.{Token.{Token}, TokenKind.{TokenKind, TheVariants.{Word, Var, Number, Time, Text, Mark}}}, Bytes.{is_blank}}
+use Rattle.drl_lex.specs.{Bytes.{begins_word, is_word_byte, is_run_byte, is_quote, is_line_byte, begins, IsWithout}, Times.{IsNumeral, IsTime}}
+use Rattle.drl_lex.specs.{Texts.{IsContent}, Marks.{mark_text, lengthens}}
 
 -- a text between two quotes of one kind
 pub record IsText (content text : List ℕ) : Type 0 where

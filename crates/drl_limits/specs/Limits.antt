@@ -1,6 +1,5 @@
 -- The limits of a rule file: how many there may be of a thing, how long names and texts are, how large numbers.
-use Rattle.std.specs.Prelude.{ℕ, ℤ, ◌&&◌, Bool, true, false, not, List, length, nat_le, nat_lt, Option, Some, None, unsigned_abs, sum_by}
-use Rattle.std.specs.List.{list_all}
+use Rattle.std.specs.{Prelude.{ℕ, ℤ, ◌&&◌, Bool, true, false, not, List, length, nat_le, nat_lt, Option, Some, None, unsigned_abs, sum_by}, List.{list_all}}
 use Rattle.fx_base.specs.declared.limits.TheConstants.{MOST_MILLIS, TEXT_MAX}
 use Rattle.drl_lex.specs.declared.token.Rel.{Rel}
 use Rattle.drl_expr.specs.declared.literal.LitTree.{LitTree}
@@ -10,8 +9,7 @@ use Rattle.drl_grammar.specs.declared.action.ActTree.{ActTree}
 use Rattle.drl_grammar.specs.declared.action.ActTree.TheVariants as action
 use Rattle.drl_grammar.specs.declared.condition.CondTree.{CondTree}
 use Rattle.drl_grammar.specs.declared.condition.CondTree.TheVariants as condition
-use Rattle.drl_grammar.specs.declared.condition.SourceTree.{SourceTree}
-use Rattle.drl_grammar.specs.declared.condition.WindowTree.{WindowTree}
+use Rattle.drl_grammar.specs.declared.condition.{SourceTree.{SourceTree}, WindowTree.{WindowTree}}
 use Rattle.drl_grammar.specs.declared.condition.WindowTree.TheVariants as window
 use Rattle.drl_grammar.specs.declared.condition.Part.{Part}
 use Rattle.drl_grammar.specs.declared.condition.Part.TheVariants as part
@@ -23,14 +21,10 @@ use Rattle.drl_grammar.specs.declared.file.Attr.{Attr}
 use Rattle.drl_grammar.specs.declared.file.Attr.TheVariants as attr
 use Rattle.drl_grammar.specs.declared.file.Body.{Body}
 use Rattle.drl_grammar.specs.declared.file.Body.TheVariants as body
-use Rattle.drl_grammar.specs.declared.file.Item.{Item}
-use Rattle.drl_grammar.specs.declared.file.Meta.{Meta}
+use Rattle.drl_grammar.specs.declared.file.{Item.{Item}, Meta.{Meta}}
 use Rattle.drl_grammar.specs.declared.file.Meta.TheVariants as meta
-use Rattle.drl_grammar.specs.declared.file.TypeTree.{TypeTree}
-use Rattle.drl_grammar.specs.declared.file.RuleTree.{RuleTree}
-use Rattle.drl_sight.specs.Names.{is_name_short}
-use Rattle.drl_sight.specs.Declarations.{types_of, rules_of, field_names}
-use Rattle.drl_sight.specs.EntryPoints.{entries_named, with_names, entry_names}
+use Rattle.drl_grammar.specs.declared.file.{TypeTree.{TypeTree}, RuleTree.{RuleTree}}
+use Rattle.drl_sight.specs.{Names.{is_name_short}, Declarations.{types_of, rules_of, field_names}, EntryPoints.{entries_named, with_names, entry_names}}
 
 -- names of types, fields and variables have at most 64 bytes, texts at most 4,096
 abbrev pub is_name : List ℕ → Bool

@@ -1,11 +1,7 @@
 -- The names of the variables that conditions bind to facts and to results. A condition that binds a fact or a result without a variable has
 -- its place among them, and no name.
-use Rattle.std.specs.Prelude.{ℕ, ◌++◌, List, [], ◌∷◌, map, Option, option_map, codes}
-use Rattle.std.specs.List.{flat_map}
-use Rattle.drl_grammar.specs.declared.condition.CondTree.{CondTree}
-use Rattle.drl_grammar.specs.declared.condition.CondTree.TheVariants.{Plain, Negated, Existing, Folded}
-use Rattle.drl_grammar.specs.declared.file.File.{File}
-use Rattle.drl_grammar.specs.declared.file.RuleTree.{RuleTree}
+use Rattle.std.specs.{Prelude.{ℕ, ◌++◌, List, [], ◌∷◌, map, Option, option_map, codes}, List.{flat_map}}
+use Rattle.drl_grammar.specs.declared.{condition.CondTree.{CondTree, TheVariants.{Plain, Negated, Existing, Folded}}, file.{File.{File}, RuleTree.{RuleTree}}}
 use Rattle.drl_sight.specs.Declarations.{rules_of}
 use Rattle.drl_names.specs.declared.rule_names.RuleNames.{RuleNames}
 

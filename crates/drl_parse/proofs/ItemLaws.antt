@@ -1,8 +1,7 @@
 -- What is read of the items of a file stands there, and what stands there is read.
 use Rattle.drl_parse.proofs.Common.{◌≡◌, ℕ, zero, suc, ◌≤◌, List, [], ◌∷◌, length, take, drop, length-drop, Option, Some, None, Ok, Err, refl, ap, arith}
 use Rattle.drl_parse.proofs.Common.{IfSome, TokenKind, WrittenItem, WrittenBody, IsItem, ItemsRead, extent, AreItems, no_items, next_item, IsItemRefused, here}
-use Rattle.drl_parse.proofs.Common.{later, item_step}
-use Rattle.drl_parse.specs.Items.{items_at}
+use Rattle.drl_parse.{proofs.Common.{later, item_step}, specs.Items.{items_at}}
 
 -- what is read of all the tokens of an item is the tree that stands for them
 pub record Exactly (body_of : List TokenKind → Option WrittenBody) : Type 0 where

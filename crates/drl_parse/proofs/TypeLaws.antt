@@ -11,8 +11,7 @@ use Rattle.drl_grammar.specs.Items as g
 use Rattle.drl_grammar.specs.Shapes as m
 use Rattle.drl_phrase.specs.declared.phrase.Punctuation.TheVariants as p
 use Rattle.drl_phrase.specs.Reading.{after, closed, ident}
-use Rattle.drl_parse.specs.declared.words.MetaWord.{MetaWord}
-use Rattle.drl_parse.specs.declared.words.MetaWord.TheVariants.{RoleWord, TimestampWord, DurationWord, ExpiresWord, ReferenceWord}
+use Rattle.drl_parse.specs.declared.words.MetaWord.{MetaWord, TheVariants.{RoleWord, TimestampWord, DurationWord, ExpiresWord, ReferenceWord}}
 use Rattle.drl_parse.specs.Reading.{meta_word_of, role_word, behind_meta, meta_at, field_at, parent_at, type_at, lateness_at, behind_point, entry_at}
 
 -- ---- annotations

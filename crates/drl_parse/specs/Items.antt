@@ -1,11 +1,8 @@
 -- Reading the items of a file, or the first that is none.
 use Rattle.std.specs.Prelude.{◌≡◌, ℕ, zero, suc, ◌+◌, List, [], ◌∷◌, take, drop, Option, Some, None, Result, Ok, Err}
 use Rattle.drl_lex.specs.declared.token.TokenKind.{TokenKind}
-use Rattle.drl_grammar.specs.declared.written.WrittenItem.{WrittenItem}
-use Rattle.drl_grammar.specs.declared.written.WrittenBody.{WrittenBody}
-use Rattle.drl_grammar.specs.Files.{extent}
-use Rattle.drl_parse.specs.declared.fault.ParseFault.{ParseFault}
-use Rattle.drl_parse.specs.declared.fault.ParseFault.TheVariants.{Syntax, TooLong, Lexical, NoMemory}
+use Rattle.drl_grammar.specs.{declared.written.{WrittenItem.{WrittenItem}, WrittenBody.{WrittenBody}}, Files.{extent}}
+use Rattle.drl_parse.specs.declared.fault.ParseFault.{ParseFault, TheVariants.{Syntax, TooLong, Lexical, NoMemory}}
 
 -- the tokens of the first item, and what follows it
 unfoldable pub first_item : List TokenKind → Option (List TokenKind × List TokenKind)

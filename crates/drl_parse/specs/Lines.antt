@@ -1,6 +1,5 @@
 -- Newlines and offsets.
-use Rattle.std.specs.Prelude.{ℕ, ◌≤◌, ◌==◌, List, [], ◌∷◌, length}
-use Rattle.std.specs.List.{filter}
+use Rattle.std.specs.{Prelude.{ℕ, ◌≤◌, ◌==◌, List, [], ◌∷◌, length}, List.{filter}}
 
 -- how many newlines there are
 abbrev pub newlines : List ℕ → ℕ

@@ -1,21 +1,13 @@
 -- What the bytes of a rule file are: a written file, or what is refused first.
 use Rattle.std.specs.Prelude.{◌≡◌, ℕ, ◌≤◌, ◌<◌, nat_lt, List, length, Option, Result, Ok, Err, if◌then◌else◌}
-use Rattle.drl_lex.specs.declared.token.Token.{Token}
-use Rattle.drl_lex.specs.declared.token.TokenKind.{TokenKind}
-use Rattle.drl_lex.specs.declared.fault.LexCode.{LexCode}
-use Rattle.drl_lex.specs.declared.fault.LexFault.{LexFault}
+use Rattle.drl_lex.specs.declared.{token.{Token.{Token}, TokenKind.{TokenKind}}, fault.{LexCode.{LexCode}, LexFault.{LexFault}}}
 use Rattle.drl_lex.specs.declared.fault.LexFault.TheVariants as lex_fault
 use Rattle.drl_lex.specs.Faults as lexer
-use Rattle.drl_lex.specs.Kinds.{kinds}
-use Rattle.drl_lex.specs.Reading.{lexed}
-use Rattle.drl_grammar.specs.declared.written.Written.{Written}
-use Rattle.drl_grammar.specs.declared.written.WrittenBody.{WrittenBody}
-use Rattle.drl_grammar.specs.Files.{line_at, lines_at, IsOutside}
-use Rattle.drl_parse.specs.declared.fault.ParseFault.{ParseFault}
-use Rattle.drl_parse.specs.declared.fault.ParseFault.TheVariants.{Syntax, TooLong, Lexical, NoMemory}
+use Rattle.drl_lex.specs.{Kinds.{kinds}, Reading.{lexed}}
+use Rattle.drl_grammar.specs.{declared.written.{Written.{Written}, WrittenBody.{WrittenBody}}, Files.{line_at, lines_at, IsOutside}}
+use Rattle.drl_parse.specs.{declared.fault.ParseFault.{ParseFault, TheVariants.{Syntax, TooLong, Lexical, NoMemory}}, Reading.{item_at}, Items.{ItemsRead}}
+use Rattle.drl_parse.specs.Items.{items_at}
 use Rattle.drl_phrase.specs.Reading.{whole_at}
-use Rattle.drl_parse.specs.Reading.{item_at}
-use Rattle.drl_parse.specs.Items.{ItemsRead, items_at}
 
 -- the greatest number of bytes
 unfoldable pub file_limit : ℕ

@@ -1,27 +1,20 @@
 -- Reading the items of a file: the value of the phrase at the front and the tokens behind it.
-use Rattle.std.specs.Prelude.{ℕ, ℤ, List, ◌∷◌, pos, neg_ℤ, Bool, true, false, Option, Some, None, if◌then◌else◌, codes}
-use Rattle.std.specs.Str.{bytes_eq}
-use Rattle.drl_lex.specs.declared.token.TokenKind.{TokenKind}
-use Rattle.drl_lex.specs.declared.token.TokenKind.TheVariants.{Word, Number, Text, Mark}
-use Rattle.drl_lex.specs.declared.token.Mark.TheVariants.{OpenParenthesis, CloseParenthesis, Colon, Dot, At, Minus, Star}
+use Rattle.std.specs.{Prelude.{ℕ, ℤ, List, ◌∷◌, pos, neg_ℤ, Bool, true, false, Option, Some, None, if◌then◌else◌, codes}, Str.{bytes_eq}}
+use Rattle.drl_lex.specs.declared.token.{TokenKind.{TokenKind, TheVariants.{Word, Number, Text, Mark}}, Mark.TheVariants.{OpenParenthesis, CloseParenthesis}}
+use Rattle.drl_lex.specs.declared.token.Mark.TheVariants.{Colon, Dot, At, Minus, Star}
 use Rattle.drl_expr.specs.Exact.{Read}
 use Rattle.drl_grammar.specs.declared.file.Attr.{Attr}
 use Rattle.drl_grammar.specs.declared.file.Attr.TheVariants as attr
 use Rattle.drl_grammar.specs.declared.file.Meta.{Meta}
 use Rattle.drl_grammar.specs.declared.file.Meta.TheVariants as meta
-use Rattle.drl_grammar.specs.declared.written.Piece.{Piece}
-use Rattle.drl_grammar.specs.declared.written.WrittenType.{WrittenType}
-use Rattle.drl_grammar.specs.declared.written.WrittenRule.{WrittenRule}
-use Rattle.drl_grammar.specs.declared.written.WrittenBody.{WrittenBody}
+use Rattle.drl_grammar.specs.declared.written.{Piece.{Piece}, WrittenType.{WrittenType}, WrittenRule.{WrittenRule}, WrittenBody.{WrittenBody}}
 use Rattle.drl_grammar.specs.declared.written.WrittenBody.TheVariants as body
 use Rattle.drl_phrase.specs.declared.phrase.Punctuation.TheVariants as p
 use Rattle.drl_phrase.specs.Reading.{◌>>=◌, after_word, closed, ended, ident, many_at, maybe_at, optional_at, span_at, name_at}
 use Rattle.drl_condition.specs.Choices.{pieces_at}
 use Rattle.drl_action.specs.Reading.{action_at}
-use Rattle.drl_parse.specs.declared.words.MetaWord.{MetaWord}
-use Rattle.drl_parse.specs.declared.words.MetaWord.TheVariants.{RoleWord, TimestampWord, DurationWord, ExpiresWord, ReferenceWord}
-use Rattle.drl_parse.specs.declared.words.ItemWord.{ItemWord}
-use Rattle.drl_parse.specs.declared.words.ItemWord.TheVariants.{PackageWord, ImportWord, DialectWord, DeclareWord, RuleWord}
+use Rattle.drl_parse.specs.declared.words.MetaWord.{MetaWord, TheVariants.{RoleWord, TimestampWord, DurationWord, ExpiresWord, ReferenceWord}}
+use Rattle.drl_parse.specs.declared.words.ItemWord.{ItemWord, TheVariants.{PackageWord, ImportWord, DialectWord, DeclareWord, RuleWord}}
 
 -- ---- words
 

@@ -3,8 +3,7 @@ use Rattle.drl_phrase.proofs.Common.{◌≡◌, ℕ, ℤ, ◌<◌, ◌≤◌, Li
 use Rattle.drl_phrase.proofs.Common.{phrase_binds, ExactPhrase}
 use Rattle.drl_grammar.specs.Conditions as g
 use Rattle.drl_grammar.specs.Conditions.{IsSpan, IsName}
-use Rattle.drl_phrase.specs.Reading.{span_at, name_at}
-use Rattle.drl_phrase.proofs.ShapeLaws.{ident_then, ident_is}
+use Rattle.drl_phrase.{specs.Reading.{span_at, name_at}, proofs.ShapeLaws.{ident_then, ident_is}}
 
 pub span_exact : ExactPhrase IsSpan span_at 0
 unfolding span_at

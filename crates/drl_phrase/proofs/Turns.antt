@@ -1,8 +1,7 @@
 -- The loops over the members of a list.
 use Rattle.drl_phrase.proofs.Common.{◌≡◌, ℕ, zero, suc, ◌-◌, ◌+◌, ◌<◌, ◌≤◌, List, [], ◌∷◌, ◌++◌, length, Some, None, refl, sym, ap, ◌∙◌, append_assoc, arith}
-use Rattle.drl_phrase.proofs.Common.{TokenKind, Read, Punctuation, after, with_first, with_front}
+use Rattle.drl_phrase.{proofs.Common.{TokenKind, Read, Punctuation, after, with_first, with_front}, specs.Reading.{more_at, separated_at, turns_at, many_at}}
 use Rattle.std.proofs.lemmas.List.{append-nil}
-use Rattle.drl_phrase.specs.Reading.{more_at, separated_at, turns_at, many_at}
 
 nothing_before : {A : Type 0} (o : Read (List A)) → with_front [] o ≡ o
 nothing_before None = refl

@@ -1,9 +1,6 @@
 -- What it means that a reading function reads exactly the phrases of the grammar of rule files.
-use Rattle.std.specs.Prelude.{◌≡◌, ℕ, ◌<◌, ◌≤◌, List, ◌∷◌, length, Some, if◌then◌else◌, codes}
-use Rattle.std.specs.Str.{bytes_eq}
-use Rattle.drl_lex.specs.declared.token.TokenKind.{TokenKind}
-use Rattle.drl_lex.specs.declared.token.TokenKind.TheVariants.{Word, Mark}
-use Rattle.drl_lex.specs.declared.token.Mark.TheVariants.{Dot, Star, Plus, Minus, And, Or, Comma, Semicolon}
+use Rattle.std.specs.{Prelude.{◌≡◌, ℕ, ◌<◌, ◌≤◌, List, ◌∷◌, length, Some, if◌then◌else◌, codes}, Str.{bytes_eq}}
+use Rattle.drl_lex.specs.declared.token.{TokenKind.{TokenKind, TheVariants.{Word, Mark}}, Mark.TheVariants.{Dot, Star, Plus, Minus, And, Or, Comma, Semicolon}}
 use Rattle.drl_expr.specs.Exact.{Read, Phrase, Found}
 
 -- how loosely the first token phrase_binds to what stands before it

@@ -1,11 +1,8 @@
 -- Reading what stands at the front of the tokens, the value and what follows: the shapes, spans and names.
-use Rattle.std.specs.Prelude.{ℕ, ℤ, zero, suc, length, List, [], ◌∷◌, ◌++◌, pos, neg_ℤ, Option, Some, None, option_and_then, if◌then◌else◌}
-use Rattle.std.specs.Str.{bytes_eq}
-use Rattle.drl_lex.specs.declared.token.TokenKind.{TokenKind}
-use Rattle.drl_lex.specs.declared.token.TokenKind.TheVariants.{Word, Number, Time, Text, Mark}
-use Rattle.drl_lex.specs.declared.token.Mark.TheVariants.{Comma, Semicolon, Or, And, Minus, CloseParenthesis, CloseBracket, CloseBrace}
-use Rattle.drl_expr.specs.Exact.{Read}
-use Rattle.drl_expr.specs.Words.{is_ident}
+use Rattle.std.specs.{Prelude.{ℕ, ℤ, zero, suc, length, List, [], ◌∷◌, ◌++◌, pos, neg_ℤ, Option, Some, None, option_and_then, if◌then◌else◌}, Str.{bytes_eq}}
+use Rattle.drl_lex.specs.declared.token.{TokenKind.{TokenKind, TheVariants.{Word, Number, Time, Text, Mark}}, Mark.TheVariants.{Comma, Semicolon, Or, And}}
+use Rattle.drl_lex.specs.declared.token.Mark.TheVariants.{Minus, CloseParenthesis, CloseBracket, CloseBrace}
+use Rattle.drl_expr.specs.{Exact.{Read}, Words.{is_ident}}
 use Rattle.drl_phrase.specs.declared.phrase.Punctuation.{Punctuation}
 use Rattle.drl_phrase.specs.declared.phrase.Punctuation.TheVariants as p
 

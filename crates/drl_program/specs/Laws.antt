@@ -1,17 +1,8 @@
 -- What the program of a file has, whatever the file is.
-use Rattle.std.specs.Prelude.{◌≡◌, ◌≤◌, ℕ, ◌&&◌, Bool, true, List, length, is_some}
-use Rattle.std.specs.List.{list_all}
-use Rattle.drl_grammar.specs.declared.condition.CondTree.{CondTree}
-use Rattle.drl_grammar.specs.declared.file.File.{File}
-use Rattle.drl_grammar.specs.declared.file.RuleTree.{RuleTree}
-use Rattle.drl_grammar.specs.declared.file.TypeTree.{TypeTree}
-use Rattle.drl_sight.specs.Declarations.{types_of, rules_of, type_names, type_tree_named}
-use Rattle.drl_sight.specs.EntryPoints.{source_of}
-use Rattle.drl_sight.specs.Names.{are_distinct}
-use Rattle.drl_sight.specs.Sight.{Place}
-use Rattle.rule_model.specs.Rows.{HaveOperators}
-use Rattle.rule_model.specs.Simple.{is_observed_in}
-use Rattle.rule_model.specs.Types.{is_event, is_observed}
+use Rattle.std.specs.{Prelude.{◌≡◌, ◌≤◌, ℕ, ◌&&◌, Bool, true, List, length, is_some}, List.{list_all}}
+use Rattle.drl_grammar.specs.declared.{condition.CondTree.{CondTree}, file.{File.{File}, RuleTree.{RuleTree}, TypeTree.{TypeTree}}}
+use Rattle.drl_sight.specs.{Declarations.{types_of, rules_of, type_names, type_tree_named}, EntryPoints.{source_of}, Names.{are_distinct}, Sight.{Place}}
+use Rattle.rule_model.specs.{Rows.{HaveOperators}, Simple.{is_observed_in}, Types.{is_event, is_observed}}
 use Rattle.drl_program.specs.Programs.{conditions_meant, program_of}
 
 -- the type of the pattern is declared

@@ -1,14 +1,11 @@
 -- Which types the rules of a file observe: those of a not, an exists, an accumulate, or a pattern with a window of length.
-use Rattle.std.specs.Prelude.{ℕ, ◌&&◌, Bool, true, false, List, [], ◌∷◌, Option, Some, None, if◌then◌else◌}
-use Rattle.std.specs.List.{flat_map}
+use Rattle.std.specs.{Prelude.{ℕ, ◌&&◌, Bool, true, false, List, [], ◌∷◌, Option, Some, None, if◌then◌else◌}, List.{flat_map}}
 use Rattle.drl_grammar.specs.declared.condition.CondTree.{CondTree}
 use Rattle.drl_grammar.specs.declared.condition.CondTree.TheVariants as tree
 use Rattle.drl_grammar.specs.declared.condition.WindowTree.{WindowTree}
 use Rattle.drl_grammar.specs.declared.condition.WindowTree.TheVariants as window
-use Rattle.drl_grammar.specs.declared.file.RuleTree.{RuleTree}
-use Rattle.drl_grammar.specs.declared.file.TypeTree.{TypeTree}
-use Rattle.drl_sight.specs.Annotations.{is_tree_of_events}
-use Rattle.drl_sight.specs.EntryPoints.{source_of}
+use Rattle.drl_grammar.specs.declared.file.{RuleTree.{RuleTree}, TypeTree.{TypeTree}}
+use Rattle.drl_sight.specs.{Annotations.{is_tree_of_events}, EntryPoints.{source_of}}
 use Rattle.drl_expr.specs.Words.{is_among}
 
 abbrev pub has_length : Option WindowTree → Bool

@@ -1,10 +1,6 @@
 -- The operator of a word with its parameters.
-use Rattle.std.specs.Prelude.{ℤ, pos, neg_ℤ, ◌^◌, ◌&&◌, ◌||◌, int_le, int_lt, not, Bool, List, Option, None, if◌then◌else◌}
-use Rattle.std.specs.List.{list_all, list_any}
-use Rattle.temporal_ops.specs.declared.edge.OpEdge.{OpEdge}
-use Rattle.temporal_ops.specs.declared.word.OpWord.{OpWord}
-use Rattle.temporal_ops.specs.Operators.{edges_of}
-use Rattle.temporal_ops.specs.Table.{takes_negative}
+use Rattle.std.specs.{Prelude.{ℤ, pos, neg_ℤ, ◌^◌, ◌&&◌, ◌||◌, int_le, int_lt, not, Bool, List, Option, None, if◌then◌else◌}, List.{list_all, list_any}}
+use Rattle.temporal_ops.specs.{declared.{edge.OpEdge.{OpEdge}, word.OpWord.{OpWord}}, Operators.{edges_of}, Table.{takes_negative}}
 
 -- milliseconds of at most 2^53 in size
 unfoldable pub is_span : ℤ → Bool

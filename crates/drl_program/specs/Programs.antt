@@ -1,9 +1,7 @@
 -- The program of a file. Each name has a place in what was declared; a name that was not declared, which no accepted file
 -- has, counts as the first.
 use Rattle.std.specs.Prelude.{ℕ, ℤ, min, Bool, true, false, not, List, [], ◌∷◌, map, pos, negsuc, Option, Some, None, option_map, if◌then◌else◌}
-use Rattle.std.specs.List.{filter, flat_map}
-use Rattle.std.specs.Option.{option_and_then}
-use Rattle.std.specs.Str.{bytes_eq}
+use Rattle.std.specs.{List.{filter, flat_map}, Option.{option_and_then}, Str.{bytes_eq}}
 use Rattle.fx_base.specs.declared.kind.Kind.{Kind}
 use Rattle.fx_base.specs.declared.kind.Kind.TheVariants as kind
 use Rattle.fx_base.specs.declared.value.Value.{Value}
@@ -20,8 +18,7 @@ use Rattle.drl_grammar.specs.declared.action.ActTree.{ActTree}
 use Rattle.drl_grammar.specs.declared.action.ActTree.TheVariants as act
 use Rattle.drl_grammar.specs.declared.condition.CondTree.{CondTree}
 use Rattle.drl_grammar.specs.declared.condition.CondTree.TheVariants as tree
-use Rattle.drl_grammar.specs.declared.condition.SourceTree.{SourceTree}
-use Rattle.drl_grammar.specs.declared.condition.WindowTree.{WindowTree}
+use Rattle.drl_grammar.specs.declared.condition.{SourceTree.{SourceTree}, WindowTree.{WindowTree}}
 use Rattle.drl_grammar.specs.declared.condition.WindowTree.TheVariants as window
 use Rattle.drl_grammar.specs.declared.condition.FoldWord.{FoldWord}
 use Rattle.drl_grammar.specs.declared.condition.FoldWord.TheVariants as fold
@@ -33,40 +30,20 @@ use Rattle.drl_grammar.specs.declared.condition.Operand.{Operand}
 use Rattle.drl_grammar.specs.declared.condition.Operand.TheVariants as operand
 use Rattle.drl_grammar.specs.declared.file.Attr.{Attr}
 use Rattle.drl_grammar.specs.declared.file.Attr.TheVariants as attr
-use Rattle.drl_grammar.specs.declared.file.File.{File}
-use Rattle.drl_grammar.specs.declared.file.Item.{Item}
-use Rattle.drl_grammar.specs.declared.file.TypeTree.{TypeTree}
-use Rattle.drl_grammar.specs.declared.file.RuleTree.{RuleTree}
+use Rattle.drl_grammar.specs.declared.file.{File.{File}, Item.{Item}, TypeTree.{TypeTree}, RuleTree.{RuleTree}}
 use Rattle.rule_model.specs.Expressions.{Expression, bound, folded}
 use Rattle.rule_model.specs.Expressions as expression
-use Rattle.rule_model.specs.declared.action.Action.{Action}
-use Rattle.rule_model.specs.declared.action.Action.TheVariants.{Insert, Modify, Retract}
-use Rattle.rule_model.specs.declared.program.Program.{Program}
-use Rattle.rule_model.specs.declared.program.TypeInfo.{TypeInfo}
-use Rattle.rule_model.specs.declared.program.EntryInfo.{EntryInfo}
-use Rattle.rule_model.specs.declared.program.Rule.{Rule}
-use Rattle.rule_model.specs.declared.condition.Condition.{Condition}
-use Rattle.rule_model.specs.declared.condition.Condition.TheVariants.{Plain, Negated, Existing, Folded}
-use Rattle.rule_model.specs.declared.condition.Accumulate.{Accumulate}
-use Rattle.rule_model.specs.declared.condition.Pattern.{Pattern}
-use Rattle.rule_model.specs.declared.condition.WindowTag.{WindowTag}
-use Rattle.rule_model.specs.declared.condition.WindowTag.TheVariants.{Whole, Time, Length}
-use Rattle.rule_model.specs.declared.test.Test.{Test}
-use Rattle.rule_model.specs.declared.test.Compare.{Compare}
-use Rattle.rule_model.specs.declared.test.RelTag.{RelTag}
+use Rattle.rule_model.specs.declared.{action.Action.{Action, TheVariants.{Insert, Modify, Retract}}, program.{Program.{Program}, TypeInfo.{TypeInfo}}}
+use Rattle.rule_model.specs.declared.{program.{EntryInfo.{EntryInfo}, Rule.{Rule}}, condition.Condition.{Condition, TheVariants.{Plain, Negated, Existing}}}
+use Rattle.rule_model.specs.declared.condition.{Condition.TheVariants.{Folded}, Accumulate.{Accumulate}, Pattern.{Pattern}, WindowTag.{WindowTag}}
+use Rattle.rule_model.specs.declared.{condition.WindowTag.TheVariants.{Whole, Time, Length}, test.{Test.{Test}, Compare.{Compare}, RelTag.{RelTag}}}
 use Rattle.rule_model.specs.declared.test.RelTag.TheVariants as tag
-use Rattle.rule_model.specs.declared.test.Side.{Side}
-use Rattle.rule_model.specs.declared.test.Side.TheVariants.{Lit, Own, Of, Result}
-use Rattle.rule_model.specs.declared.test.TimeTest.{TimeTest}
-use Rattle.rule_model.specs.declared.test.ResultTest.{ResultTest}
-use Rattle.drl_sight.specs.Names.{place_of_name}
-use Rattle.drl_sight.specs.Declarations.{types_of, rules_of, type_names, field_names, type_tree_named, kind_by_word}
-use Rattle.drl_sight.specs.Annotations.{is_tree_of_events, timestamp_of, duration_field_of, declared_expiry, reference_of}
-use Rattle.drl_sight.specs.EntryPoints.{entry_names, lateness_named}
-use Rattle.drl_sight.specs.Sight.{Sight, Meaning, of_fact, of_field, of_result, meaning_of, Place, begin, behind, sight_of_actions}
-use Rattle.drl_sight.specs.Operands.{any_of_part}
-use Rattle.drl_program.specs.Observed.{observed_names, is_observed_event}
-use Rattle.drl_program.specs.Operators.{operator_of}
+use Rattle.rule_model.specs.declared.test.{Side.{Side, TheVariants.{Lit, Own, Of, Result}}, TimeTest.{TimeTest}, ResultTest.{ResultTest}}
+use Rattle.drl_sight.specs.{Names.{place_of_name}, Declarations.{types_of, rules_of, type_names, field_names, type_tree_named, kind_by_word}}
+use Rattle.drl_sight.specs.{Annotations.{is_tree_of_events, timestamp_of, duration_field_of, declared_expiry, reference_of}, EntryPoints.{entry_names}}
+use Rattle.drl_sight.specs.{EntryPoints.{lateness_named}, Sight.{Sight, Meaning, of_fact, of_field, of_result, meaning_of, Place, begin, behind}}
+use Rattle.drl_sight.specs.{Sight.{sight_of_actions}, Operands.{any_of_part}}
+use Rattle.drl_program.specs.{Observed.{observed_names, is_observed_event}, Operators.{operator_of}}
 
 -- a place as a number of 8 or 16 bits; types and entry points have 16
 abbrev pub small_place : Option ℕ → ℕ

@@ -6,8 +6,7 @@ use Rattle.drl_lex.specs.Bytes.{begins_word, is_word_byte}
 use Rattle.drl_grammar.specs.Shapes as shapes
 use Rattle.drl_grammar.specs.Actions as g
 use Rattle.drl_grammar.specs.Actions.{small, IsSetter, IsAssign, IsAction}
-use Rattle.drl_show.proofs.Fine.{Good, fine_word, fine_var, fine_append, both}
-use Rattle.drl_show.proofs.AgainShapes.{Agains, regroup, separated_again, listed_again, optional_good}
+use Rattle.drl_show.proofs.{Fine.{Good, fine_word, fine_var, fine_append, both}, AgainShapes.{Agains, regroup, separated_again, listed_again, optional_good}}
 use Rattle.drl_show.proofs.AgainExpressions.{expression_again}
 
 -- ---- the field that a setter names is a word

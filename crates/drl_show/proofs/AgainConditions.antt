@@ -6,22 +6,17 @@ use Rattle.drl_show.proofs.Common.{literal_tokens, param_tokens, Or, And, op_tex
 use Rattle.drl_show.proofs.Common.{AreParams, IsPart, IsWindow, IsPlace, IsBinding, IsSource, IsGroup, IsValueTest, IsResultTest, AreResultTests, IsFolded}
 use Rattle.drl_show.proofs.Common.{IsCondition, operand_tokens, cmp_tokens, conj_tokens, disj_tokens, part_tokens, window_tokens, place_tokens, binding_tokens}
 use Rattle.drl_show.proofs.Common.{test_tokens, group_tokens, condition_tokens}
-use Rattle.temporal_ops.specs.declared.word.OpWord.{OpWord}
-use Rattle.temporal_ops.specs.declared.word.OpWord.TheVariants.{After, Before, Coincides, During, Includes, Finishes, FinishedBy, Starts, StartedBy, Meets}
-use Rattle.temporal_ops.specs.declared.word.OpWord.TheVariants.{MetBy, Overlaps, OverlappedBy}
-use Rattle.drl_lex.specs.Bytes.{begins_word, is_word_byte}
-use Rattle.drl_lex.specs.declared.token.Rel.{Rel}
-use Rattle.drl_grammar.specs.declared.condition.Operand.{Operand}
-use Rattle.drl_grammar.specs.declared.condition.FoldWord.TheVariants.{Count, Sum, Min, Max, Average}
-use Rattle.drl_grammar.specs.declared.condition.CondTree.{CondTree}
+use Rattle.temporal_ops.specs.declared.word.OpWord.{OpWord, TheVariants.{After, Before, Coincides, During, Includes, Finishes, FinishedBy, Starts, StartedBy}}
+use Rattle.temporal_ops.specs.declared.word.OpWord.TheVariants.{Meets, MetBy, Overlaps, OverlappedBy}
+use Rattle.drl_lex.specs.{Bytes.{begins_word, is_word_byte}, declared.token.Rel.{Rel}}
+use Rattle.drl_grammar.specs.declared.condition.{Operand.{Operand}, FoldWord.TheVariants.{Count, Sum, Min, Max, Average}, CondTree.{CondTree}}
 use Rattle.drl_grammar.specs.declared.condition.ResultWord.TheVariants.{LongValue}
 use Rattle.drl_grammar.specs.Shapes as shapes
 use Rattle.drl_expr.specs.declared.literal.LitTree.TheVariants as lit
 use Rattle.drl_grammar.specs.declared.condition.CondTree.TheVariants as condition
 use Rattle.drl_grammar.specs.Conditions as g
-use Rattle.drl_show.specs.Canonical.{source_tokens, function_tokens, accumulate_tokens}
-use Rattle.drl_show.proofs.Fine.{Good, AllGood, fine, fine_word, fine_var, fine_number, fine_text, fine_append, word_is_text}
-use Rattle.drl_show.proofs.AgainShapes.{Again, Agains, regroup, maybe_again, separated_again, listed_again}
+use Rattle.drl_show.{specs.Canonical.{source_tokens, function_tokens, accumulate_tokens}, proofs.Fine.{Good, AllGood, fine, fine_word, fine_var, fine_number}}
+use Rattle.drl_show.proofs.{Fine.{fine_text, fine_append, word_is_text}, AgainShapes.{Again, Agains, regroup, maybe_again, separated_again, listed_again}}
 
 -- ---- words with a meaning of their own in one place
 

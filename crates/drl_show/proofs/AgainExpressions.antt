@@ -7,8 +7,7 @@ use Rattle.drl_expr.specs.declared.literal.LitTree.{LitTree}
 use Rattle.drl_expr.specs.declared.literal.LitTree.TheVariants as l
 use Rattle.drl_expr.specs.Grammar as g
 use Rattle.drl_expr.specs.Grammar.{IsExpr, IsTerm, IsFactor, IsExpression}
-use Rattle.drl_show.proofs.Fine.{Good, AllGood, fine, fine_word, fine_var, fine_number, fine_text, fine_append}
-use Rattle.drl_show.proofs.AgainShapes.{Agains, regroup}
+use Rattle.drl_show.proofs.{Fine.{Good, AllGood, fine, fine_word, fine_var, fine_number, fine_text, fine_append}, AgainShapes.{Agains, regroup}}
 
 -- ---- what an expression in the grammar is made of
 

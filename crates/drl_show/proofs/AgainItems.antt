@@ -7,14 +7,10 @@ use Rattle.drl_show.proofs.Common.{attr_tokens}
 use Rattle.drl_lex.specs.Bytes.{begins_word, is_word_byte}
 use Rattle.drl_grammar.specs.Shapes as shapes
 use Rattle.drl_grammar.specs.Items as g
-use Rattle.drl_grammar.specs.declared.written.WrittenType.{WrittenType}
-use Rattle.drl_grammar.specs.declared.written.WrittenRule.{WrittenRule}
-use Rattle.drl_show.specs.Canonical.{type_tokens, entry_tokens, rule_tokens}
-use Rattle.drl_show.proofs.Fine.{AllGood, fine, fine_word, fine_number, fine_text, fine_append}
-use Rattle.drl_show.proofs.AgainShapes.{Agains, regroup, many_again, maybe_again, optional_good}
-use Rattle.drl_show.proofs.AgainConditions.{negative_fine, span_again, name_again}
-use Rattle.drl_show.proofs.AgainChoices.{asked_again}
-use Rattle.drl_show.proofs.AgainActions.{action_again}
+use Rattle.drl_grammar.specs.declared.written.{WrittenType.{WrittenType}, WrittenRule.{WrittenRule}}
+use Rattle.drl_show.{specs.Canonical.{type_tokens, entry_tokens, rule_tokens}, proofs.Fine.{AllGood, fine, fine_word, fine_number, fine_text, fine_append}}
+use Rattle.drl_show.proofs.{AgainShapes.{Agains, regroup, many_again, maybe_again, optional_good}, AgainConditions.{negative_fine, span_again, name_again}}
+use Rattle.drl_show.proofs.{AgainChoices.{asked_again}, AgainActions.{action_again}}
 
 -- ---- names with dots
 

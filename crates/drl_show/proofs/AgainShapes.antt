@@ -1,9 +1,8 @@
 -- The tokens of a tree stand for it again, whatever follows: for the shapes of the grammar.
 use Rattle.drl_show.proofs.Common.{◌≡◌, true, List, [], ◌∷◌, ◌++◌, refl, sym, subst, append_assoc, append-nil, list_all, TokenKind, Mark, Comma}
 use Rattle.drl_show.proofs.Common.{CloseParenthesis, Phrase, Maybe, Many, Separated, Listed, each, parted, maybe, listed, left_out, written, Optional, absent}
-use Rattle.drl_show.proofs.Common.{present, nothing, further, single, more, empty, members}
+use Rattle.drl_show.proofs.{Common.{present, nothing, further, single, more, empty, members}, Fine.{AllGood, fine, fine_append}}
 use Rattle.drl_lex.specs.declared.token.Mark.{Mark as MarkData}
-use Rattle.drl_show.proofs.Fine.{AllGood, fine, fine_append}
 
 -- the tokens stand for the value before all others, none of them ends an item, and what stood behind it can be spelled
 pub record Again {A : Type 0} (Is : Phrase A) (tokens : List TokenKind) (x : A) (rest : List TokenKind) : Type 0 where

@@ -2,8 +2,7 @@
 use Rattle.drl_show.proofs.Common.{◌≡◌, ℕ, zero, suc, ◌<◌, ◌≤◌, ◌^◌, ◌&&◌, Bool, true, false, not, List, [], ◌∷◌, ◌++◌, length, refl, subst, arith, nat_lt}
 use Rattle.drl_show.proofs.Common.{codes, All, list_all, bytes_eq, nat_tests, begins, begins_word, Spells, TokenKind, Word, Var, Number, Time, Text, Mark}
 use Rattle.drl_show.proofs.Common.{IsIdent, is_utf8, IsAscii, lt-ltb, CanBeSpelled}
-use Rattle.std.proofs.lemmas.Slice.Eq.{bytes_eq-Decides}
-use Rattle.std.proofs.lemmas.Str.{IsUtf8-from_ascii, is_utf8-from_IsUtf8}
+use Rattle.std.proofs.lemmas.{Slice.Eq.{bytes_eq-Decides}, Str.{IsUtf8-from_ascii, is_utf8-from_IsUtf8}}
 use Rattle.drl_lex.specs.Bytes.{is_word_byte}
 use Rattle.drl_expr.specs.Words.{is_ident}
 

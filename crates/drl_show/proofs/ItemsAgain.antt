@@ -7,11 +7,9 @@ use Rattle.drl_grammar.specs.Shapes as shapes
 use Rattle.drl_grammar.specs.Items as g
 use Rattle.drl_grammar.specs.Files.{opens_block, begins_item}
 use Rattle.drl_grammar.specs.declared.written.WrittenBody.TheVariants as body
-use Rattle.drl_show.specs.Texts.{token_text}
-use Rattle.drl_show.proofs.Fine.{AllGood, fine_text, fine_append}
-use Rattle.drl_show.proofs.AgainItems.{path_again, star_again, type_block, entry_block, rule_block}
-use Rattle.drl_show.proofs.Spellings.{AllSpelled, fine_spelled, spelled_append}
-use Rattle.drl_show.proofs.Extents.{Calm, StartsWith, ident_calm, calm_append, open_extent, block_extent}
+use Rattle.drl_show.{specs.Texts.{token_text}, proofs.{Fine.{AllGood, fine_text, fine_append}, AgainItems.{path_again, star_again, type_block, entry_block}}}
+use Rattle.drl_show.proofs.{AgainItems.{rule_block}, Spellings.{AllSpelled, fine_spelled, spelled_append}, Extents.{Calm, StartsWith, ident_calm, calm_append}}
+use Rattle.drl_show.proofs.Extents.{open_extent, block_extent}
 
 pub record ItemAgain (b : WrittenBody) : Type 0 where
   pub stands : IsItem b (tokens_of_item b) []

@@ -4,18 +4,12 @@ use Rattle.drl_show.proofs.Common.{length-append, length-drop, arith, All, begin
 use Rattle.drl_show.proofs.Common.{item_word_shown, behind_word, tokens_of_item, shown_items, spaced, length-map, IsPiece, ReadsTokens, begins_item, line_at}
 use Rattle.drl_show.proofs.Common.{lines_at, AreItems, StandsInGrammar, InGrammar, IsReadAgain, token_text}
 use Rattle.std.proofs.Math.Seq.{take-append_seam, drop-append_seam}
-use Rattle.drl_lex.specs.Bytes.{is_blank}
-use Rattle.drl_lex.specs.Kinds.{kinds, starts}
+use Rattle.drl_lex.specs.{Bytes.{is_blank}, Kinds.{kinds, starts}}
 use Rattle.drl_lex.specs.Tokens as p
-use Rattle.drl_lex.proofs.FileLaws.{ends_there}
-use Rattle.drl_lex.specs.declared.token.Token.{Token}
+use Rattle.drl_lex.{proofs.FileLaws.{ends_there}, specs.declared.token.Token.{Token}}
 use Rattle.drl_grammar.specs.Files as files
-use Rattle.drl_grammar.specs.declared.written.Written.{Written}
-use Rattle.drl_grammar.specs.declared.written.WrittenItem.{WrittenItem}
-use Rattle.drl_show.specs.Shown.{shown}
-use Rattle.drl_show.proofs.Fine.{all_good}
-use Rattle.drl_show.proofs.Spellings.{AllSpelled, ended_by_space, ended_by_newline}
-use Rattle.drl_show.proofs.Extents.{StartsWith}
+use Rattle.drl_grammar.specs.declared.written.{Written.{Written}, WrittenItem.{WrittenItem}}
+use Rattle.drl_show.{specs.Shown.{shown}, proofs.{Fine.{all_good}, Spellings.{AllSpelled, ended_by_space, ended_by_newline}, Extents.{StartsWith}}}
 use Rattle.drl_show.proofs.ItemsAgain.{ItemAgain, item_again, first_begins}
 
 -- ---- the bytes are the tokens

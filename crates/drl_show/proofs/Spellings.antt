@@ -2,20 +2,12 @@
 use Rattle.drl_show.proofs.Common.{◌≡◌, ℕ, ◌<◌, ◌≤◌, ◌^◌, ◌==◌, ◌&&◌, Bool, true, false, not, cond, List, [], ◌∷◌, ◌++◌, length, refl, arith, nat_lt, codes}
 use Rattle.drl_show.proofs.Common.{list_all, bytes_eq, nat_tests, begins, begins_word, Spells, longer, Assign, Comparison, TokenKind, Word, Var, Number, Time}
 use Rattle.drl_show.proofs.Common.{Text, Mark, escaped, ltb-true}
-use Rattle.std.specs.Char.{is_ascii_digit}
-use Rattle.std.specs.Fmt.{decimal}
-use Rattle.std.specs.Str.Parse.{AllDigits}
-use Rattle.std.proofs.lemmas.Fmt.{decimal_is_IsNumeral}
-use Rattle.std.proofs.lemmas.Str.Parse.{digit_from_value}
-use Rattle.drl_lex.specs.Bytes.{is_word_byte, is_run_byte, is_quote}
-use Rattle.drl_lex.specs.Marks.{lengthens}
+use Rattle.std.{specs.{Char.{is_ascii_digit}, Fmt.{decimal}, Str.Parse.{AllDigits}}, proofs.lemmas.{Fmt.{decimal_is_IsNumeral}, Str.Parse.{digit_from_value}}}
+use Rattle.drl_lex.specs.{Bytes.{is_word_byte, is_run_byte, is_quote}, Marks.{lengthens}}
 use Rattle.drl_lex.specs.Texts as texts
-use Rattle.drl_lex.specs.Texts.{escaped_byte, is_plain, IsContent}
-use Rattle.drl_lex.specs.Times.{IsNumeral}
-use Rattle.drl_lex.specs.declared.token.Rel.TheVariants.{Less, Greater}
+use Rattle.drl_lex.specs.{Texts.{escaped_byte, is_plain, IsContent}, Times.{IsNumeral}, declared.token.Rel.TheVariants.{Less, Greater}}
 use Rattle.drl_lex.specs.declared.token.Mark.{Mark as MarkData}
-use Rattle.drl_show.specs.Texts.{escape, token_text}
-use Rattle.drl_show.proofs.Fine.{fine, both}
+use Rattle.drl_show.{specs.Texts.{escape, token_text}, proofs.Fine.{fine, both}}
 
 -- ---- texts
 

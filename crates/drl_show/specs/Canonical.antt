@@ -1,9 +1,6 @@
 -- The tokens by which each tree is written, in the order of the grammar: of several ways that the grammar allows, one.
 use Rattle.std.specs.Prelude.{ℕ, suc, ℤ, pos, negsuc, List, [], ◌∷◌, ◌++◌, Bool, true, false, Option, Some, None, codes}
-use Rattle.drl_lex.specs.declared.token.Rel.{Rel}
-use Rattle.drl_lex.specs.declared.token.TokenKind.{TokenKind}
-use Rattle.drl_lex.specs.declared.token.TokenKind.TheVariants.{Word, Var, Number, Text, Mark}
-use Rattle.drl_lex.specs.declared.token.Mark.{Mark as MarkData}
+use Rattle.drl_lex.specs.declared.token.{Rel.{Rel}, TokenKind.{TokenKind, TheVariants.{Word, Var, Number, Text, Mark}}, Mark.{Mark as MarkData}}
 use Rattle.drl_lex.specs.declared.token.Mark.TheVariants.{OpenParenthesis, CloseParenthesis, OpenBrace, CloseBrace, OpenBracket, CloseBracket, Comma, Colon}
 use Rattle.drl_lex.specs.declared.token.Mark.TheVariants.{Dot, At, Plus, Minus, Star, Assign, Comparison, Or, And}
 use Rattle.drl_expr.specs.declared.literal.LitTree.{LitTree}
@@ -17,12 +14,9 @@ use Rattle.drl_grammar.specs.declared.condition.Part.{Part}
 use Rattle.drl_grammar.specs.declared.condition.Part.TheVariants as part
 use Rattle.drl_grammar.specs.declared.condition.WindowTree.{WindowTree}
 use Rattle.drl_grammar.specs.declared.condition.WindowTree.TheVariants as window
-use Rattle.drl_grammar.specs.declared.condition.SourceTree.{SourceTree}
-use Rattle.drl_grammar.specs.declared.condition.CondTree.{CondTree}
+use Rattle.drl_grammar.specs.declared.condition.{SourceTree.{SourceTree}, CondTree.{CondTree}}
 use Rattle.drl_grammar.specs.declared.condition.CondTree.TheVariants as condition
-use Rattle.drl_grammar.specs.declared.condition.FoldWord.{FoldWord}
-use Rattle.drl_grammar.specs.declared.condition.ResultWord.TheVariants.{LongValue}
-use Rattle.drl_grammar.specs.Conditions.{op_text, fold_text, result_text}
+use Rattle.drl_grammar.specs.{declared.condition.{FoldWord.{FoldWord}, ResultWord.TheVariants.{LongValue}}, Conditions.{op_text, fold_text, result_text}}
 use Rattle.drl_grammar.specs.declared.action.ActTree.{ActTree}
 use Rattle.drl_grammar.specs.declared.action.ActTree.TheVariants as action
 use Rattle.drl_grammar.specs.declared.file.Attr.{Attr}
@@ -31,9 +25,7 @@ use Rattle.drl_grammar.specs.declared.file.Meta.{Meta}
 use Rattle.drl_grammar.specs.declared.file.Meta.TheVariants as meta
 use Rattle.drl_grammar.specs.declared.written.Piece.{Piece}
 use Rattle.drl_grammar.specs.declared.written.Piece.TheVariants as piece
-use Rattle.drl_grammar.specs.declared.written.WrittenType.{WrittenType}
-use Rattle.drl_grammar.specs.declared.written.WrittenRule.{WrittenRule}
-use Rattle.drl_grammar.specs.declared.written.WrittenBody.{WrittenBody}
+use Rattle.drl_grammar.specs.declared.written.{WrittenType.{WrittenType}, WrittenRule.{WrittenRule}, WrittenBody.{WrittenBody}}
 use Rattle.drl_grammar.specs.declared.written.WrittenBody.TheVariants as body
 
 -- ---- shapes

@@ -1,15 +1,8 @@
 -- The text of a file, and what its reading gives.
-use Rattle.std.specs.Prelude.{◌≡◌, ℕ, List, [], ◌∷◌, ◌++◌, map, codes}
-use Rattle.std.specs.List.{All}
-use Rattle.drl_lex.specs.declared.token.TokenKind.{TokenKind}
-use Rattle.drl_lex.specs.Tokens.{Spells}
-use Rattle.drl_grammar.specs.declared.written.Written.{Written}
-use Rattle.drl_grammar.specs.declared.written.WrittenItem.{WrittenItem}
-use Rattle.drl_grammar.specs.declared.written.WrittenBody.{WrittenBody}
-use Rattle.drl_grammar.specs.Items.{IsItem}
-use Rattle.drl_grammar.specs.Files.{IsFile}
-use Rattle.drl_show.specs.Canonical.{tokens_of_item}
-use Rattle.drl_show.specs.Texts.{joined}
+use Rattle.std.specs.{Prelude.{◌≡◌, ℕ, List, [], ◌∷◌, ◌++◌, map, codes}, List.{All}}
+use Rattle.drl_lex.specs.{declared.token.TokenKind.{TokenKind}, Tokens.{Spells}}
+use Rattle.drl_grammar.specs.{declared.written.{Written.{Written}, WrittenItem.{WrittenItem}, WrittenBody.{WrittenBody}}, Items.{IsItem}, Files.{IsFile}}
+use Rattle.drl_show.specs.{Canonical.{tokens_of_item}, Texts.{joined}}
 
 -- each item in a line of its own
 abbrev pub shown_items : List WrittenItem → List ℕ

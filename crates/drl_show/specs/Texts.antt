@@ -1,9 +1,6 @@
 -- How tokens are written.
-use Rattle.std.specs.Prelude.{ℕ, ◌==◌, ◌++◌, List, [], ◌∷◌, if◌then◌else◌, codes}
-use Rattle.std.specs.Fmt.{decimal}
-use Rattle.drl_lex.specs.Marks.{mark_text}
-use Rattle.drl_lex.specs.declared.token.TokenKind.{TokenKind}
-use Rattle.drl_lex.specs.declared.token.TokenKind.TheVariants.{Word, Var, Number, Time, Text, Mark}
+use Rattle.std.specs.{Prelude.{ℕ, ◌==◌, ◌++◌, List, [], ◌∷◌, if◌then◌else◌, codes}, Fmt.{decimal}}
+use Rattle.drl_lex.specs.{Marks.{mark_text}, declared.token.TokenKind.{TokenKind, TheVariants.{Word, Var, Number, Time, Text, Mark}}}
 
 -- how a byte is written between double quotes: `"` is 34, `\` is 92
 unfoldable pub escape : ℕ → List ℕ

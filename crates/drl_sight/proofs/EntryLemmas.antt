@@ -1,7 +1,6 @@
 -- Known names, and behind them those of two lists, or of the items of a file.
 use Rattle.drl_sight.proofs.Common.{◌≡◌, ◌+◌, ◌<◌, ◌++◌, ◌∷◌, ℕ, suc, List, [], length, get_or, drop, drop-cons, add-one, refl, sym, ap, ◌∙◌, flat_map, Item}
-use Rattle.drl_sight.proofs.Common.{entries_named, with_entry_name}
-use Rattle.drl_sight.specs.EntryPoints.{with_names}
+use Rattle.drl_sight.{proofs.Common.{entries_named, with_entry_name}, specs.EntryPoints.{with_names}}
 
 -- those of two lists are those of the first, and behind them those of the second
 pub with_both : (known a b : List (List ℕ)) → with_names known (a ++ b) ≡ with_names (with_names known a) b

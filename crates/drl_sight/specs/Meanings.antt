@@ -1,13 +1,10 @@
 -- What a variable or a field that is named has: a field, a kind.
-use Rattle.std.specs.Prelude.{ℕ, Bool, false, not, List, Option, Some, None}
-use Rattle.std.specs.Option.{option_and_then}
+use Rattle.std.specs.{Prelude.{ℕ, Bool, false, not, List, Option, Some, None}, Option.{option_and_then}}
 use Rattle.fx_base.specs.declared.kind.Kind.{Kind}
 use Rattle.fx_base.specs.declared.kind.Kind.TheVariants as kind
 use Rattle.drl_grammar.specs.declared.file.TypeTree.{TypeTree}
-use Rattle.drl_sight.specs.Names.{place_of_name}
+use Rattle.drl_sight.specs.{Names.{place_of_name}, Declarations.{field_names, kind_at}, Sight.{Meaning, of_fact, of_field, of_result}}
 use Rattle.drl_expr.specs.Words.{is_among}
-use Rattle.drl_sight.specs.Declarations.{field_names, kind_at}
-use Rattle.drl_sight.specs.Sight.{Meaning, of_fact, of_field, of_result}
 
 -- a type has no field of this name
 abbrev pub lacks : TypeTree → List ℕ → Bool

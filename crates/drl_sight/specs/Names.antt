@@ -1,6 +1,5 @@
 -- Names: their lengths, their places in a list, and whether one stands twice.
-use Rattle.std.specs.Prelude.{ℕ, ◌+◌, ◌&&◌, Bool, true, not, List, [], ◌∷◌, length, nat_le, Option, Some, None, if◌then◌else◌}
-use Rattle.std.specs.Str.{bytes_eq}
+use Rattle.std.specs.{Prelude.{ℕ, ◌+◌, ◌&&◌, Bool, true, not, List, [], ◌∷◌, length, nat_le, Option, Some, None, if◌then◌else◌}, Str.{bytes_eq}}
 use Rattle.drl_expr.specs.Words.{is_among}
 
 abbrev pub is_name_short : ℕ → List ℕ → Bool

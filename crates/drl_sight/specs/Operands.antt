@@ -1,6 +1,5 @@
 -- The operands of a pattern, and the leaves of expressions.
-use Rattle.std.specs.Prelude.{ℕ, ◌||◌, Bool, false, List}
-use Rattle.std.specs.List.{list_any}
+use Rattle.std.specs.{Prelude.{ℕ, ◌||◌, Bool, false, List}, List.{list_any}}
 use Rattle.drl_expr.specs.Tree.{Tree, lit, var, var_field, neg, add, sub, mul}
 use Rattle.drl_grammar.specs.declared.action.ActTree.{ActTree}
 use Rattle.drl_grammar.specs.declared.action.ActTree.TheVariants as action

@@ -1,7 +1,5 @@
 -- Names with the place of the first of each.
-use Rattle.std.specs.Prelude.{◌≡◌, ℕ, List}
-use Rattle.std.specs.Str.{bytes_eq}
-use Rattle.std.specs.HashMap.{HashMap, get}
+use Rattle.std.specs.{Prelude.{◌≡◌, ℕ, List}, Str.{bytes_eq}, HashMap.{HashMap, get}}
 use Rattle.drl_sight.specs.Names.{place_of_name}
 
 -- the map has at each name the place of the first of this name

@@ -1,16 +1,12 @@
 -- The variables that are in sight at a condition of a rule, and what they mean there.
-use Rattle.std.specs.Prelude.{ℕ, ◌+◌, ◌||◌, Bool, false, List, [], ◌∷◌, ◌++◌, Option, Some, None, if◌then◌else◌}
-use Rattle.std.specs.List.{flat_map, list_any}
-use Rattle.std.specs.Str.{bytes_eq}
+use Rattle.std.specs.{Prelude.{ℕ, ◌+◌, ◌||◌, Bool, false, List, [], ◌∷◌, ◌++◌, Option, Some, None, if◌then◌else◌}, List.{flat_map, list_any}, Str.{bytes_eq}}
 use Rattle.fx_base.specs.declared.kind.Kind.{Kind}
 use Rattle.drl_grammar.specs.declared.condition.CondTree.{CondTree}
 use Rattle.drl_grammar.specs.declared.condition.CondTree.TheVariants as condition
-use Rattle.drl_grammar.specs.declared.condition.SourceTree.{SourceTree}
-use Rattle.drl_grammar.specs.declared.condition.Part.{Part}
+use Rattle.drl_grammar.specs.declared.condition.{SourceTree.{SourceTree}, Part.{Part}}
 use Rattle.drl_grammar.specs.declared.condition.Part.TheVariants as part
 use Rattle.drl_grammar.specs.declared.file.TypeTree.{TypeTree}
-use Rattle.drl_sight.specs.Names.{place_of_name}
-use Rattle.drl_sight.specs.Declarations.{type_tree_named, field_names, kind_at}
+use Rattle.drl_sight.specs.{Names.{place_of_name}, Declarations.{type_tree_named, field_names, kind_at}}
 
 -- what a variable means: the fact of a positive pattern, by its number and its type, a field of such a fact, by its place, or
 -- the result of an accumulate, by its number

@@ -1,16 +1,10 @@
 -- What is asked of each condition of a rule, given what is in sight there, and of each of its actions, given what is in sight
 -- behind all conditions.
-use Rattle.std.specs.Prelude.{◌||◌, Bool, List}
-use Rattle.std.specs.List.{list_any}
-use Rattle.drl_grammar.specs.declared.action.ActTree.{ActTree}
-use Rattle.drl_grammar.specs.declared.condition.CondTree.{CondTree}
-use Rattle.drl_grammar.specs.declared.file.RuleTree.{RuleTree}
-use Rattle.drl_grammar.specs.declared.file.TypeTree.{TypeTree}
-use Rattle.drl_uses.specs.declared.asked.Asked.{Asked}
-use Rattle.drl_uses.specs.declared.asked.Asked.TheVariants.{LacksField, LacksVariable, HasWrongKind}
+use Rattle.std.specs.{Prelude.{◌||◌, Bool, List}, List.{list_any}}
+use Rattle.drl_grammar.specs.declared.{action.ActTree.{ActTree}, condition.CondTree.{CondTree}, file.{RuleTree.{RuleTree}, TypeTree.{TypeTree}}}
+use Rattle.drl_uses.specs.{declared.asked.Asked.{Asked, TheVariants.{LacksField, LacksVariable, HasWrongKind}}, Uses.{any_condition, has_unknown_field}}
+use Rattle.drl_uses.specs.{Uses.{has_unknown_variable, action_lacks, action_unseen}, Kinds.{has_wrong_kind, action_misfits}}
 use Rattle.drl_sight.specs.Sight.{Sight, Place, begin, sight_of_actions}
-use Rattle.drl_uses.specs.Uses.{any_condition, has_unknown_field, has_unknown_variable, action_lacks, action_unseen}
-use Rattle.drl_uses.specs.Kinds.{has_wrong_kind, action_misfits}
 
 abbrev pub asked_of : Asked → List TypeTree → Place → CondTree → Bool
 asked_of LacksField types = has_unknown_field types

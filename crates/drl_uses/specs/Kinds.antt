@@ -1,11 +1,9 @@
 -- Values of a kind that does not fit where they stand.
-use Rattle.std.specs.Prelude.{ℕ, ◌&&◌, ◌||◌, Bool, true, false, not, List, [], ◌∷◌, map, Option, Some, None, is_some, option_map}
-use Rattle.std.specs.List.{list_any, filter}
+use Rattle.std.specs.{Prelude.{ℕ, ◌&&◌, ◌||◌, Bool, true, false, not, List, [], ◌∷◌, map, Option, Some, None, is_some, option_map}, List.{list_any, filter}}
 use Rattle.std.specs.Str.{bytes_eq}
 use Rattle.fx_base.specs.declared.kind.Kind.{Kind}
 use Rattle.fx_base.specs.declared.kind.Kind.TheVariants as kind
-use Rattle.drl_lex.specs.declared.token.Rel.{Rel}
-use Rattle.drl_lex.specs.declared.token.Rel.TheVariants.{Equal, NotEqual, Less, LessOrEqual, Greater, GreaterOrEqual}
+use Rattle.drl_lex.specs.declared.token.Rel.{Rel, TheVariants.{Equal, NotEqual, Less, LessOrEqual, Greater, GreaterOrEqual}}
 use Rattle.drl_expr.specs.declared.literal.LitTree.{LitTree}
 use Rattle.drl_expr.specs.declared.literal.LitTree.TheVariants as literal
 use Rattle.drl_expr.specs.Tree.{Tree, lit, var, var_field, neg, add, sub, mul}
@@ -13,8 +11,7 @@ use Rattle.drl_grammar.specs.declared.action.ActTree.{ActTree}
 use Rattle.drl_grammar.specs.declared.action.ActTree.TheVariants as action
 use Rattle.drl_grammar.specs.declared.condition.CondTree.{CondTree}
 use Rattle.drl_grammar.specs.declared.condition.CondTree.TheVariants as condition
-use Rattle.drl_grammar.specs.declared.condition.SourceTree.{SourceTree}
-use Rattle.drl_grammar.specs.declared.condition.Part.{Part}
+use Rattle.drl_grammar.specs.declared.condition.{SourceTree.{SourceTree}, Part.{Part}}
 use Rattle.drl_grammar.specs.declared.condition.Part.TheVariants as part
 use Rattle.drl_grammar.specs.declared.condition.Cmp.{Cmp}
 use Rattle.drl_grammar.specs.declared.condition.Cmp.TheVariants as cmp
@@ -23,9 +20,8 @@ use Rattle.drl_grammar.specs.declared.condition.FoldWord.TheVariants as fold
 use Rattle.drl_grammar.specs.declared.condition.Operand.{Operand}
 use Rattle.drl_grammar.specs.declared.condition.Operand.TheVariants as operand
 use Rattle.drl_grammar.specs.declared.file.TypeTree.{TypeTree}
-use Rattle.drl_sight.specs.Declarations.{type_tree_named, kind_by_word}
-use Rattle.drl_sight.specs.Meanings.{field_kind, variable_kind, variable_field_kind}
-use Rattle.drl_sight.specs.Sight.{Sight, Meaning, of_fact, of_field, of_result, meaning_of, Place}
+use Rattle.drl_sight.specs.{Declarations.{type_tree_named, kind_by_word}, Meanings.{field_kind, variable_kind, variable_field_kind}, Sight.{Sight, Meaning}}
+use Rattle.drl_sight.specs.Sight.{of_fact, of_field, of_result, meaning_of, Place}
 
 -- a field whose kind word is none of the seven
 abbrev pub has_unknown_kind : TypeTree → Bool

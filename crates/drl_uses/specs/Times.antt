@@ -1,15 +1,10 @@
 -- Temporal tests and windows that look at the times of what is no event.
-use Rattle.std.specs.Prelude.{◌&&◌, ◌||◌, Bool, false, not, List, Option, Some, None, is_some}
-use Rattle.std.specs.List.{list_any}
-use Rattle.drl_grammar.specs.declared.condition.CondTree.{CondTree}
-use Rattle.drl_grammar.specs.declared.condition.SourceTree.{SourceTree}
-use Rattle.drl_grammar.specs.declared.condition.Part.{Part}
+use Rattle.std.specs.{Prelude.{◌&&◌, ◌||◌, Bool, false, not, List, Option, Some, None, is_some}, List.{list_any}}
+use Rattle.drl_grammar.specs.declared.condition.{CondTree.{CondTree}, SourceTree.{SourceTree}, Part.{Part}}
 use Rattle.drl_grammar.specs.declared.condition.Part.TheVariants as part
 use Rattle.drl_grammar.specs.declared.file.TypeTree.{TypeTree}
-use Rattle.drl_sight.specs.Annotations.{is_tree_of_events}
-use Rattle.drl_sight.specs.Declarations.{type_tree_named}
-use Rattle.drl_sight.specs.EntryPoints.{source_of}
-use Rattle.drl_sight.specs.Sight.{Sight, Meaning, of_fact, of_field, of_result, meaning_of, Place}
+use Rattle.drl_sight.specs.{Annotations.{is_tree_of_events}, Declarations.{type_tree_named}, EntryPoints.{source_of}, Sight.{Sight, Meaning, of_fact, of_field}}
+use Rattle.drl_sight.specs.Sight.{of_result, meaning_of, Place}
 
 -- a variable is a fact whose type is no event type
 abbrev pub is_plain_fact : Option Meaning → Bool

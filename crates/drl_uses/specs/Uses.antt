@@ -1,24 +1,20 @@
 -- Types, fields and variables that are used and are not there.
-use Rattle.std.specs.Prelude.{ℕ, ◌||◌, Bool, true, false, not, List, [], ◌∷◌, Option, Some, None, is_some}
-use Rattle.std.specs.List.{list_any}
+use Rattle.std.specs.{Prelude.{ℕ, ◌||◌, Bool, true, false, not, List, [], ◌∷◌, Option, Some, None, is_some}, List.{list_any}}
 use Rattle.drl_lex.specs.declared.token.Rel.{Rel}
 use Rattle.drl_expr.specs.Tree.{Tree, lit, var, var_field, neg, add, sub, mul}
 use Rattle.drl_grammar.specs.declared.action.ActTree.{ActTree}
 use Rattle.drl_grammar.specs.declared.action.ActTree.TheVariants as action
 use Rattle.drl_grammar.specs.declared.condition.CondTree.{CondTree}
 use Rattle.drl_grammar.specs.declared.condition.CondTree.TheVariants as condition
-use Rattle.drl_grammar.specs.declared.condition.SourceTree.{SourceTree}
-use Rattle.drl_grammar.specs.declared.condition.Part.{Part}
+use Rattle.drl_grammar.specs.declared.condition.{SourceTree.{SourceTree}, Part.{Part}}
 use Rattle.drl_grammar.specs.declared.condition.Part.TheVariants as part
 use Rattle.drl_grammar.specs.declared.condition.Cmp.{Cmp}
 use Rattle.drl_grammar.specs.declared.condition.Cmp.TheVariants as cmp
 use Rattle.drl_grammar.specs.declared.condition.Operand.{Operand}
 use Rattle.drl_grammar.specs.declared.condition.Operand.TheVariants as operand
 use Rattle.drl_grammar.specs.declared.file.TypeTree.{TypeTree}
-use Rattle.drl_sight.specs.Declarations.{type_tree_named}
-use Rattle.drl_sight.specs.Meanings.{lacks, lacks_for}
-use Rattle.drl_sight.specs.Operands.{any_of_cmp, any_of_part, any_leaf_of}
-use Rattle.drl_sight.specs.Sight.{Sight, meaning_of, Place, behind, is_bound_by}
+use Rattle.drl_sight.specs.{Declarations.{type_tree_named}, Meanings.{lacks, lacks_for}, Operands.{any_of_cmp, any_of_part, any_leaf_of}, Sight.{Sight}}
+use Rattle.drl_sight.specs.Sight.{meaning_of, Place, behind, is_bound_by}
 
 -- whether one of the conditions has this, given what is in sight there
 unfoldable pub any_condition : (Place → CondTree → Bool) → List TypeTree → Place → List CondTree → Bool

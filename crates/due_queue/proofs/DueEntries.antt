@@ -1,18 +1,10 @@
 -- The pairs of entries that are due, and those of two maps whose keys are apart.
 use Rattle.due_queue.proofs.Common.{◌≡◌, ◌∙◌, sym, ap, refl, List, [], ◌∷◌, Bool, true, false, cond, not, ◌&&◌, ◌||◌, Option, Some, None, filter, take_while}
-use Rattle.due_queue.proofs.Common.{Ordering, Less, is_eq, IsTotalOrder, AllByRecursion, found, pair_cmp, has_pair}
-use Rattle.due_queue.proofs.Common.{is_moment, Bound, is_past_end, ordering_then, is_eq-then, is_eq-true, AreDue}
-use Rattle.std.proofs.Common.{map as list_map}
-use Rattle.std.specs.Prelude.{◌++◌, is_some}
-use Rattle.std.specs.List.Sorted.{IsStrictlySortedBy}
-use Rattle.std.proofs.lemmas.List.Sums.{take_while-cons}
-use Rattle.due_queue.specs.declared.rising.Entry.{Entry}
-use Rattle.due_queue.specs.Moments.{AreDuePairs}
-use Rattle.due_queue.specs.Rising.{with_value, live, pairs_of, IsBehind, Rises, AreApart}
-use Rattle.due_queue.proofs.Due.{AreDuePairs-front}
-use Rattle.due_queue.proofs.Entries.{flip, none_after, rises_kept}
-use Rattle.due_queue.proofs.Orders.{less_then}
-use Rattle.due_queue.proofs.Together.{in_some, in_others, not_other}
+use Rattle.due_queue.proofs.Common.{Ordering, Less, is_eq, IsTotalOrder, AllByRecursion, found, pair_cmp, has_pair, is_moment, Bound, is_past_end}
+use Rattle.due_queue.{proofs.Common.{ordering_then, is_eq-then, is_eq-true, AreDue}, specs.{declared.rising.Entry.{Entry}, Moments.{AreDuePairs}}}
+use Rattle.due_queue.{specs.Rising.{with_value, live, pairs_of, IsBehind, Rises, AreApart}, proofs.{Due.{AreDuePairs-front}, Entries.{flip, none_after}}}
+use Rattle.due_queue.proofs.{Entries.{rises_kept}, Orders.{less_then}, Together.{in_some, in_others, not_other}}
+use Rattle.std.{proofs.{Common.{map as list_map}, lemmas.List.Sums.{take_while-cons}}, specs.{Prelude.{◌++◌, is_some}, List.Sorted.{IsStrictlySortedBy}}}
 
 -- whether an entry has a value
 abbrev pub waits : {M K V : Type 0} → Entry M K V → Bool

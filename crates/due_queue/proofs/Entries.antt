@@ -1,18 +1,11 @@
 -- Entries of a list that rises: what is found in them as they come behind the last and go.
 use Rattle.due_queue.proofs.Common.{◌≡◌, ◌∙◌, sym, ap, refl, subst, ℕ, List, [], ◌∷◌, Bool, true, false, cond, not, ◌&&◌, Option, Some, None, arith, ◌<◌}
-use Rattle.due_queue.proofs.Common.{length}
-use Rattle.due_queue.proofs.Common.{Ordering, Less, Equal, Greater, is_eq, is_gt, is_at, eq_by_cmp_equiv, IsTotalOrder, AllByRecursion, upto, tied_itself}
-use Rattle.due_queue.proofs.Common.{found, pair_cmp}
-use Rattle.due_queue.proofs.Common.{is_moment, is_due, Bound, is_past_end, ordering_then, ordering_reverse, is_eq-true, alike_right, filter}
-use Rattle.due_queue.proofs.Common.{inl, inr}
-use Rattle.std.specs.Prelude.{zero, suc, ◌++◌, ◌≤◌, is_some, slice_index_or, slice_set, drop}
-use Rattle.std.specs.Ordering.{ordering_index}
-use Rattle.std.specs.List.Sorted.{IsNonDecreasingBy, IsPartitionPoint}
-use Rattle.std.proofs.lemmas.Bool.{cases_lt}
-use Rattle.due_queue.specs.declared.rising.Entry.{Entry}
-use Rattle.due_queue.specs.Rising.{with_value, live, one_of, value_at, emptied, is_front_live, IsBehind, Rises, Stands, AreApart}
-use Rattle.due_queue.proofs.Orders.{found_same, gt_first, less_then, past_later}
-use Rattle.std.specs.List.{HoldsAt}
+use Rattle.due_queue.proofs.Common.{length, Ordering, Less, Equal, Greater, is_eq, is_gt, is_at, eq_by_cmp_equiv, IsTotalOrder, AllByRecursion, upto}
+use Rattle.due_queue.proofs.Common.{tied_itself, found, pair_cmp, is_moment, is_due, Bound, is_past_end, ordering_then, ordering_reverse, is_eq-true}
+use Rattle.due_queue.{proofs.Common.{alike_right, filter, inl, inr}, specs.{declared.rising.Entry.{Entry}, Rising.{with_value, live, one_of, value_at}}}
+use Rattle.due_queue.{specs.Rising.{emptied, is_front_live, IsBehind, Rises, Stands, AreApart}, proofs.Orders.{found_same, gt_first, less_then, past_later}}
+use Rattle.std.specs.{Prelude.{zero, suc, ◌++◌, ◌≤◌, is_some, slice_index_or, slice_set, drop}, Ordering.{ordering_index}, List.Sorted.{IsNonDecreasingBy}}
+use Rattle.std.{specs.List.{HoldsAt, Sorted.{IsPartitionPoint}}, proofs.lemmas.Bool.{cases_lt}}
 
 -- kernels: choices that exclude each other may change places
 swapped : {X : Type 0} (a b : Bool) (x y z : X) → (b ≡ true → a ≡ false) → cond a x (cond b y z) ≡ cond b y (cond a x z)

@@ -1,12 +1,8 @@
 -- Two maps whose keys are apart, as one.
-use Rattle.due_queue.proofs.Common.{◌≡◌, ◌∙◌, sym, ap, refl, List, [], ◌∷◌, Bool, true, false, cond, not, Option, Some, None, ◌⊎◌, inl, inr}
-use Rattle.due_queue.proofs.Common.{Ordering, is_gt, is_at, eq_by_cmp_equiv, IsTotalOrder, upto, found, pair_cmp, is_moment, is_due, Bound, is_past_end}
-use Rattle.due_queue.proofs.Common.{is_eq-true}
-use Rattle.due_queue.proofs.Common.{length, arith, IfNone}
-use Rattle.std.specs.Prelude.{◌++◌, ◌+◌, is_some, IsSomeAnd, IfSome}
-use Rattle.std.proofs.lemmas.List.{length-append}
-use Rattle.due_queue.specs.Rising.{AreApart, Leads}
-use Rattle.due_queue.proofs.Orders.{pair_total, gt_first, past_later, past_same}
+use Rattle.due_queue.proofs.Common.{◌≡◌, ◌∙◌, sym, ap, refl, List, [], ◌∷◌, Bool, true, false, cond, not, Option, Some, None, ◌⊎◌, inl, inr, Ordering, is_gt}
+use Rattle.due_queue.proofs.Common.{is_at, eq_by_cmp_equiv, IsTotalOrder, upto, found, pair_cmp, is_moment, is_due, Bound, is_past_end, is_eq-true, length}
+use Rattle.due_queue.{proofs.{Common.{arith, IfNone}, Orders.{pair_total, gt_first, past_later, past_same}}, specs.Rising.{AreApart, Leads}}
+use Rattle.std.{specs.Prelude.{◌++◌, ◌+◌, is_some, IsSomeAnd, IfSome}, proofs.lemmas.List.{length-append}}
 
 -- the first of two that is there
 abbrev pub either : {X : Type 0} → Option X → Option X → Option X

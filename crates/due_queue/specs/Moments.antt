@@ -1,13 +1,6 @@
 -- Keys that wait for moments, each for one, with a value beside it.
-use Rattle.std.specs.Prelude.{◌≡◌, Bool, false, not, ◌&&◌, List, map, Option, Some, None}
-use Rattle.std.specs.declared.cmp.Ordering.{Ordering}
-use Rattle.std.specs.declared.ops.Bound.{Bound}
-use Rattle.std.specs.Ordering.{ordering_then, eq_by_cmp}
-use Rattle.std.specs.BTreeMap.{is_at}
-use Rattle.std.specs.BTreeMap.Range.{is_past_end}
-use Rattle.std.specs.List.{list_any}
-use Rattle.std.specs.List.Sorted.{IsStrictlySortedBy}
-use Rattle.std.specs.Map.{lookup}
+use Rattle.std.specs.{Prelude.{◌≡◌, Bool, false, not, ◌&&◌, List, map, Option, Some, None}, declared.{cmp.Ordering.{Ordering}, ops.Bound.{Bound}}}
+use Rattle.std.specs.{Ordering.{ordering_then, eq_by_cmp}, BTreeMap.{is_at, Range.{is_past_end}}, List.{list_any, Sorted.{IsStrictlySortedBy}}, Map.{lookup}}
 
 -- the moment for which a key waits, with its value
 abbrev pub found : {M K V : Type 0} → (K → K → Ordering) → List (K × (M × V)) → K → Option (M × V)

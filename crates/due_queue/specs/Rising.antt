@@ -1,11 +1,7 @@
 -- Keys that wait for moments and rise with them, in a list; what was taken out of the middle stays in it without a value.
-use Rattle.std.specs.Prelude.{◌≡◌, ℕ, zero, suc, Bool, true, false, List, [], ◌∷◌, map, Option, Some, None, is_some, ⊤}
-use Rattle.std.specs.declared.cmp.Ordering.{Ordering}
-use Rattle.std.specs.declared.cmp.Ordering.TheVariants.{Less}
-use Rattle.std.specs.List.{AllByRecursion}
-use Rattle.std.specs.Ordering.{is_gt}
-use Rattle.due_queue.specs.declared.rising.Entry.{Entry}
-use Rattle.due_queue.specs.Moments.{found, is_moment, pair_cmp}
+use Rattle.std.specs.{Prelude.{◌≡◌, ℕ, zero, suc, Bool, true, false, List, [], ◌∷◌, map, Option, Some, None, is_some, ⊤}, declared.cmp.Ordering.{Ordering}}
+use Rattle.std.specs.{declared.cmp.Ordering.TheVariants.{Less}, List.{AllByRecursion}, Ordering.{is_gt}}
+use Rattle.due_queue.specs.{declared.rising.Entry.{Entry}, Moments.{found, is_moment, pair_cmp}}
 
 -- a key with its moment before others, where it has a value
 abbrev pub with_value : {M K V : Type 0} → K → M → Option V → List (K × (M × V)) → List (K × (M × V))

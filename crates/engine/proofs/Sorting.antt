@@ -1,18 +1,9 @@
 -- Facts in the order of their tags.
-use Rattle.std.proofs.Common.{◌≡◌, ◌∙◌, ◌↔◌, inl, inr, ℕ, List, [], ◌∷◌, map, refl, sym, ap, subst}
-use Rattle.std.specs.Ordering.{match_ordering, ordering_reverse}
-use Rattle.std.specs.declared.cmp.Ordering.{Ordering}
-use Rattle.std.specs.declared.cmp.Ordering.TheVariants.{Less, Equal, Greater}
-use Rattle.std.specs.List.{AllByRecursion}
-use Rattle.std.specs.List.Sorted.{IsStrictlySortedBy}
-use Rattle.std.specs.BTreeSet.{insert_key}
-use Rattle.fx_base.specs.Lists.{In}
-use Rattle.fx_base.specs.declared.fact.Fact.{Fact}
-use Rattle.rule_model.specs.Distinct.{HaveDistinctTags, tag_cmp}
-use Rattle.rule_model.proofs.Listed.{in_map}
-use Rattle.rule_model.proofs.Sorted.{tag_total}
-use Rattle.std.specs.FinMap.{nat_cmp-IsAntisymmetric}
-use Rattle.fx_base.specs.declared.ids.Tag.{Tag}
+use Rattle.std.{proofs.Common.{◌≡◌, ◌∙◌, ◌↔◌, inl, inr, ℕ, List, [], ◌∷◌, map, refl, sym, ap, subst}, specs.Ordering.{match_ordering, ordering_reverse}}
+use Rattle.std.specs.{declared.cmp.Ordering.{Ordering, TheVariants.{Less, Equal, Greater}}, List.{AllByRecursion, Sorted.{IsStrictlySortedBy}}}
+use Rattle.std.specs.{BTreeSet.{insert_key}, FinMap.{nat_cmp-IsAntisymmetric}}
+use Rattle.fx_base.specs.{Lists.{In}, declared.{fact.Fact.{Fact}, ids.Tag.{Tag}}}
+use Rattle.rule_model.{specs.Distinct.{HaveDistinctTags, tag_cmp}, proofs.{Listed.{in_map}, Sorted.{tag_total}}}
 use Rattle.engine.specs.KeptFacts.{by_tag}
 
 abbrev IsBelow : Fact → List Fact → Type 0

@@ -1,9 +1,7 @@
 -- What a firing answers.
 use Rattle.std.specs.Prelude.{◌≡◌, List, Option, Some, None}
 use Rattle.rule_world.specs.Worlds.{World}
-use Rattle.answer_lines.specs.declared.lines.Fired.{Fired}
-use Rattle.answer_lines.specs.declared.lines.Fired.TheVariants.{No, Yes}
-use Rattle.answer_lines.specs.declared.lines.OutLine.{OutLine}
+use Rattle.answer_lines.specs.declared.lines.{Fired.{Fired, TheVariants.{No, Yes}}, OutLine.{OutLine}}
 
 -- by what fires in the world: nothing, or lines and the next world
 abbrev pub FiringAnswers : Option (List OutLine × World) → Fired → World → (World → Type 0) → Type 0

@@ -1,7 +1,6 @@
 -- Numbers for the types of events.
 use Rattle.std.specs.Prelude.{◌≡◌, ℕ, List, length}
-use Rattle.rule_model.specs.declared.program.Program.{Program}
-use Rattle.rule_model.specs.Types.{event_types}
+use Rattle.rule_model.specs.{declared.program.Program.{Program}, Types.{event_types}}
 
 -- a number for each event type of a program
 abbrev pub HasEach : Program → List ℕ → Type 0

@@ -1,10 +1,7 @@
 -- The facts that are kept of a world, in the order of their tags.
-use Rattle.std.specs.Prelude.{List, [], ◌∷◌}
-use Rattle.std.specs.BTreeSet.{insert_key}
+use Rattle.std.specs.{Prelude.{List, [], ◌∷◌}, BTreeSet.{insert_key}}
 use Rattle.fx_base.specs.declared.fact.Fact.{Fact}
-use Rattle.rule_model.specs.declared.life.LifeTable.{LifeTable}
-use Rattle.rule_model.specs.declared.program.Program.{Program}
-use Rattle.rule_model.specs.Distinct.{tag_cmp}
+use Rattle.rule_model.specs.{declared.{life.LifeTable.{LifeTable}, program.Program.{Program}}, Distinct.{tag_cmp}}
 use Rattle.rule_world.specs.Worlds.{World}
 use Rattle.kept_meaning.specs.Kept.{kept_facts}
 

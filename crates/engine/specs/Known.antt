@@ -1,11 +1,8 @@
 -- Lines of which the new facts are of types of the program, and the firings of its rules.
-use Rattle.std.specs.Prelude.{Bool, true, List, length, nat_lt}
-use Rattle.std.specs.List.{list_all}
+use Rattle.std.specs.{Prelude.{Bool, true, List, length, nat_lt}, List.{list_all}}
 use Rattle.rule_model.specs.declared.program.Program.{Program}
-use Rattle.answer_lines.specs.declared.lines.Fired.{Fired}
-use Rattle.answer_lines.specs.declared.lines.Fired.TheVariants.{No, Yes}
-use Rattle.answer_lines.specs.declared.lines.OutLine.{OutLine}
-use Rattle.answer_lines.specs.declared.lines.OutLine.TheVariants.{New, Fire, Fault, Inserted, Modified, Retracted, FiredFor}
+use Rattle.answer_lines.specs.declared.lines.{Fired.{Fired, TheVariants.{No, Yes}}, OutLine.{OutLine, TheVariants.{New, Fire, Fault, Inserted, Modified}}}
+use Rattle.answer_lines.specs.declared.lines.OutLine.TheVariants.{Retracted, FiredFor}
 
 -- the type of a new fact, or the rule that fires, is one of the program; of a fact that was there before, nothing is said
 abbrev pub is_known : Program → OutLine → Bool

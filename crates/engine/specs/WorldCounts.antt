@@ -1,10 +1,7 @@
 -- What is told of a world in numbers.
-use Rattle.std.specs.Prelude.{◌==◌, ℕ, ℤ, List, map, length}
-use Rattle.std.specs.List.{filter, range_with_len}
+use Rattle.std.specs.{Prelude.{◌==◌, ℕ, ℤ, List, map, length}, List.{filter, range_with_len}}
 use Rattle.fx_base.specs.declared.fact.Fact.{Fact}
-use Rattle.rule_model.specs.declared.life.LifeTable.{LifeTable}
-use Rattle.rule_model.specs.declared.program.Program.{Program}
-use Rattle.rule_model.specs.Snapshots.{floor}
+use Rattle.rule_model.specs.{declared.{life.LifeTable.{LifeTable}, program.Program.{Program}}, Snapshots.{floor}}
 use Rattle.rule_world.specs.Worlds.{World, snapshot, pending}
 use Rattle.kept_meaning.specs.Kept.{kept_facts}
 use Rattle.engine.specs.declared.world_counts.WorldCounts.{WorldCounts}

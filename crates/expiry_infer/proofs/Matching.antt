@@ -1,9 +1,7 @@
 -- The function that tells whether patterns can match decides whether their network has a solution.
 use Rattle.expiry_infer.proofs.Common.{◌≡◌, Bool, true, false, [], List, refl, sym, arith, Decides, Condition, Program, AreSolvable, edges_of_conditions}
-use Rattle.expiry_infer.proofs.Common.{HaveNetwork, all_among}
+use Rattle.expiry_infer.{proofs.{Common.{HaveNetwork, all_among}, Reaching.{solvable, numbered}}, specs.Solvable.{can_match}}
 use Rattle.temporal_net.proofs.Potentials.{decided}
-use Rattle.expiry_infer.specs.Solvable.{can_match}
-use Rattle.expiry_infer.proofs.Reaching.{solvable, numbered}
 
 pub can_match_is_exact : (p : Program) (conditions : List Condition) → HaveNetwork conditions → Decides (can_match p conditions) (AreSolvable p conditions)
 unfolding can_match

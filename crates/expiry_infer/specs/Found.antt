@@ -1,13 +1,9 @@
 -- What is found of a network.
 use Rattle.std.specs.Prelude.{◌≡◌, Option, Some, None, List}
-use Rattle.fx_base.specs.declared.bound.Bound.{Bound}
-use Rattle.fx_base.specs.declared.times.Times.{Times}
-use Rattle.temporal_net.specs.declared.edge.NetEdge.{NetEdge}
-use Rattle.temporal_net.specs.Networks.{Network, IsSolvable}
-use Rattle.rule_model.specs.declared.condition.Condition.{Condition}
-use Rattle.rule_model.specs.declared.program.Program.{Program}
-use Rattle.life_meaning.specs.Networks.{Occurrence}
-use Rattle.life_meaning.specs.Reach.{Placed, SolvesWith, IsReach}
+use Rattle.fx_base.specs.declared.{bound.Bound.{Bound}, times.Times.{Times}}
+use Rattle.temporal_net.specs.{declared.edge.NetEdge.{NetEdge}, Networks.{Network, IsSolvable}}
+use Rattle.rule_model.specs.declared.{condition.Condition.{Condition}, program.Program.{Program}}
+use Rattle.life_meaning.specs.{Networks.{Occurrence}, Reach.{Placed, SolvesWith, IsReach}}
 use Rattle.life_edges.specs.Tails.{limit_of}
 
 -- the network of 16 points with these edges, which has a solution, or nothing where it has none

@@ -2,8 +2,7 @@
 -- (src/laws.rt).
 use Rattle.std.specs.Prelude.{Bool, List, []}
 use Rattle.temporal_net.specs.Potentials.{is_solvable}
-use Rattle.rule_model.specs.declared.condition.Condition.{Condition}
-use Rattle.rule_model.specs.declared.program.Program.{Program}
+use Rattle.rule_model.specs.declared.{condition.Condition.{Condition}, program.Program.{Program}}
 use Rattle.life_edges.specs.Edges.{edges_of_conditions}
 
 unfoldable pub can_match : Program → List Condition → Bool

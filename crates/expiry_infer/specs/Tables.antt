@@ -1,12 +1,7 @@
 -- The table of the inferred lives of a program, with conditions and rules by their places.
 use Rattle.std.specs.Prelude.{◌≡◌, ℕ, false, List, length}
-use Rattle.rule_model.specs.declared.condition.Condition.{Condition}
-use Rattle.rule_model.specs.declared.program.Program.{Program}
-use Rattle.rule_model.specs.declared.program.Rule.{Rule}
-use Rattle.rule_model.specs.Rows.{pattern_of}
-use Rattle.rule_model.specs.Types.{is_reference}
-use Rattle.life_meaning.specs.Lifetimes.{Adds, LivesFor}
-use Rattle.life_meaning.specs.Reach.{Limit, Placed}
+use Rattle.rule_model.specs.{declared.{condition.Condition.{Condition}, program.{Program.{Program}, Rule.{Rule}}}, Rows.{pattern_of}, Types.{is_reference}}
+use Rattle.life_meaning.specs.{Lifetimes.{Adds, LivesFor}, Reach.{Limit, Placed}}
 use Rattle.expiry_infer.specs.declared.lifetimes.Placed as lent_placed
 use Rattle.life_edges.specs.Places.{placed}
 use Rattle.expiry_infer.specs.Tops.{Among}

@@ -4,10 +4,8 @@ use Rattle.fact_store.proofs.Common.{find, is_sorted, get-entries, get-remove, e
 use Rattle.fact_store.proofs.Common.{facts_of, tag_of}
 use Rattle.std.proofs.Common.{map as list_map}
 use Rattle.std.specs.FinMap as map
-use Rattle.fx_base.specs.declared.ids.Tag.{Tag}
-use Rattle.fact_store.proofs.Members.{found_first, found_later, not_found}
-use Rattle.fact_store.proofs.Stored.{tied}
-use Rattle.fx_base.proofs.Tests.{T_first, T_second}
+use Rattle.fx_base.{specs.declared.ids.Tag.{Tag}, proofs.Tests.{T_first, T_second}}
+use Rattle.fact_store.proofs.{Members.{found_first, found_later, not_found}, Stored.{tied}}
 
 -- These facts are made; the tags that are left are those of entries that the store still has, and whose facts complete the list.
 pub record AreTaken (all made : List Fact) (tags : List Tag) (store : HeldFacts) : Type 0 where

@@ -1,8 +1,7 @@
 -- The walk over the versions of an id, from the newest down.
 use Rattle.fact_store.proofs.Common.{◌≡◌, ◌∙◌, sym, ap, refl, ℕ, ◌+◌, ◌<◌, ◌≤◌, ◌⊎◌, inl, inr, Bool, true, false, List, Option, Some, None, arith, IfSome}
 use Rattle.fact_store.proofs.Common.{IfNone, nat_eq, cases_lt, exact_unsigned_eq, Slab, NumberMap, Fact, has_pair, is_held_of_type, fact_in_slot}
-use Rattle.fx_base.proofs.Orders.{eqb-self}
-use Rattle.fx_base.proofs.Tests.{both_ways_absurd}
+use Rattle.fx_base.proofs.{Orders.{eqb-self}, Tests.{both_ways_absurd}}
 
 -- the walk has passed this tag
 abbrev pub IsPassed : Option ℕ → ℕ → Type 0

@@ -4,27 +4,14 @@ use Rattle.fan_join.proofs.Common.{slice_get, ◌⊎◌, inl, inr, set, is_some,
 use Rattle.fan_join.proofs.Common.{Candidates, LeftRows, has_name, has_left, has_right, made, KeepsMemories, beside, LooksWhereKept, keeps_then, RowTurn}
 use Rattle.fan_join.proofs.Common.{AreRowsInTurn, IsRowsDifference, AreNamesTurned, AreDifferences, JoinIndex, get, nat_cmp, eq_by_cmp, name_cmp, Option}
 use Rattle.fan_join.proofs.Common.{false≢true, candidate_value, value_by, joins, has_candidate, FanJoin, nothing, IsReached, has_place, is_member_under}
-use Rattle.fan_join.proofs.Common.{AreAmong, AreKept, value_beside, IsMemberTurned}
-use Rattle.std.proofs.Math.Bool.{or-false}
-use Rattle.fan_join.specs.Reaching.{AreAsked, IsDifferencePut}
-use Rattle.std.specs.Option.{option_map}
-use Rattle.std.proofs.lemmas.Option.{slice_get_within}
-use Rattle.std.proofs.Math.ListN.{length-set}
-use Rattle.pair_memory.specs.Inputs.{row_naming}
-use Rattle.fan_join.specs.Fans.{IsEmpty, AreRowsTurned, given_delta, AreBeside, IsMemberAt}
-use Rattle.std.specs.BTreeMap.{is_at, BTreeMap}
+use Rattle.fan_join.{proofs.Common.{AreAmong, AreKept, value_beside, IsMemberTurned}, specs.{Reaching.{AreAsked, IsDifferencePut}, Fans.{IsEmpty}}}
+use Rattle.fan_join.{specs.{Fans.{AreRowsTurned, given_delta, AreBeside, IsMemberAt}, Laws.{EmptyLaw, MemberStepLaw, MemberForgetLaw}}, proofs.Halves.{still}}
+use Rattle.fan_join.{proofs.Places.{last_or_before}, specs.Doors.{shared_key}}
+use Rattle.std.{proofs.{Math.{Bool.{or-false}, ListN.{length-set}}, lemmas.Option.{slice_get_within}}, specs.{Option.{option_map}, BTreeMap.{is_at, BTreeMap}}}
 use Rattle.std.specs.Map.{lookup}
-use Rattle.join_tests.specs.declared.row_key.RowKey.{RowKey}
-use Rattle.join_tests.specs.RowKeys.{row_time}
-use Rattle.join_tests.specs.TimeKeys.{time_key}
-use Rattle.join_tests.proofs.Meeting.{values_meet}
-use Rattle.fan_join.proofs.Halves.{still}
-use Rattle.pair_memory.specs.Doors.{keeps_time}
-use Rattle.fan_join.specs.Laws.{EmptyLaw, MemberStepLaw, MemberForgetLaw}
-use Rattle.fan_join.proofs.Places.{last_or_before}
-use Rattle.fan_join.specs.Doors.{shared_key}
-use Rattle.fx_base.proofs.Orders.{eq_by_nat_cmp-true}
-use Rattle.fx_base.proofs.Sequences.{get-set_other, get-set_same, one_value}
+use Rattle.pair_memory.specs.{Inputs.{row_naming}, Doors.{keeps_time}}
+use Rattle.join_tests.{specs.{declared.row_key.RowKey.{RowKey}, RowKeys.{row_time}, TimeKeys.{time_key}}, proofs.Meeting.{values_meet}}
+use Rattle.fx_base.proofs.{Orders.{eq_by_nat_cmp-true}, Sequences.{get-set_other, get-set_same, one_value}}
 
 -- ---- members that are not asked
 

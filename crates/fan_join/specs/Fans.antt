@@ -1,24 +1,14 @@
 -- What the members of a fan are, and what a change of their rows and one of their candidates are for each of them.
-use Rattle.std.specs.Prelude.{◌≡◌, ◌<◌, ◌&&◌, ◌||◌, not, true, false, ℕ, List, [], length, Option, Some, None, slice_get}
-use Rattle.std.specs.BTreeMap.{BTreeMap, get}
-use Rattle.std.specs.Option.{is_some}
-use Rattle.std.specs.Ordering.{nat_cmp}
-use Rattle.fx_base.specs.declared.value.Value.{Value}
-use Rattle.fx_base.specs.Values.{same_value}
-use Rattle.row_delta.specs.declared.delta.Delta.{Delta}
-use Rattle.row_delta.specs.declared.row.Named.{Named}
-use Rattle.row_delta.specs.declared.row.Row.{Row}
-use Rattle.row_delta.specs.NameOrder.{name_cmp}
-use Rattle.row_delta.specs.Rows.{has, row_cmp}
+use Rattle.std.specs.{Prelude.{◌≡◌, ◌<◌, ◌&&◌, ◌||◌, not, true, false, ℕ, List, [], length, Option, Some, None, slice_get}, BTreeMap.{BTreeMap, get}}
+use Rattle.std.specs.{Option.{is_some}, Ordering.{nat_cmp}}
+use Rattle.fx_base.specs.{declared.value.Value.{Value}, Values.{same_value}}
+use Rattle.row_delta.specs.{declared.{delta.Delta.{Delta}, row.{Named.{Named}, Row.{Row}}}, NameOrder.{name_cmp}, Rows.{has, row_cmp}}
 use Rattle.row_change.specs.Changes.{IsDifference}
 use Rattle.alpha_memory.specs.JoinIndex.{at}
 use Rattle.join_tests.specs.Joins.{Look}
-use Rattle.pair_memory.specs.declared.candidates.Candidates.{Candidates}
-use Rattle.pair_memory.specs.Memories.{has_left, has_right, made, KeepsMemories}
-use Rattle.pair_memory.specs.Apart.{beside, LooksWhereKept}
+use Rattle.pair_memory.specs.{declared.candidates.Candidates.{Candidates}, Memories.{has_left, has_right, made, KeepsMemories}, Apart.{beside, LooksWhereKept}}
 use Rattle.pair_memory.specs.Doors.{keeps_time}
-use Rattle.fan_join.specs.declared.fan.FanJoin.{FanJoin}
-use Rattle.fan_join.specs.Turns.{AreNamesTurned}
+use Rattle.fan_join.specs.{declared.fan.FanJoin.{FanJoin}, Turns.{AreNamesTurned}}
 
 -- the candidates of the member in a place
 abbrev pub IsMemberAt : FanJoin → ℕ → Candidates → Type 0

@@ -1,21 +1,11 @@
 -- What members stand for before the first step, and what both halves of a step are for a member: what a step is for a node of its own.
-use Rattle.std.specs.Prelude.{◌≡◌, ◌&&◌, not, ℕ, Bool, List, []}
-use Rattle.std.specs.BTreeMap.{BTreeMap}
-use Rattle.row_delta.specs.declared.delta.Delta.{Delta}
-use Rattle.row_delta.specs.declared.row.Named.{Named}
-use Rattle.row_delta.specs.declared.row.Row.{Row}
-use Rattle.row_delta.specs.Rows.{has, InOrder}
+use Rattle.std.specs.{Prelude.{◌≡◌, ◌&&◌, not, ℕ, Bool, List, []}, BTreeMap.{BTreeMap}}
+use Rattle.row_delta.specs.{declared.{delta.Delta.{Delta}, row.{Named.{Named}, Row.{Row}}}, Rows.{has, InOrder}}
 use Rattle.row_change.specs.Changes.{IsDifference}
 use Rattle.join_tests.specs.Joins.{Look}
-use Rattle.pair_memory.specs.declared.candidates.Candidates.{Candidates}
-use Rattle.pair_memory.specs.Joined.{has_name}
-use Rattle.pair_memory.specs.Memories.{has_left, has_right, made, KeepsMemories}
-use Rattle.pair_memory.specs.Apart.{beside}
-use Rattle.pair_memory.specs.Inputs.{row_naming, IsStepped}
-use Rattle.pair_memory.specs.Standing.{no_rows, no_names, StandsFor}
-use Rattle.fan_join.specs.declared.fan.FanJoin.{FanJoin}
-use Rattle.fan_join.specs.Fans.{member_delta, IsEmpty, IsMemberAt, AreRowsTurned}
-use Rattle.fan_join.specs.Turns.{AreNamesTurned}
+use Rattle.pair_memory.specs.{declared.candidates.Candidates.{Candidates}, Joined.{has_name}, Memories.{has_left, has_right, made, KeepsMemories}}
+use Rattle.pair_memory.specs.{Apart.{beside}, Inputs.{row_naming, IsStepped}, Standing.{no_rows, no_names, StandsFor}}
+use Rattle.fan_join.specs.{declared.fan.FanJoin.{FanJoin}, Fans.{member_delta, IsEmpty, IsMemberAt, AreRowsTurned}, Turns.{AreNamesTurned}}
 
 -- a member of a fan that keeps nothing stands for no rows and no candidates
 abbrev pub EmptyLaw : Type 0

@@ -1,25 +1,12 @@
 -- Which members the rows of a turn reach, and what those answer that are asked.
-use Rattle.std.specs.Prelude.{◌≡◌, ◌<◌, ◌⊎◌, ℕ, Bool, true, false, List, length, Some, None, slice_get}
-use Rattle.std.specs.BTreeMap.{BTreeMap, get}
-use Rattle.std.specs.List.{list_any}
-use Rattle.std.specs.Option.{is_some}
-use Rattle.std.specs.Ordering.{nat_cmp, eq_by_cmp}
-use Rattle.fx_base.specs.declared.value.Value.{Value}
-use Rattle.fx_base.specs.Values.{same_value}
-use Rattle.row_delta.specs.declared.delta.Delta.{Delta}
-use Rattle.row_delta.specs.declared.row.Row.{Row}
-use Rattle.row_delta.specs.Rows.{has}
-use Rattle.alpha_memory.specs.declared.join_index.JoinIndex.{JoinIndex}
-use Rattle.alpha_memory.specs.JoinIndex.{at}
-use Rattle.join_tests.specs.declared.row_key.RowKey.{RowKey}
-use Rattle.join_tests.specs.Joins.{Look}
-use Rattle.join_tests.specs.RowKeys.{value_by}
+use Rattle.std.specs.{Prelude.{◌≡◌, ◌<◌, ◌⊎◌, ℕ, Bool, true, false, List, length, Some, None, slice_get}, BTreeMap.{BTreeMap, get}, List.{list_any}}
+use Rattle.std.specs.{Option.{is_some}, Ordering.{nat_cmp, eq_by_cmp}}
+use Rattle.fx_base.specs.{declared.value.Value.{Value}, Values.{same_value}}
+use Rattle.row_delta.specs.{declared.{delta.Delta.{Delta}, row.Row.{Row}}, Rows.{has}}
+use Rattle.alpha_memory.specs.{declared.join_index.JoinIndex.{JoinIndex}, JoinIndex.{at}}
+use Rattle.join_tests.specs.{declared.row_key.RowKey.{RowKey}, Joins.{Look}, RowKeys.{value_by}}
 use Rattle.pair_memory.specs.declared.candidates.Candidates.{Candidates}
-use Rattle.fan_join.specs.declared.fan.FanJoin.{FanJoin}
-use Rattle.fan_join.specs.declared.row_turn.RowTurn.{RowTurn}
-use Rattle.fan_join.specs.Fans.{nothing}
-use Rattle.fan_join.specs.Turns.{IsRowsDifference}
-use Rattle.fan_join.specs.Doors.{shared_key}
+use Rattle.fan_join.specs.{declared.{fan.FanJoin.{FanJoin}, row_turn.RowTurn.{RowTurn}}, Fans.{nothing}, Turns.{IsRowsDifference}, Doors.{shared_key}}
 
 -- whether a place is in a set
 abbrev pub has_place : List ℕ → ℕ → Bool

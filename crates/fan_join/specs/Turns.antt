@@ -1,16 +1,10 @@
 -- What a step does with the left rows that members share, and with the candidates of one member.
 use Rattle.std.specs.Prelude.{◌≡◌, ◌&&◌, ◌||◌, not, Bool, List}
-use Rattle.row_delta.specs.declared.delta.Delta.{Delta}
-use Rattle.row_delta.specs.declared.row.Named.{Named}
-use Rattle.row_delta.specs.declared.row.Row.{Row}
-use Rattle.row_delta.specs.Rows.{has}
+use Rattle.row_delta.specs.{declared.{delta.Delta.{Delta}, row.{Named.{Named}, Row.{Row}}}, Rows.{has}}
 use Rattle.row_change.specs.Changes.{IsDifference}
 use Rattle.join_tests.specs.Joins.{Look}
-use Rattle.pair_memory.specs.declared.candidates.Candidates.{Candidates}
-use Rattle.pair_memory.specs.declared.left_rows.LeftRows.{LeftRows}
-use Rattle.pair_memory.specs.Joined.{has_name}
-use Rattle.pair_memory.specs.Memories.{has_left, has_right, made, KeepsMemories}
-use Rattle.pair_memory.specs.Apart.{has_row, beside, LooksWhereKept, RowsLeave, RowsCome}
+use Rattle.pair_memory.specs.{declared.{candidates.Candidates.{Candidates}, left_rows.LeftRows.{LeftRows}}, Joined.{has_name}, Memories.{has_left, has_right}}
+use Rattle.pair_memory.specs.{Memories.{made, KeepsMemories}, Apart.{has_row, beside, LooksWhereKept, RowsLeave, RowsCome}}
 use Rattle.fan_join.specs.declared.row_turn.RowTurn.{RowTurn}
 
 -- Rows leave and then come: the left rows before, between and after; and it is known which of those that leave were there, and which of

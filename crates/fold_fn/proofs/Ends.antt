@@ -3,13 +3,9 @@ use Rattle.fold_fn.proofs.Common.{◌≡◌, ℕ, zero, suc, ◌<◌, ℤ, ◌�
 use Rattle.fold_fn.proofs.Common.{All, Contains, int_eq, int_cmp, int_lt, Less, is_lt, is_gt, ⊎_elim, insert_rising, in_rising_order, lookup, keys_of, ints}
 use Rattle.fold_fn.proofs.Common.{cases_Bool, cond-false, lookup_head, lookup_tail, All-nil, All-head, All-tail, All-weaker, All-append, All-replicate}
 use Rattle.fold_fn.proofs.Common.{Contains-append_left, Contains-append_right, least, greatest, repeated, NoneIsZero, AllByRecursion, sorted_head, sorted_tail}
-use Rattle.fold_fn.proofs.Common.{unwrap_or, int_eq-true}
-use Rattle.std.specs.List.Sorted.{IsStrictlySortedBy}
-use Rattle.std.specs.Prelude.{◌↔◌, is_some}
-use Rattle.fold_fn.proofs.Rising.{times-rising}
-use Rattle.fold_fn.proofs.ResultLemmas.{least-rising, greatest-rising}
-use Rattle.fold_fn.proofs.LawLemmas.{least_found, greatest_found, times_from_contains, contains_timed}
-use Rattle.fold_fn.proofs.Multisets.{times_in, count_at_from_contains}
+use Rattle.fold_fn.proofs.{Common.{unwrap_or, int_eq-true}, Rising.{times-rising}, ResultLemmas.{least-rising, greatest-rising}, LawLemmas.{least_found}}
+use Rattle.fold_fn.proofs.{LawLemmas.{greatest_found, times_from_contains, contains_timed}, Multisets.{times_in, count_at_from_contains}}
+use Rattle.std.specs.{List.Sorted.{IsStrictlySortedBy}, Prelude.{◌↔◌, is_some}}
 
 -- k goes in front of numbers whose entries have greater keys
 goes_first : (k : ℤ) (es : List (ℤ × ℕ)) → AllByRecursion (λ y. int_cmp k y ≡ Less) (keys_of es) → insert_rising k (repeated es) ≡ k ∷ repeated es

@@ -1,9 +1,7 @@
 -- The results do not depend on the order of the values.
 use Rattle.fold_fn.proofs.Common.{◌≡◌, ◌+◌, ℤ, ◌+ℤ◌, List, [], ◌∷◌, length, Option, Some, None, refl, sym, ap, ◌∙◌, arith, ints, clamps, insert_rising}
 use Rattle.fold_fn.proofs.Common.{in_rising_order, total, least_of, greatest_of, least, greatest, fold_result, HaveSame}
-use Rattle.fold_fn.specs.declared.kind.FoldKind.{FoldKind}
-use Rattle.fold_fn.specs.declared.kind.FoldKind.TheVariants.{Count, Sum, Least, Greatest, Average}
-use Rattle.fold_fn.proofs.Rising.{rising_same}
+use Rattle.fold_fn.{specs.declared.kind.FoldKind.{FoldKind, TheVariants.{Count, Sum, Least, Greatest, Average}}, proofs.Rising.{rising_same}}
 
 sum_swap : (a b c : ℤ) → a +ℤ (b +ℤ c) ≡ b +ℤ (a +ℤ c)
 sum_swap a b c = omega (arith, ints)

@@ -1,9 +1,8 @@
 -- How large a sum and an average can be, and what a value more or fewer does to a count and a sum.
 use Rattle.fold_fn.proofs.Common.{◌≡◌, ℕ, ◌+◌, ◌-◌, ◌*◌, ◌/◌, ◌^◌, ◌<◌, ℤ, pos, negsuc, ◌+ℤ◌, ◌-ℤ◌, ◌≤ℤ◌, List, [], ◌∷◌, length, refl, ap, ◌∙◌, arith, w64}
 use Rattle.fold_fn.proofs.Common.{FitsSigned, All, int_lt, eqb, Some, ints, cond_both, cond-false, ne_eqb, All-nil, All-cons, All-head, All-tail, insert_rising}
-use Rattle.fold_fn.proofs.Common.{total, floor_quotient, average, int_div_euclid, AreTotals}
+use Rattle.fold_fn.proofs.{Common.{total, floor_quotient, average, int_div_euclid, AreTotals}, ResultLemmas.{total-insert, length-insert}}
 use Rattle.std.proofs.Math.Nat.{div-lt_iff_lt-mul}
-use Rattle.fold_fn.proofs.ResultLemmas.{total-insert, length-insert}
 
 pub total_high : (xs : List ℤ) → All (FitsSigned w64) xs → (total xs +ℤ pos (length xs)) ≤ℤ pos (2 ^ 63 * length xs)
 total_high [] all = omega (arith, ints)

@@ -1,10 +1,7 @@
 -- What a fold holds, and how its values lie in a map.
-use Rattle.std.specs.Prelude.{◌≡◌, ℕ, ◌+◌, ◌^◌, ◌<◌, ℤ, cond, List, [], ◌∷◌, ◌++◌, length, replicate, Option, IfSome, FitsSigned, All}
-use Rattle.std.specs.Int.{w64}
-use Rattle.std.specs.Ordering.{int_eq}
-use Rattle.std.specs.Map.{count_at}
-use Rattle.fold_fn.specs.declared.kind.FoldKind.{FoldKind}
-use Rattle.fold_fn.specs.Results.{total}
+use Rattle.std.specs.{Prelude.{◌≡◌, ℕ, ◌+◌, ◌^◌, ◌<◌, ℤ, cond, List, [], ◌∷◌, ◌++◌, length, replicate, Option, IfSome, FitsSigned, All}, Int.{w64}}
+use Rattle.std.specs.{Ordering.{int_eq}, Map.{count_at}}
+use Rattle.fold_fn.specs.{declared.kind.FoldKind.{FoldKind}, Results.{total}}
 
 -- what a fold computes, and its values in rising order
 pub record Held : Type 0 where

@@ -1,9 +1,7 @@
 -- What holds of the results of all lists.
-use Rattle.std.specs.Prelude.{◌≡◌, ℕ, ◌<◌, ℤ, pos, ◌+ℤ◌, ◌*ℤ◌, ◌≤ℤ◌, ◌<ℤ◌, List, Some, All, Contains, IsSorted}
-use Rattle.std.specs.Ordering.{int_cmp}
-use Rattle.fold_fn.specs.declared.kind.FoldKind.{FoldKind}
-use Rattle.fold_fn.specs.Order.{times, insert_rising, in_rising_order}
-use Rattle.fold_fn.specs.Results.{least, greatest, floor_quotient, fold_result}
+use Rattle.std.specs.{Prelude.{◌≡◌, ℕ, ◌<◌, ℤ, pos, ◌+ℤ◌, ◌*ℤ◌, ◌≤ℤ◌, ◌<ℤ◌, List, Some, All, Contains, IsSorted}, Ordering.{int_cmp}}
+use Rattle.fold_fn.specs.{declared.kind.FoldKind.{FoldKind}, Order.{times, insert_rising, in_rising_order}, Results.{least, greatest, floor_quotient}}
+use Rattle.fold_fn.specs.Results.{fold_result}
 
 -- two lists have each number equally often: one is the other in another order
 abbrev pub HaveSame : List ℤ → List ℤ → Type 0

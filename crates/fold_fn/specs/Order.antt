@@ -1,6 +1,5 @@
 -- A list of numbers up to its order: how often each number stands in it, and the same numbers in rising order.
-use Rattle.std.specs.Prelude.{ℕ, ℤ, int_lt, count_by, List, [], ◌∷◌, if◌then◌else◌}
-use Rattle.std.specs.Ordering.{int_eq}
+use Rattle.std.specs.{Prelude.{ℕ, ℤ, int_lt, count_by, List, [], ◌∷◌, if◌then◌else◌}, Ordering.{int_eq}}
 
 -- how often a number stands in a list
 unfoldable pub times : ℤ → List ℤ → ℕ

@@ -1,8 +1,7 @@
 -- What each accumulate function gives of a list of numbers.
-use Rattle.std.specs.Prelude.{ℕ, ◌/◌, ◌^◌, ◌==◌, ℤ, pos, negsuc, ◌+ℤ◌, nat_lt, List, [], ◌∷◌, length, Option, Some, None, if◌then◌else◌}
-use Rattle.std.specs.Int.{int_min, int_max}
-use Rattle.fold_fn.specs.declared.kind.FoldKind.{FoldKind}
-use Rattle.fold_fn.specs.declared.kind.FoldKind.TheVariants.{Count, Sum, Least, Greatest, Average}
+use Rattle.std.specs.{Prelude.{ℕ, ◌/◌, ◌^◌, ◌==◌, ℤ, pos, negsuc, ◌+ℤ◌, nat_lt, List, [], ◌∷◌, length, Option, Some, None, if◌then◌else◌}, Int.{int_min}}
+use Rattle.std.specs.Int.{int_max}
+use Rattle.fold_fn.specs.declared.kind.FoldKind.{FoldKind, TheVariants.{Count, Sum, Least, Greatest, Average}}
 
 -- the sum, without a limit of size
 abbrev pub total : List ℤ → ℤ

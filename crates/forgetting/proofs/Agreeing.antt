@@ -4,21 +4,16 @@ use Rattle.forgetting.proofs.Common.{Option, Some, None, is_some, option_map, in
 use Rattle.forgetting.proofs.Common.{is_present, matches, has_match, name_of, one_fact, IsOrdered, World, snapshot, present, found, revised, has_id}
 use Rattle.forgetting.proofs.Common.{kept_ordered, has_pending, has_come, names_tag, clean, end_of_life, ends_by, only, is_needed, is_kept_fact, kept}
 use Rattle.forgetting.proofs.Common.{is_kept_tag, is_forgotten_tag, is_clean, fact_at, sight_of, slice_get, of_filter, has_in, pending, modified_plain}
-use Rattle.forgetting.proofs.Common.{fact_with, plain_present, forgotten_fact, PlainEndless, ExpiredEndless, ModifyEndless}
+use Rattle.forgetting.proofs.{Common.{fact_with, plain_present, forgotten_fact, PlainEndless, ExpiredEndless, ModifyEndless}, Before.{chosen}}
+use Rattle.forgetting.proofs.{Forgotten.{two_tests}, Naming.{some_in, one_in, holds_of}, Seeing.{tag_of, fact_in, own_at, at_filter, named_present, sight_law}}
 use Rattle.std.proofs.lemmas.Bool.{and_parts, eq-eqb, eqb-true}
-use Rattle.rule_model.specs.declared.life.Life.{Life}
-use Rattle.rule_model.specs.declared.life.Life.TheVariants.{Plain, Explicit, Finite, Infinite}
+use Rattle.rule_model.specs.declared.life.Life.{Life, TheVariants.{Plain, Explicit, Finite, Infinite}}
 use Rattle.rule_world.specs.Worlds.{step_fault}
-use Rattle.life_meaning.specs.Tables.{AreSafe}
-use Rattle.life_meaning.proofs.Safe.{plain_unlisted}
+use Rattle.life_meaning.{specs.Tables.{AreSafe}, proofs.Safe.{plain_unlisted}}
 use Rattle.rule_lives.proofs.Still.{always_present}
 use Rattle.pair_memory.specs.Joined.{has_name}
 use Rattle.condition_rows.proofs.Ends.{in_name, name_in}
 use Rattle.kept_meaning.specs.Kept.{is_alive, is_pending_named, is_kept as is_kept_in, is_forgotten as is_forgotten_in}
-use Rattle.forgetting.proofs.Before.{chosen}
-use Rattle.forgetting.proofs.Forgotten.{two_tests}
-use Rattle.forgetting.proofs.Naming.{some_in, one_in, holds_of}
-use Rattle.forgetting.proofs.Seeing.{tag_of, fact_in, own_at, at_filter, named_present, sight_law}
 use Rattle.fx_base.proofs.Tests.{same_test}
 
 -- ---- lives that do not end

@@ -1,9 +1,9 @@
 -- What is kept behind a step and was there was kept before it.
 use Rattle.forgetting.proofs.Common.{◌≡◌, ℤ, ℕ, ◌&&◌, ◌≤ℤ◌, Bool, true, false, cond, not, inl, inr, refl, sym, ◌∙◌, ap, arith, Option, Some, None, is_some}
 use Rattle.forgetting.proofs.Common.{ints, Fact, Match, has_match, or_split, has_come, names_tag, Lives, TagWorld, IsSoundSight, only, is_needed, is_kept_fact}
-use Rattle.forgetting.proofs.Common.{is_kept_tag, is_forgotten_tag, each_tag, IsStep, KeptBeforeStep, ComeClean, KeptBeforeLaw}
+use Rattle.forgetting.proofs.{Common.{is_kept_tag, is_forgotten_tag, each_tag, IsStep, KeptBeforeStep, ComeClean, KeptBeforeLaw}, Naming.{found, witness}}
+use Rattle.forgetting.proofs.Naming.{holds_of, each_named, free_of}
 use Rattle.std.proofs.lemmas.Bool.{and_from, and_parts, not-true, or_left, or_right}
-use Rattle.forgetting.proofs.Naming.{found, witness, holds_of, each_named, free_of}
 
 -- ---- the fact under one tag
 

@@ -2,21 +2,14 @@
 use Rattle.forgetting.proofs.Common.{◌≡◌, ◌<◌, Bool, true, false, cond, not, inl, inr, refl, sym, ◌∙◌, ap, subst, arith, Option, Some, None, is_some, list_any}
 use Rattle.forgetting.proofs.Common.{In, Fact, Named, LifeTable, Match, Program, Step, is_present, matches, has_match, name_of, named_of, one_fact, rule_of}
 use Rattle.forgetting.proofs.Common.{World, snapshot, present, below_of, clean, ends_by, only, is_kept_tag, is_forgotten_tag, is_clean, fact_at, sight_of}
-use Rattle.forgetting.proofs.Common.{comes, goes, marked, lost, StepComesClean, NextClean, WorldStepKept, WorldFireKept}
+use Rattle.forgetting.proofs.{Common.{comes, goes, marked, lost, StepComesClean, NextClean, WorldStepKept, WorldFireKept}, Agreeing.{present_at, same_kept}}
+use Rattle.forgetting.proofs.{Agreeing.{same_clean}, Firing.{fire_law}, Naming.{one_in}, Seeing.{tag_of, fact_in, sight_law, world_fire_law}}
+use Rattle.forgetting.proofs.{Stepping.{step_law}, WorldSteps.{world_step_law}}
 use Rattle.std.proofs.lemmas.Bool.{and_parts, not-true}
-use Rattle.rule_world.specs.Worlds.{stepped}
-use Rattle.rule_world.proofs.Steps.{step_in_order, firing_in_order}
-use Rattle.rule_world.proofs.Vain.{next_tag}
+use Rattle.rule_world.{specs.Worlds.{stepped}, proofs.{Steps.{step_in_order, firing_in_order}, Vain.{next_tag}}}
 use Rattle.rule_lives.proofs.Remains.{match_names_kept}
-use Rattle.kept_meaning.specs.Kept.{is_kept as is_kept_in, is_forgotten as is_forgotten_in}
+use Rattle.kept_meaning.{specs.Kept.{is_kept as is_kept_in, is_forgotten as is_forgotten_in}, proofs.Decided.{is_tested}}
 use Rattle.keeping.specs.Steps.{IsLawfulStep}
-use Rattle.kept_meaning.proofs.Decided.{is_tested}
-use Rattle.forgetting.proofs.Agreeing.{present_at, same_kept, same_clean}
-use Rattle.forgetting.proofs.Firing.{fire_law}
-use Rattle.forgetting.proofs.Naming.{one_in}
-use Rattle.forgetting.proofs.Seeing.{tag_of, fact_in, sight_law, world_fire_law}
-use Rattle.forgetting.proofs.Stepping.{step_law}
-use Rattle.forgetting.proofs.WorldSteps.{world_step_law}
 
 module _ (p : Program) (table : LifeTable) (w : World) (step : Step) (given : IsLawfulStep p table w step) (m : Match) (is : has_match (matches p (snapshot (stepped p w step))) m ≡ true)
     (was_not : has_match (matches p (snapshot w)) m ≡ false) where

@@ -1,15 +1,11 @@
 -- The law of a firing in two phases.
 use Rattle.forgetting.proofs.Common.{◌≡◌, ℕ, ◌≤ℤ◌, ◌&&◌, ◌||◌, Bool, true, false, not, refl, sym, ◌∙◌, ap, subst, None, option_and_then, eq_by_cmp, tells_apart}
 use Rattle.forgetting.proofs.Common.{Match, has_match, match_cmp, match_exact, names_tag, lingers, Covers, later_law, same_covered, is_needed, is_kept_tag}
-use Rattle.forgetting.proofs.Common.{some_tag, each_tag, ends_of}
+use Rattle.forgetting.{proofs.{Common.{some_tag, each_tag, ends_of}, Before.{kept_before, needed_kept, pending_kept}}, specs.Firings.{FireLaw}}
+use Rattle.forgetting.proofs.{Forgotten.{all_stay, IsForgotten, still_kept, holds_kept}, Naming.{found, witness}}
 use Rattle.std.proofs.lemmas.Bool.{and_parts}
 use Rattle.retention.specs.declared.retention.Retention.{Retention}
-use Rattle.forgetting.specs.Firings.{FireLaw}
-use Rattle.forgetting.proofs.Before.{kept_before, needed_kept, pending_kept}
-use Rattle.forgetting.proofs.Forgotten.{all_stay, IsForgotten, still_kept, holds_kept}
-use Rattle.forgetting.proofs.Naming.{found, witness}
-use Rattle.fx_base.proofs.Orders.{≤ℤ_same}
-use Rattle.fx_base.proofs.Tests.{and_not_not}
+use Rattle.fx_base.proofs.{Orders.{≤ℤ_same}, Tests.{and_not_not}}
 
 -- a match that was pending and is not is the one that was marked
 is_marked : (a s : Bool) → a ≡ true → (a && not s) ≡ false → s ≡ true

@@ -2,11 +2,8 @@
 use Rattle.forgetting.proofs.Common.{◌≡◌, ℕ, ℤ, ◌&&◌, ◌||◌, Bool, true, false, cond, not, refl, sym, ◌∙◌, ap, Option, Some, None, option_and_then, is_some}
 use Rattle.forgetting.proofs.Common.{Fact, Match, has_match, has_come, names_tag, lingers, Covers, without, same_watched, Lives, TagWorld, only, is_needed}
 use Rattle.forgetting.proofs.Common.{is_kept_fact, kept, is_kept_tag, some_tag, each_tag, ends_of, brought, changed, KeptBeforeStep, is_named, Watches, is_old}
-use Rattle.forgetting.proofs.Common.{Holding, HoldsKept, HasLeft, Forgets}
-use Rattle.retention.proofs.Leaving.{left_law}
-use Rattle.retention.proofs.Past.{past_law}
-use Rattle.forgetting.proofs.Before.{chosen, kept_here}
-use Rattle.forgetting.proofs.Naming.{any_alike, each_next}
+use Rattle.forgetting.proofs.{Common.{Holding, HoldsKept, HasLeft, Forgets}, Before.{chosen, kept_here}, Naming.{any_alike, each_next}}
+use Rattle.retention.proofs.{Leaving.{left_law}, Past.{past_law}}
 use Rattle.fx_base.proofs.Tests.{and_is}
 
 -- ---- the store, at one tag

@@ -2,11 +2,9 @@
 use Rattle.forgetting.proofs.Common.{◌≡◌, ℕ, ◌==◌, ◌&&◌, ◌||◌, Bool, true, false, not, inl, inr, List, [], ◌∷◌, refl, sym, ◌∙◌, ap, list_any, eq_by_cmp}
 use Rattle.forgetting.proofs.Common.{Decides-eqb, tells_apart, In, Named, Match, match_cmp, has_match, match_equiv, match_exact, or_split, names_tag, each_tag}
 use Rattle.forgetting.proofs.Common.{some_tag, list_all}
-use Rattle.std.proofs.lemmas.Bool.{and_from, and_parts, or_left, or_right}
-use Rattle.std.proofs.Math.Bool.{and-false}
+use Rattle.std.proofs.{lemmas.Bool.{and_from, and_parts, or_left, or_right}, Math.Bool.{and-false}}
 use Rattle.rule_world.proofs.Acting.{all_of}
-use Rattle.fx_base.proofs.Orders.{eqb-self}
-use Rattle.fx_base.proofs.Tests.{same_test}
+use Rattle.fx_base.proofs.{Orders.{eqb-self}, Tests.{same_test}}
 
 -- ---- lists
 

@@ -3,13 +3,11 @@ use Rattle.forgetting.proofs.Common.{◌≡◌, ◌<◌, ℕ, ◌==◌, ◌||◌
 use Rattle.forgetting.proofs.Common.{Option, Some, None, is_some, eq_by_cmp, nat_tests, In, Fact, Value, Named, Match, Program, HaveDistinctTags, match_equiv}
 use Rattle.forgetting.proofs.Common.{matches, has_match, match_cmp, name_of, named_of, one_fact, rule_of, World, snapshot, present, only_present, has_id}
 use Rattle.forgetting.proofs.Common.{revised, AllBelow, has_pending, only, brought, changed, fact_at, map, filter, revised_in, SightLaw, WorldFireLaw}
-use Rattle.std.proofs.lemmas.Bool.{eq-eqb, eqb-true}
-use Rattle.std.proofs.Math.Bool.{or_comm}
+use Rattle.forgetting.proofs.Naming.{each_in}
+use Rattle.std.proofs.{lemmas.Bool.{eq-eqb, eqb-true}, Math.Bool.{or_comm}}
 use Rattle.fx_base.specs.declared.ids.Tag.{Tag}
 use Rattle.rule_model.proofs.Listed.{in_map}
-use Rattle.rule_world.specs.Worlds.{fact_of}
-use Rattle.rule_world.proofs.Kept.{kept_matches}
-use Rattle.forgetting.proofs.Naming.{each_in}
+use Rattle.rule_world.{specs.Worlds.{fact_of}, proofs.Kept.{kept_matches}}
 
 abbrev pub tag_of : ℕ → Tag
 tag_of number = record { 0 = number }

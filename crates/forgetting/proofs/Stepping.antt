@@ -2,11 +2,9 @@
 use Rattle.forgetting.proofs.Common.{◌≡◌, ℤ, ◌≤ℤ◌, ◌+ℤ◌, ◌&&◌, ◌||◌, Bool, true, false, not, refl, sym, ◌∙◌, ap, arith, None, int_le, pos, is_some}
 use Rattle.forgetting.proofs.Common.{option_and_then, ints, Match, has_match, has_come, same_watched, Lives, TagWorld, IsSoundSight, end_of_life, only}
 use Rattle.forgetting.proofs.Common.{is_needed, is_kept_fact, ends_of, is_kept_tag, is_clean, some_tag, each_tag, new_law, EndLaw, EmptySessionLaw}
-use Rattle.forgetting.proofs.Common.{MatchesLeftLaw, DropFiredLaw, TwoPhaseLaw}
+use Rattle.forgetting.proofs.{Common.{MatchesLeftLaw, DropFiredLaw, TwoPhaseLaw}, Before.{pending_kept, kept_before_law}, Forgotten.{IsForgotten, still_kept}}
+use Rattle.forgetting.proofs.{Forgotten.{holds_kept}, Naming.{clean_is}}
 use Rattle.std.proofs.lemmas.Bool.{and_parts}
-use Rattle.forgetting.proofs.Before.{pending_kept, kept_before_law}
-use Rattle.forgetting.proofs.Forgotten.{IsForgotten, still_kept, holds_kept}
-use Rattle.forgetting.proofs.Naming.{clean_is}
 
 -- ---- lives
 

@@ -4,15 +4,12 @@ use Rattle.forgetting.proofs.Common.{is_some, option_map, Fact, Value, Program, 
 use Rattle.forgetting.proofs.Common.{World, snapshot, present, only_present, found, revised, has_id, AllBelow, below_of, kept_ordered, only, brought, changed}
 use Rattle.forgetting.proofs.Common.{IsStep, fact_at, sight_of, comes, goes, settled, modify_fault, new_fact, with_new, with_revised, with_retracted}
 use Rattle.forgetting.proofs.Common.{world_at_clock, with_promise, with_begin, moved_forward, found_in, has_number, others, kept_new, kept_numbers}
-use Rattle.forgetting.proofs.Common.{kept_revised, kept_without, kept_later, has_still, WorldStepLaw, RetractsOne}
+use Rattle.forgetting.proofs.{Common.{kept_revised, kept_without, kept_later, has_still, WorldStepLaw, RetractsOne}, Forgotten.{all_stay}, Seeing.{tag_of}}
+use Rattle.forgetting.proofs.Seeing.{fact_in, free_at, at_filter, only_same, at_end, at_revised, at_next}
 use Rattle.std.proofs.lemmas.Bool.{and_from, and_parts, eq-eqb, eqb-true}
 use Rattle.rule_model.specs.declared.step.Step.TheVariants.{Insert, Modify, Retract, Advance, At, Promise, Begin}
-use Rattle.rule_world.specs.Worlds.{moved, stepped, step_fault}
-use Rattle.rule_world.proofs.Ids.{one_id}
-use Rattle.forgetting.proofs.Forgotten.{all_stay}
-use Rattle.forgetting.proofs.Seeing.{tag_of, fact_in, free_at, at_filter, only_same, at_end, at_revised, at_next}
-use Rattle.fx_base.proofs.Orders.{≤ℤ_same}
-use Rattle.fx_base.proofs.Tests.{same_test}
+use Rattle.rule_world.{specs.Worlds.{moved, stepped, step_fault}, proofs.Ids.{one_id}}
+use Rattle.fx_base.proofs.{Orders.{≤ℤ_same}, Tests.{same_test}}
 
 twice_not : (t : Bool) → t ≡ not (not t)
 twice_not true = refl

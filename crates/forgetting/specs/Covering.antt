@@ -2,10 +2,8 @@
 use Rattle.std.specs.Prelude.{◌≡◌, ◌≤ℤ◌, ℕ, ℤ, ◌==◌, ◌&&◌, Bool, true, false, not, Option, Some, None}
 use Rattle.std.specs.FinMap as map
 use Rattle.fx_base.specs.declared.fact.Fact.{Fact}
-use Rattle.retention.specs.Retentions.{lingers}
-use Rattle.retention.specs.Watching.{Covers}
-use Rattle.forgetting.specs.Sights.{Lives, TagWorld, Holding, HoldsKept, ends_of}
-use Rattle.forgetting.specs.Steps.{brought, changed}
+use Rattle.retention.specs.{Retentions.{lingers}, Watching.{Covers}}
+use Rattle.forgetting.specs.{Sights.{Lives, TagWorld, Holding, HoldsKept, ends_of}, Steps.{brought, changed}}
 
 -- the retention of a session covers the ends of the lives of the facts that it has, at this clock
 abbrev pub CoversStore : Lives → ℤ → Holding → Type 0

@@ -1,11 +1,8 @@
 -- A firing in two phases: one pending match is marked as fired, and then what is no longer kept is forgotten.
-use Rattle.std.specs.Prelude.{◌≡◌, ℕ, ◌&&◌, ◌||◌, Bool, true, not}
-use Rattle.std.specs.Ordering.{eq_by_cmp}
-use Rattle.rule_model.specs.declared.matched.Match.{Match}
-use Rattle.rule_model.specs.Matches.{has_match, match_cmp}
+use Rattle.std.specs.{Prelude.{◌≡◌, ℕ, ◌&&◌, ◌||◌, Bool, true, not}, Ordering.{eq_by_cmp}}
+use Rattle.rule_model.specs.{declared.matched.Match.{Match}, Matches.{has_match, match_cmp}}
 use Rattle.agenda.specs.Agendas.{names_tag}
-use Rattle.forgetting.specs.Sights.{Lives, TagWorld, Holding, HoldsKept, IsSoundSight}
-use Rattle.forgetting.specs.Steps.{Forgets}
+use Rattle.forgetting.specs.{Sights.{Lives, TagWorld, Holding, HoldsKept, IsSoundSight}, Steps.{Forgets}}
 
 -- the world marks the match, and nothing else changes
 pub record IsMarked (m : Match) (was is : TagWorld) : Type 0 where

@@ -1,18 +1,13 @@
 -- A world as forgetting sees it, by the tags of its facts, and which of these facts are kept.
 use Rattle.std.specs.Prelude.{◌≡◌, ◌↔◌, ℕ, ℤ, pos, ◌+ℤ◌, ◌≤ℤ◌, ◌&&◌, ◌||◌, Bool, true, false, cond, not, List, Option, Some, None, option_and_then, is_some}
-use Rattle.std.specs.Prelude.{slice_get}
-use Rattle.std.specs.List.{list_any, list_all}
+use Rattle.std.specs.{Prelude.{slice_get}, List.{list_any, list_all}}
 use Rattle.fx_base.specs.declared.fact.Fact.{Fact}
 use Rattle.row_delta.specs.declared.row.Named.{Named}
-use Rattle.rule_model.specs.declared.life.Life.{Life}
-use Rattle.rule_model.specs.declared.life.Life.TheVariants.{Plain, Explicit, Finite, Infinite}
-use Rattle.rule_model.specs.declared.life.LifeTable.{LifeTable}
-use Rattle.rule_model.specs.declared.matched.Match.{Match}
+use Rattle.rule_model.specs.declared.{life.{Life.{Life, TheVariants.{Plain, Explicit, Finite, Infinite}}, LifeTable.{LifeTable}}, matched.Match.{Match}}
 use Rattle.rule_model.specs.Matches.{has_match}
 use Rattle.due_queue.specs.Timers.{has_come}
 use Rattle.agenda.specs.Agendas.{Marks, names_tag}
-use Rattle.retention.specs.declared.retention.Retention.{Retention}
-use Rattle.retention.specs.Watching.{Ends, Watches}
+use Rattle.retention.specs.{declared.retention.Retention.{Retention}, Watching.{Ends, Watches}}
 
 -- ---- lives
 

@@ -2,11 +2,9 @@
 use Rattle.std.specs.Prelude.{◌≡◌, ◌≤ℤ◌, ℕ, ℤ, ◌==◌, ◌&&◌, ◌||◌, Bool, true, false, cond, not, Option, Some, None, is_some}
 use Rattle.std.specs.FinMap as map
 use Rattle.fx_base.specs.declared.fact.Fact.{Fact}
-use Rattle.rule_model.specs.declared.matched.Match.{Match}
-use Rattle.rule_model.specs.Matches.{has_match}
+use Rattle.rule_model.specs.{declared.matched.Match.{Match}, Matches.{has_match}}
 use Rattle.agenda.specs.Agendas.{Marks, names_tag}
-use Rattle.retention.specs.Retentions.{lingers, is_named, PassesLives}
-use Rattle.retention.specs.Watching.{Covers}
+use Rattle.retention.specs.{Retentions.{lingers, is_named, PassesLives}, Watching.{Covers}}
 use Rattle.forgetting.specs.Sights.{Lives, TagWorld, Holding, HoldsKept, IsSoundSight, only, kept, is_kept_tag, is_clean, some_tag, ends_of}
 
 -- ---- the beginning

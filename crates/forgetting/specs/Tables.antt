@@ -1,28 +1,17 @@
 -- With a safe table of lives the sight of a lawful world keeps what is kept of the world, so a session that forgets needs no premise but
 -- those of the world.
 use Rattle.std.specs.Prelude.{◌≡◌, ℕ, ℤ, Bool, true, false, List, Some, None}
-use Rattle.fx_base.specs.declared.fact.Fact.{Fact}
-use Rattle.fx_base.specs.declared.ids.FactId.{FactId}
-use Rattle.fx_base.specs.declared.value.Value.{Value}
-use Rattle.rule_model.specs.declared.life.LifeTable.{LifeTable}
-use Rattle.rule_model.specs.declared.matched.Match.{Match}
-use Rattle.rule_model.specs.declared.program.Program.{Program}
-use Rattle.rule_model.specs.declared.step.Step.{Step}
-use Rattle.rule_model.specs.declared.step.Step.TheVariants.{Modify}
-use Rattle.rule_model.specs.Candidates.{is_present}
-use Rattle.rule_model.specs.Matches.{matches, has_match}
-use Rattle.rule_model.specs.Types.{is_event}
-use Rattle.rule_world.specs.Lawful.{IsOrdered}
-use Rattle.rule_world.specs.Worlds.{World, snapshot, pending, stepped, step_fault, marked}
+use Rattle.fx_base.specs.declared.{fact.Fact.{Fact}, ids.FactId.{FactId}, value.Value.{Value}}
+use Rattle.rule_model.specs.declared.{life.LifeTable.{LifeTable}, matched.Match.{Match}, program.Program.{Program}, step.Step.{Step, TheVariants.{Modify}}}
+use Rattle.rule_model.specs.{Candidates.{is_present}, Matches.{matches, has_match}, Types.{is_event}}
+use Rattle.rule_world.specs.{Lawful.{IsOrdered}, Worlds.{World, snapshot, pending, stepped, step_fault, marked}}
 use Rattle.life_meaning.specs.Tables.{AreSafe}
 use Rattle.agenda.specs.Agendas.{names_tag}
 use Rattle.pair_memory.specs.Standing.{clean}
 use Rattle.kept_meaning.specs.Kept.{is_kept, is_forgotten}
 use Rattle.keeping.specs.Steps.{IsLawfulStep}
-use Rattle.forgetting.specs.Sights.{Holding, HoldsKept, ends_by, only, kept, is_clean}
-use Rattle.forgetting.specs.Steps.{ComeClean, TakesChanges, HasLeft, Forgets}
-use Rattle.forgetting.specs.Firings.{FiresMatch}
-use Rattle.forgetting.specs.WorldSights.{fact_at, sight_of, comes, goes}
+use Rattle.forgetting.specs.{Sights.{Holding, HoldsKept, ends_by, only, kept, is_clean}, Steps.{ComeClean, TakesChanges, HasLeft, Forgets}}
+use Rattle.forgetting.specs.{Firings.{FiresMatch}, WorldSights.{fact_at, sight_of, comes, goes}}
 
 -- ---- what is kept
 

@@ -1,19 +1,10 @@
 -- How forgetting sees the worlds of a program, their steps and their firings.
 use Rattle.std.specs.Prelude.{◌≡◌, ℕ, ◌+ℤ◌, ◌==◌, ◌&&◌, Bool, false, not, List, [], ◌∷◌, Option, Some, None, option_map, if◌then◌else◌}
-use Rattle.fx_base.specs.declared.fact.Fact.{Fact}
-use Rattle.fx_base.specs.declared.ids.FactId.{FactId}
-use Rattle.fx_base.specs.declared.ids.TypeId.{TypeId}
-use Rattle.rule_model.specs.declared.matched.Match.{Match}
-use Rattle.rule_model.specs.declared.program.Program.{Program}
-use Rattle.rule_model.specs.declared.step.Step.{Step}
-use Rattle.rule_model.specs.declared.step.Step.TheVariants.{Insert, Modify, Retract, Advance, At, Promise, Begin}
-use Rattle.rule_model.specs.Candidates.{is_present}
-use Rattle.rule_model.specs.Matches.{matches, has_match}
-use Rattle.rule_world.specs.Lawful.{IsOrdered}
-use Rattle.rule_world.specs.Worlds.{World, snapshot, present, found, pending, new_fact, revised, has_id, stepped, step_fault, marked}
-use Rattle.forgetting.specs.Sights.{TagWorld, IsSoundSight, only}
-use Rattle.forgetting.specs.Steps.{IsStep}
-use Rattle.forgetting.specs.Firings.{IsMarked}
+use Rattle.fx_base.specs.declared.{fact.Fact.{Fact}, ids.{FactId.{FactId}, TypeId.{TypeId}}}
+use Rattle.rule_model.specs.declared.{matched.Match.{Match}, program.Program.{Program}, step.Step.{Step, TheVariants.{Insert, Modify, Retract, Advance, At}}}
+use Rattle.rule_model.specs.{declared.step.Step.TheVariants.{Promise, Begin}, Candidates.{is_present}, Matches.{matches, has_match}}
+use Rattle.rule_world.specs.{Lawful.{IsOrdered}, Worlds.{World, snapshot, present, found, pending, new_fact, revised, has_id, stepped, step_fault, marked}}
+use Rattle.forgetting.specs.{Sights.{TagWorld, IsSoundSight, only}, Steps.{IsStep}, Firings.{IsMarked}}
 
 -- the fact with a tag
 abbrev pub fact_at : List Fact → ℕ → Option Fact

@@ -1,12 +1,8 @@
 -- Lemmas on lists and options that the standard library lacks.
 use Rattle.std.proofs.Common.{◌≡◌, ◌⊎◌, inl, inr, ℕ, zero, suc, ◌+◌, ◌<◌, ◌≤◌, Bool, true, false, cond, eqb, List, [], ◌∷◌, ◌++◌, length, get_or, take, drop}
-use Rattle.std.proofs.Common.{set, All, Option, Some, None, is_some, slice_get, refl, sym, ap, ◌∙◌, add-one, drop-cons, arith}
-use Rattle.std.proofs.lemmas.Bool.{and_parts, and_from, or_cases, or_from, or_left, or_parts, or_right}
-use Rattle.std.proofs.lemmas.Grind.{common_steps}
-use Rattle.std.proofs.lemmas.List.Elements.{All-nil, All-cons}
-use Rattle.std.proofs.lemmas.Option.{slice_get-get_or}
-use Rattle.std.specs.List.{AllByRecursion, filter, list_all, list_any}
-use Rattle.std.specs.Option.{option_map, unwrap_or}
+use Rattle.std.proofs.{Common.{set, All, Option, Some, None, is_some, slice_get, refl, sym, ap, ◌∙◌, add-one, drop-cons, arith}, lemmas.Bool.{and_parts}}
+use Rattle.std.proofs.lemmas.{Bool.{and_from, or_cases, or_from, or_left, or_parts, or_right}, Grind.{common_steps}, List.Elements.{All-nil, All-cons}}
+use Rattle.std.{proofs.lemmas.Option.{slice_get-get_or}, specs.{List.{AllByRecursion, filter, list_all, list_any}, Option.{option_map, unwrap_or}}}
 use Rattle.fx_base.specs.Lists.{In}
 
 pub one_value : {X : Type 0} (o : Option X) (x y : X) → o ≡ Some x → o ≡ Some y → x ≡ y

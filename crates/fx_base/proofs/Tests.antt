@@ -1,6 +1,5 @@
 -- Lemmas on truth values that the standard library lacks. What it has (`and_parts`, `or-false`, ..) is cited from there.
-use Rattle.std.proofs.Common.{◌≡◌, Bool, true, false, not, cond, ◌&&◌, ◌||◌, T, refl, sym, ap}
-use Rattle.std.proofs.Math.Bool.{and-false, and-true, or-false, or-true}
+use Rattle.std.proofs.{Common.{◌≡◌, Bool, true, false, not, cond, ◌&&◌, ◌||◌, T, refl, sym, ap}, Math.Bool.{and-false, and-true, or-false, or-true}}
 
 pub and_first : (a b : Bool) → (a && b) ≡ true → a ≡ true
 and_first true b e = refl

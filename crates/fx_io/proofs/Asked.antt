@@ -1,8 +1,7 @@
 -- When a source may be asked, as bytes are taken from it.
-use Rattle.fx_io.proofs.Common.{◌≡◌, ◌≤◌, ◌+◌, ◌++◌, ℕ, List, [], ◌∷◌, length, take, drop, Some, Ok, sym, ap, subst, ◌∙◌, arith, inl, append_assoc}
-use Rattle.fx_io.proofs.Common.{append-nil, take-append-drop, take-append-le}
-use Rattle.fx_io.proofs.Common.{Follows, MayAskMidLine, IsEnded, EndsOrMay, count_after, HasNoEnd, IsFirstEnd, IsAnswer, Line, Whole, Long, End}
-use Rattle.fx_io.proofs.Ends.{HasNoEnd-append}
+use Rattle.fx_io.proofs.Common.{◌≡◌, ◌≤◌, ◌+◌, ◌++◌, ℕ, List, [], ◌∷◌, length, take, drop, Some, Ok, sym, ap, subst, ◌∙◌, arith, inl, append_assoc, append-nil}
+use Rattle.fx_io.proofs.Common.{take-append-drop, take-append-le, Follows, MayAskMidLine, IsEnded, EndsOrMay, count_after, HasNoEnd, IsFirstEnd, IsAnswer, Line}
+use Rattle.fx_io.proofs.{Common.{Whole, Long, End}, Ends.{HasNoEnd-append}}
 
 -- nothing was taken
 pub follows_nothing : {K : Type 0} (may_ask : List ℕ → K → Type 0) → Follows may_ask [] may_ask

@@ -2,9 +2,7 @@
 use Rattle.fx_io.proofs.Common.{◌≡◌, ◌≤◌, ◌+◌, ◌++◌, ℕ, List, [], ◌∷◌, length, take, drop, Option, Some, None, Ok, refl, sym, ap, ◌∙◌, arith, inl, inr}
 use Rattle.fx_io.proofs.Common.{append_assoc, append-nil, length-append, take-append-drop, prepend, count_after, IsExhausted, HasNoEnd, IsFirstEnd, IsLinePart}
 use Rattle.fx_io.proofs.Common.{IsAnswer, IsLastAnswer, TakesLine, TakesFromBytes, GivesLine, ReadsBytes, Line, Whole, Long, End}
-use Rattle.fx_io.specs.declared.part.PartLine.{PartLine}
-use Rattle.fx_io.proofs.Ends.{HasNoEnd-append}
-use Rattle.fx_io.proofs.Told.{prepend-prepend}
+use Rattle.fx_io.{specs.declared.part.PartLine.{PartLine}, proofs.{Ends.{HasNoEnd-append}, Told.{prepend-prepend}}}
 
 -- a front of the line, `text`, is in the part; it and the window's bytes are those kept before the call and those read in it
 pub record Reading (most : ℕ) (before window : List ℕ) (front : PartLine) (taken_before taken_now given_before given_now : ℕ) (left_before left_now : Option (List ℕ)) : Type 0 where

@@ -1,7 +1,6 @@
 -- One turn of a script after another.
 use Rattle.std.proofs.Common.{◌≡◌, ℕ, suc, ◌+◌, ◌-◌, ◌<◌, ◌≤◌, List, ◌++◌, refl, sym, ap, ◌∙◌, arith, append_assoc, append-nil}
-use Rattle.gen_load.specs.declared.turn.Turn.{Turn}
-use Rattle.gen_load.specs.Script.{turn_text, turn_after, turns_text}
+use Rattle.gen_load.specs.{declared.turn.Turn.{Turn}, Script.{turn_text, turn_after, turns_text}}
 
 turns_text-suc : (n x : ℕ) → turns_text (suc n) x ≡ turn_text (turn_after x).turn ++ turns_text n (turn_after x).after
 unfolding turns_text

@@ -1,8 +1,6 @@
 -- The script of a load: turns of three lines each.
-use Rattle.std.specs.Prelude.{ℕ, zero, suc, nat_lt, List, [], ◌++◌, Option, Some, None, codes, if◌then◌else◌}
-use Rattle.std.specs.Fmt.{decimal}
-use Rattle.gen_load.specs.declared.turn.Turn.{Turn}
-use Rattle.gen_load.specs.Draws.{next_number, drawn}
+use Rattle.std.specs.{Prelude.{ℕ, zero, suc, nat_lt, List, [], ◌++◌, Option, Some, None, codes, if◌then◌else◌}, Fmt.{decimal}}
+use Rattle.gen_load.specs.{declared.turn.Turn.{Turn}, Draws.{next_number, drawn}}
 
 -- what a turn draws, and the number that is left for the next turn
 pub record Drawing : Type 0 where

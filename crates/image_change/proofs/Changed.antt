@@ -1,35 +1,20 @@
 -- The changed image is that of the world under the new rules.
 use Rattle.image_change.proofs.Common.{AreExtras, AreMoments, Bool, Fact, HaveDistinctTags, Image, In, IsChangedImage, IsImageOf, IsKept, IsKeptOf, LifeTable}
-use Rattle.image_change.proofs.Common.{List, Match, Named, None, Option, Program, Some, World, and_from, and_parts, ap, as_old, carried, clean, false}
-use Rattle.image_change.proofs.Common.{filtered, forgotten_fact, fun_ext, has_fired, has_match, in_map, is_marked, length, map, match_fired, matches}
-use Rattle.image_change.proofs.Common.{moved_fact, name_of, not, of_map, refl, same_test, snapshot, snapshot_of, subst, sym, true, was_fired, ℕ, ℤ, ◌&&◌, ◌↔◌}
-use Rattle.image_change.proofs.Common.{◌∙◌, ◌≡◌}
-use Rattle.image_laws.proofs.Fit.{image_fits}
-use Rattle.image_laws.proofs.Imaged.{image_facts}
-use Rattle.image_laws.specs.Fitting.{IsNextNumber}
-use Rattle.kept_meaning.proofs.Decided.{kept_decided, kept_inside}
-use Rattle.kept_meaning.specs.Kept.{is_forgotten, is_kept}
+use Rattle.image_change.proofs.Common.{List, Match, Named, None, Option, Program, Some, World, and_from, and_parts, ap, as_old, carried, clean, false, filtered}
+use Rattle.image_change.proofs.Common.{forgotten_fact, fun_ext, has_fired, has_match, in_map, is_marked, length, map, match_fired, matches, moved_fact, name_of}
+use Rattle.image_change.proofs.Common.{not, of_map, refl, same_test, snapshot, snapshot_of, subst, sym, true, was_fired, ℕ, ℤ, ◌&&◌, ◌↔◌, ◌∙◌, ◌≡◌, AreOwners}
+use Rattle.image_change.proofs.{Common.{IsLadenMatch, Rule, rows_of, slice_get, take}, Counted.{clean_same, moved_extra}, Forgotten.{uncounted}, Kept.{IsTaken}}
+use Rattle.image_change.proofs.{Kept.{behind, forgotten_same, still_safe}, Lists.{sorted_mapped}, Matched.{of_laden, to_laden}, Owners.{owners}}
+use Rattle.image_change.specs.Images.{ChangedFits, ChangedIsImage, IsMovedImage}
+use Rattle.image_laws.{proofs.{Fit.{image_fits}, Imaged.{image_facts}}, specs.{Fitting.{IsNextNumber}, Images.{fired_cmp}}}
+use Rattle.kept_meaning.{proofs.Decided.{kept_decided, kept_inside}, specs.Kept.{is_forgotten, is_kept}}
 use Rattle.pair_memory.specs.Memories.{made}
 use Rattle.rule_change.specs.Changed.{changed, entry_in, moment_or_zero}
-use Rattle.rule_model.proofs.Sorted.{sorted_marked, tag_total, tags_apart}
-use Rattle.rule_model.specs.Distinct.{tag_cmp}
-use Rattle.rule_model.specs.Moments.{moment_in}
-use Rattle.rule_model.specs.Snapshots.{Reached}
-use Rattle.std.proofs.lemmas.Bool.{not-false}
-use Rattle.std.specs.List.Sorted.{IsStrictlySortedBy}
-use Rattle.image_change.proofs.Counted.{clean_same, moved_extra}
-use Rattle.image_change.proofs.Forgotten.{uncounted}
-use Rattle.image_change.proofs.Kept.{IsTaken, behind, forgotten_same, still_safe}
-use Rattle.image_change.proofs.Lists.{sorted_mapped}
-use Rattle.image_change.proofs.Matched.{of_laden, to_laden}
-use Rattle.image_change.proofs.Owners.{owners}
-use Rattle.image_change.proofs.Common.{AreOwners, IsLadenMatch, Rule, rows_of, slice_get, take}
+use Rattle.rule_model.{proofs.Sorted.{sorted_marked, tag_total, tags_apart}, specs.{Distinct.{tag_cmp}, Moments.{moment_in}, Snapshots.{Reached}}}
+use Rattle.std.{proofs.lemmas.Bool.{not-false}, specs.List.Sorted.{IsStrictlySortedBy}}
 use Rattle.change_read.proofs.Places.{some_is}
-use Rattle.image_laws.specs.Images.{fired_cmp}
-use Rattle.laden_rows.proofs.Rows.{laden_rows}
-use Rattle.laden_rows.specs.Laden.{laden}
+use Rattle.laden_rows.{proofs.Rows.{laden_rows}, specs.Laden.{laden}}
 use Rattle.row_delta.specs.declared.extra.Extra.{Extra}
-use Rattle.image_change.specs.Images.{ChangedFits, ChangedIsImage, IsMovedImage}
 
 module _ (p q : Program) (from : ℕ → Option ℕ) (table own : LifeTable) (w : World) (t : IsTaken p q from table own w) (image made : Image) (is : IsImageOf p table w image)
     (c : IsMovedImage p q image made) where

@@ -1,40 +1,21 @@
 -- The extras of a changed image are what conditions of the new rules count of forgotten facts.
 use Rattle.image_change.proofs.Common.{Bool, Condition, Existing, Fact, Finite, Folded, Image, In, IsFirstWith, IsImageOf, LifeTable, List, Named, Negated}
-use Rattle.image_change.proofs.Common.{None, Option, Pattern, Program, Row, Rule, Some, World, and_from, and_parts, ap, ap₂, binds, carried, clean, false}
-use Rattle.image_change.proofs.Common.{fits, fun_ext, length, life_stays, list_any-from, lost_partners, map, moved_condition, moved_fact, name_of, new_type}
-use Rattle.image_change.proofs.Common.{of_map, option_and_then, option_map, pattern_of, refl, rows_of, slice_get, snapshot, subst, suc, sym, take, true}
-use Rattle.image_change.proofs.Common.{values_gathered, ℕ, ℤ, ◌&&◌, ◌<◌, ◌==◌, ◌↔◌, ◌∙◌, ◌≡◌}
-use Rattle.change_read.proofs.Places.{some_is}
-use Rattle.change_read.specs.Changes.{type_named}
+use Rattle.image_change.proofs.Common.{None, Option, Pattern, Program, Row, Rule, Some, World, and_from, and_parts, ap, ap₂, binds, carried, clean, false, fits}
+use Rattle.image_change.proofs.Common.{fun_ext, length, life_stays, list_any-from, lost_partners, map, moved_condition, moved_fact, name_of, new_type, of_map}
+use Rattle.image_change.proofs.Common.{option_and_then, option_map, pattern_of, refl, rows_of, slice_get, snapshot, subst, suc, sym, take, true}
+use Rattle.image_change.proofs.{Common.{values_gathered, ℕ, ℤ, ◌&&◌, ◌<◌, ◌==◌, ◌↔◌, ◌∙◌, ◌≡◌}, Forgotten.{lost_life, of_type}, Kept.{IsTaken, are_moved}}
+use Rattle.image_change.proofs.{Kept.{behind, forgotten_same, moves, places, still_safe}, Lists.{at_last, in_take, take_fewer}, Lost.{binds_moved}}
+use Rattle.image_change.{proofs.{Lost.{gathered_moved, lost_moved, pattern_moved}, Owners.{first_with}}, specs.Images.{IsMovedExtra}}
+use Rattle.change_read.{proofs.Places.{some_is}, specs.Changes.{type_named}}
 use Rattle.condition_rows.specs.Sets.{partners}
-use Rattle.fx_base.proofs.Sequences.{get-below}
-use Rattle.fx_base.specs.declared.ids.RuleId.{RuleId}
+use Rattle.fx_base.{proofs.Sequences.{get-below}, specs.declared.ids.RuleId.{RuleId}}
 use Rattle.kept_meaning.specs.Kept.{is_forgotten}
-use Rattle.laden_rows.proofs.Extras.{first_of_some}
-use Rattle.laden_rows.proofs.Rows.{in_lost}
-use Rattle.laden_rows.specs.Extras.{IsExtraIn}
-use Rattle.row_delta.specs.Rows.{has}
-use Rattle.row_delta.specs.declared.extra.Extra.{Extra}
-use Rattle.rule_change.proofs.Places.{type_back}
-use Rattle.rule_change.proofs.Rows.{rows_same}
-use Rattle.rule_change.specs.Alike.{HasPlaces}
-use Rattle.rule_change.specs.Changed.{changed, moved_rule, type_in}
-use Rattle.rule_model.proofs.Named.{of_filter}
-use Rattle.rule_model.proofs.Order.{passed}
-use Rattle.rule_model.proofs.RuleOf.{in_place}
-use Rattle.rule_model.specs.Candidates.{is_candidate, is_inside}
-use Rattle.rule_model.specs.Simple.{observes}
-use Rattle.rule_model.specs.declared.condition.Condition.TheVariants.{Plain}
-use Rattle.rule_model.specs.declared.program.TypeInfo.{TypeInfo}
-use Rattle.std.proofs.lemmas.Bool.{eq-eqb}
-use Rattle.std.proofs.lemmas.List.{length-map, take-map}
-use Rattle.std.proofs.lemmas.Option.{slice_get-map}
-use Rattle.image_change.proofs.Forgotten.{lost_life, of_type}
-use Rattle.image_change.proofs.Kept.{IsTaken, are_moved, behind, forgotten_same, moves, places, still_safe}
-use Rattle.image_change.proofs.Lists.{at_last, in_take, take_fewer}
-use Rattle.image_change.proofs.Lost.{binds_moved, gathered_moved, lost_moved, pattern_moved}
-use Rattle.image_change.proofs.Owners.{first_with}
-use Rattle.image_change.specs.Images.{IsMovedExtra}
+use Rattle.laden_rows.{proofs.{Extras.{first_of_some}, Rows.{in_lost}}, specs.Extras.{IsExtraIn}}
+use Rattle.row_delta.specs.{Rows.{has}, declared.extra.Extra.{Extra}}
+use Rattle.rule_change.{proofs.{Places.{type_back}, Rows.{rows_same}}, specs.{Alike.{HasPlaces}, Changed.{changed, moved_rule, type_in}}}
+use Rattle.rule_model.{proofs.{Named.{of_filter}, Order.{passed}, RuleOf.{in_place}}, specs.{Candidates.{is_candidate, is_inside}, Simple.{observes}}}
+use Rattle.rule_model.specs.declared.{condition.Condition.TheVariants.{Plain}, program.TypeInfo.{TypeInfo}}
+use Rattle.std.proofs.lemmas.{Bool.{eq-eqb}, List.{length-map, take-map}, Option.{slice_get-map}}
 
 observes_aside : (c : Condition) → binds c ≡ false → observes c ≡ true
 observes_aside (Plain pattern) e = absurd (let torn : true ≡ false = e in cc)

@@ -1,20 +1,16 @@
 -- What a condition counts of forgotten facts beside a row is the same under other rules.
-use Rattle.image_change.proofs.Common.{Condition, Existing, Fact, Folded, LifeTable, List, Named, Negated, None, Option, Pattern, Program, Row, Some, World}
-use Rattle.image_change.proofs.Common.{[], ap, ap₂, binds, carried, length, lost_partners, map, moved_condition, moved_fact, name_of, option_and_then}
-use Rattle.image_change.proofs.Common.{option_map, pattern_of, refl, snapshot, values_gathered, version_at, ℕ, ◌<◌, ◌∙◌, ◌∷◌, ◌≡◌}
+use Rattle.image_change.proofs.Common.{Condition, Existing, Fact, Folded, LifeTable, List, Named, Negated, None, Option, Pattern, Program, Row, Some, World, []}
+use Rattle.image_change.proofs.Common.{ap, ap₂, binds, carried, length, lost_partners, map, moved_condition, moved_fact, name_of, option_and_then, option_map}
+use Rattle.image_change.proofs.{Common.{pattern_of, refl, snapshot, values_gathered, version_at, ℕ, ◌<◌, ◌∙◌, ◌∷◌, ◌≡◌}, Kept.{IsTaken, are_moved}}
+use Rattle.image_change.proofs.Kept.{forgotten_same, moves, version_moved}
 use Rattle.condition_rows.specs.Sets.{held, partners}
 use Rattle.fold_fn.specs.Order.{in_rising_order}
 use Rattle.join_tests.specs.Joins.{joins, passes_given, tuple_at, versions_at}
 use Rattle.kept_meaning.specs.Kept.{is_forgotten}
-use Rattle.rule_change.proofs.Rows.{arguments_same, candidates_same, filter_mapped, passes_same}
-use Rattle.rule_change.proofs.Tests.{moved_tuple}
-use Rattle.rule_change.specs.Changed.{changed, moved_pattern}
-use Rattle.rule_model.specs.Candidates.{candidates}
-use Rattle.rule_model.specs.Lent.{tuple_of}
-use Rattle.rule_model.specs.Tuples.{Tuple}
-use Rattle.rule_model.specs.declared.condition.Condition.TheVariants.{Plain}
+use Rattle.rule_change.{proofs.{Rows.{arguments_same, candidates_same, filter_mapped, passes_same}, Tests.{moved_tuple}}, specs.Changed.{changed}}
+use Rattle.rule_change.specs.Changed.{moved_pattern}
+use Rattle.rule_model.specs.{Candidates.{candidates}, Lent.{tuple_of}, Tuples.{Tuple}, declared.condition.Condition.TheVariants.{Plain}}
 use Rattle.std.specs.List.{filter}
-use Rattle.image_change.proofs.Kept.{IsTaken, are_moved, forgotten_same, moves, version_moved}
 
 pub pattern_moved : (p q : Program) (c : Condition) → pattern_of (moved_condition p q c) ≡ moved_pattern p q (pattern_of c)
 pattern_moved p q (Plain pattern) = refl

@@ -1,25 +1,15 @@
 -- The image of the world under other rules, made of the image of the world under the old ones.
-use Rattle.std.specs.Prelude.{◌≡◌, ◌↔◌, ℕ, suc, true, map, take, length, Option, Some, None, slice_get}
-use Rattle.std.specs.List.Sorted.{IsStrictlySortedBy}
+use Rattle.std.specs.{Prelude.{◌≡◌, ◌↔◌, ℕ, suc, true, map, take, length, Option, Some, None, slice_get}, List.Sorted.{IsStrictlySortedBy}}
 use Rattle.fx_base.specs.Lists.{In}
 use Rattle.row_delta.specs.declared.extra.Extra.{Extra}
 use Rattle.checkpoint.specs.declared.image.Image.{Image}
-use Rattle.rule_model.specs.declared.life.LifeTable.{LifeTable}
-use Rattle.rule_model.specs.declared.matched.Match.{Match}
-use Rattle.rule_model.specs.declared.program.Program.{Program}
-use Rattle.rule_model.specs.declared.program.Rule.{Rule}
-use Rattle.rule_model.specs.Lives.{AreShort}
+use Rattle.rule_model.specs.{declared.{life.LifeTable.{LifeTable}, matched.Match.{Match}, program.{Program.{Program}, Rule.{Rule}}}, Lives.{AreShort}}
 use Rattle.rule_model.specs.Moments.{moment_in}
-use Rattle.rule_world.specs.Lawful.{IsLawful}
-use Rattle.rule_world.specs.Worlds.{World}
+use Rattle.rule_world.specs.{Lawful.{IsLawful}, Worlds.{World}}
 use Rattle.life_meaning.specs.Tables.{AreLives, IsSafeTable}
-use Rattle.laden_rows.specs.Extras.{IsFirstWith, extra_cmp}
-use Rattle.laden_rows.specs.Laden.{AreOwners}
-use Rattle.image_laws.specs.Images.{AreMoments, IsImageOf, fired_cmp, has_fired, match_fired}
-use Rattle.image_laws.specs.Fitting.{Fits, IsLadenMatch, IsNextNumber}
-use Rattle.laden_rows.specs.Placed.{IsSmall}
-use Rattle.rule_change.specs.Changed.{changed, carried, entry_in, is_marked, moment_or_zero, moved_condition, moved_fact}
-use Rattle.rule_change.specs.Refused.{IsVerdict, NonePending}
+use Rattle.laden_rows.specs.{Extras.{IsFirstWith, extra_cmp}, Laden.{AreOwners}, Placed.{IsSmall}}
+use Rattle.image_laws.specs.{Images.{AreMoments, IsImageOf, fired_cmp, has_fired, match_fired}, Fitting.{Fits, IsLadenMatch, IsNextNumber}}
+use Rattle.rule_change.specs.{Changed.{changed, carried, entry_in, is_marked, moment_or_zero, moved_condition, moved_fact}, Refused.{IsVerdict, NonePending}}
 use Rattle.rule_change.specs.Alike.{AreOver}
 
 -- What conditions of new rules count of forgotten facts: what the image has of conditions that an old rule begins with, under the first of the new rules

@@ -1,7 +1,6 @@
 -- An image fits exactly where it fits by plain tests and by the rows over its facts.
-use Rattle.image_fitting.proofs.Common.{◌↔◌, ℕ, Image, LifeTable, Program, AreSafe, AreOwners, FitsPlainly, Fits, FitsByRows}
-use Rattle.image_fitting.proofs.Agreeing.{laden_by, match_by, needed_by}
-use Rattle.image_fitting.proofs.Present.{facts_present}
+use Rattle.image_fitting.proofs.{Common.{◌↔◌, ℕ, Image, LifeTable, Program, AreSafe, AreOwners, FitsPlainly, Fits, FitsByRows}, Agreeing.{laden_by, match_by}}
+use Rattle.image_fitting.proofs.{Agreeing.{needed_by}, Present.{facts_present}}
 
 module _ (p : Program) (table : LifeTable) (image : Image) (owners : ℕ → ℕ → ℕ) (safe : AreSafe p table) (own : AreOwners p owners) where
   to : Fits p table image → FitsPlainly p table image × FitsByRows p table image owners

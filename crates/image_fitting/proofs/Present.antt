@@ -4,27 +4,14 @@ use Rattle.image_fitting.proofs.Common.{Option, Some, None, refl, sym, ap, subst
 use Rattle.image_fitting.proofs.Common.{Extra, Row, Image, Condition, Life, Plain, Explicit, Finite, Infinite, LifeTable, Program, Snapshot, is_event}
 use Rattle.image_fitting.proofs.Common.{values_fit, IsLawful, AreSafe, world_of, IsNeeded, snapshot_of, laden_with, extra_at, is_within, is_inside}
 use Rattle.image_fitting.proofs.Common.{is_candidate, fits, HaveDistinctTags, expiry_of, extra_values_of, laden_gives, laden_line}
-use Rattle.std.proofs.lemmas.Bool.{and_parts, or_right}
-use Rattle.std.specs.Option.{is_some}
-use Rattle.std.proofs.lemmas.Map.Views.{tells_apart}
-use Rattle.row_delta.specs.declared.row.Named.{Named}
-use Rattle.row_delta.specs.RowOrder.{row_exact}
-use Rattle.rule_model.specs.declared.condition.Condition.TheVariants.{Plain as plain_condition, Negated, Existing, Folded}
-use Rattle.rule_model.specs.declared.condition.Pattern.{Pattern}
-use Rattle.rule_model.specs.declared.program.TypeInfo.{TypeInfo}
-use Rattle.rule_model.specs.Candidates.{is_present}
-use Rattle.rule_model.specs.Tests.{tests_hold}
-use Rattle.rule_model.specs.Tuples.{name_of, unbound}
-use Rattle.rule_model.proofs.Named.{of_filter}
-use Rattle.rule_model.proofs.Once.{one_fact}
-use Rattle.rule_model.proofs.Order.{passed}
+use Rattle.std.{proofs.lemmas.{Bool.{and_parts, or_right}, Map.Views.{tells_apart}}, specs.Option.{is_some}}
+use Rattle.row_delta.specs.{declared.row.Named.{Named}, RowOrder.{row_exact}}
+use Rattle.rule_model.specs.declared.condition.{Condition.TheVariants.{Plain as plain_condition, Negated, Existing, Folded}, Pattern.{Pattern}}
+use Rattle.rule_model.specs.{declared.program.TypeInfo.{TypeInfo}, Candidates.{is_present}, Tests.{tests_hold}, Tuples.{name_of, unbound}}
+use Rattle.rule_model.proofs.{Named.{of_filter}, Once.{one_fact}, Order.{passed}}
 use Rattle.join_tests.specs.Joins.{joins}
-use Rattle.pair_memory.specs.Joined.{joined}
-use Rattle.pair_memory.proofs.Joining.{joined_with, joined_from}
-use Rattle.pair_memory.proofs.Valued.{valued_from}
-use Rattle.condition_rows.specs.Lines.{is_ripe, empty_row, is_empty_row}
-use Rattle.condition_rows.specs.Sets.{held, candidates_of, has_partner}
-use Rattle.condition_rows.proofs.Joined.{candidate_of}
+use Rattle.pair_memory.{specs.Joined.{joined}, proofs.{Joining.{joined_with, joined_from}, Valued.{valued_from}}}
+use Rattle.condition_rows.{specs.{Lines.{is_ripe, empty_row, is_empty_row}, Sets.{held, candidates_of, has_partner}}, proofs.Joined.{candidate_of}}
 use Rattle.kept_meaning.specs.Kept.{is_alive}
 use Rattle.laden_rows.specs.Laden.{laden}
 use Rattle.fx_base.proofs.Sequences.{In-append}

@@ -3,19 +3,12 @@ use Rattle.image_fitting.proofs.Common.{◌≡◌, ◌↔◌, ◌∙◌, ◌&&�
 use Rattle.image_fitting.proofs.Common.{get_or, drop, Some, IsTrue, refl, sym, ap, subst, arith, inl, inr, Less, Equal, AllAdjacentBelow, nat_cmp, ints, In}
 use Rattle.image_fitting.proofs.Common.{Fact, Value, HaveDistinctIds, int_lt, Greater, AllByRecursion, IsAllAdjacentAnswer, IsPermutation, IsSorted, int_cmp}
 use Rattle.image_fitting.proofs.Common.{is_le, is_lt, is_some_and, eq_by_cmp, ordering_index, drop_more, drop_all, get_or_default, in_map, of_map, has_kind}
-use Rattle.std.proofs.lemmas.Bool.{ne_eqb}
-use Rattle.std.proofs.Math.Bool.{and-false}
-use Rattle.std.specs.declared.cmp.Ordering.{Ordering}
-use Rattle.std.specs.Cmp.{IsTotalOrder}
-use Rattle.std.specs.List.{IsDistinct}
-use Rattle.std.specs.List.Sorted.{IsStrictlySortedBy}
-use Rattle.std.proofs.lemmas.List.Sorted.{IsPermutation-sym, IsNonDecreasingBy-from_sort}
+use Rattle.std.{proofs.{lemmas.Bool.{ne_eqb}, Math.Bool.{and-false}}, specs.{declared.cmp.Ordering.{Ordering}, Cmp.{IsTotalOrder}, List.{IsDistinct}}}
+use Rattle.std.{specs.List.Sorted.{IsStrictlySortedBy}, proofs.lemmas.List.Sorted.{IsPermutation-sym, IsNonDecreasingBy-from_sort}}
 use Rattle.std.proofs.lemmas.Map.Keys.{IsDistinct-from_sorted, IsDistinct-IsPermutation, IsStrictlyIncreasing-from_distinct, Less-from_sorted}
 use Rattle.std.proofs.lemmas.Map.Keys.{sorted_from_all_adjacent, sorted_from_strictly_increasing}
-use Rattle.fx_base.specs.declared.ids.FactId.{FactId}
-use Rattle.fx_base.specs.declared.kind.Kind.{Kind}
+use Rattle.fx_base.{specs.declared.{ids.FactId.{FactId}, kind.Kind.{Kind}}, proofs.Orders.{eq_by_nat_cmp-flip, eq_by_nat_cmp-self, eqb-flip}}
 use Rattle.rule_world.specs.Kinds.{have_kinds}
-use Rattle.fx_base.proofs.Orders.{eq_by_nat_cmp-flip, eq_by_nat_cmp-self, eqb-flip}
 
 pub always : {P : Type 0} → P → IsTrue true ↔ P
 always x = (λ e. x, λ y. refl)

@@ -1,12 +1,9 @@
 -- The orders of what stands in an image are total.
-use Rattle.std.specs.Cmp.{IsTotalOrder}
-use Rattle.std.proofs.lemmas.Cmp.{on_total, then_total, nat_cmp_total}
+use Rattle.std.{specs.Cmp.{IsTotalOrder}, proofs.lemmas.Cmp.{on_total, then_total, nat_cmp_total}}
 use Rattle.fx_base.specs.declared.fact.Fact.{Fact}
-use Rattle.row_delta.specs.declared.extra.Extra.{Extra}
-use Rattle.row_delta.specs.RowOrder.{row_total}
-use Rattle.rule_model.specs.MatchOrders.{match_total}
+use Rattle.row_delta.specs.{declared.extra.Extra.{Extra}, RowOrder.{row_total}}
+use Rattle.rule_model.specs.{MatchOrders.{match_total}, Distinct.{tag_cmp}}
 use Rattle.laden_rows.specs.Extras.{extra_cmp}
-use Rattle.rule_model.specs.Distinct.{tag_cmp}
 use Rattle.image_laws.specs.Images.{match_fired, fired_cmp}
 
 pub tag_total : IsTotalOrder tag_cmp

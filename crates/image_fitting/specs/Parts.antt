@@ -1,14 +1,9 @@
 -- What makes up that an image fits plainly, part by part.
-use Rattle.std.specs.Prelude.{◌≡◌, true, pos, length, replicate}
-use Rattle.std.specs.List.{All, list_all}
-use Rattle.std.specs.List.Sorted.{IsStrictlySortedBy}
+use Rattle.std.specs.{Prelude.{◌≡◌, true, pos, length, replicate}, List.{All, list_all, Sorted.{IsStrictlySortedBy}}}
 use Rattle.checkpoint.specs.declared.image.Image.{Image}
-use Rattle.rule_model.specs.declared.life.LifeTable.{LifeTable}
-use Rattle.rule_model.specs.declared.program.Program.{Program}
-use Rattle.rule_model.specs.Distinct.{HaveDistinctIds, tag_cmp}
+use Rattle.rule_model.specs.{declared.{life.LifeTable.{LifeTable}, program.Program.{Program}}, Distinct.{HaveDistinctIds, tag_cmp}}
 use Rattle.laden_rows.specs.Extras.{extra_cmp}
-use Rattle.image_laws.specs.Fitting.{IsForgettable}
-use Rattle.image_laws.specs.Images.{fired_cmp}
+use Rattle.image_laws.specs.{Fitting.{IsForgettable}, Images.{fired_cmp}}
 use Rattle.image_fitting.specs.Tests.{counts_fit, moments_fit, is_at_hand, come_in_turn}
 
 -- the numbers and the moments, and what is asked of each fact alone

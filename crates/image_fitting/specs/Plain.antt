@@ -1,22 +1,13 @@
 -- What of an image can be told to fit before a network is loaded from it.
-use Rattle.std.specs.Prelude.{◌≡◌, ◌↔◌, ℕ, true, length}
-use Rattle.std.specs.List.Sorted.{IsStrictlySortedBy}
-use Rattle.fx_base.specs.Lists.{In}
-use Rattle.fx_base.specs.declared.fact.Fact.{Fact}
+use Rattle.std.specs.{Prelude.{◌≡◌, ◌↔◌, ℕ, true, length}, List.Sorted.{IsStrictlySortedBy}}
+use Rattle.fx_base.specs.{Lists.{In}, declared.fact.Fact.{Fact}}
 use Rattle.row_delta.specs.declared.extra.Extra.{Extra}
-use Rattle.checkpoint.specs.declared.image.FiredMatch.{FiredMatch}
-use Rattle.checkpoint.specs.declared.image.Image.{Image}
-use Rattle.rule_model.specs.declared.life.LifeTable.{LifeTable}
-use Rattle.rule_model.specs.declared.program.Program.{Program}
-use Rattle.rule_model.specs.Candidates.{is_present}
+use Rattle.checkpoint.specs.declared.image.{FiredMatch.{FiredMatch}, Image.{Image}}
+use Rattle.rule_model.specs.{declared.{life.LifeTable.{LifeTable}, program.Program.{Program}}, Candidates.{is_present}, Distinct.{tag_cmp}}
 use Rattle.rule_world.specs.Lawful.{IsLawful}
 use Rattle.life_meaning.specs.Tables.{AreSafe}
-use Rattle.laden_rows.specs.Extras.{extra_cmp}
-use Rattle.image_laws.specs.Fitting.{world_of, IsNextNumber, IsForgettable, IsLadenRow, IsLadenMatch, IsNeeded, Fits}
-use Rattle.laden_rows.specs.Placed.{IsSmall}
-use Rattle.rule_model.specs.Distinct.{tag_cmp}
-use Rattle.image_laws.specs.Images.{fired_cmp}
-use Rattle.laden_rows.specs.Laden.{AreOwners}
+use Rattle.laden_rows.specs.{Extras.{extra_cmp}, Placed.{IsSmall}, Laden.{AreOwners}}
+use Rattle.image_laws.specs.{Fitting.{world_of, IsNextNumber, IsForgettable, IsLadenRow, IsLadenMatch, IsNeeded, Fits}, Images.{fired_cmp}}
 
 -- An image fits a program with a table of lives, but for what asks the rows over its facts: its numbers, its facts, which are present, its
 -- orders, and the places of its extras.

@@ -1,15 +1,9 @@
 -- The table of the first rules that have the conditions of each rule up to each of them, and the places of extras by it.
 use Rattle.std.specs.Prelude.{◌≡◌, ◌==◌, ◌≤◌, ℕ, suc, Bool, true, false, List, length, Option, Some, None, slice_get}
 use Rattle.row_delta.specs.declared.extra.Extra.{Extra}
-use Rattle.rule_model.specs.declared.condition.Condition.{Condition}
-use Rattle.rule_model.specs.declared.life.Life.{Life}
-use Rattle.rule_model.specs.declared.life.Life.TheVariants.{Finite}
-use Rattle.rule_model.specs.declared.life.LifeTable.{LifeTable}
-use Rattle.rule_model.specs.declared.program.Program.{Program}
-use Rattle.rule_model.specs.declared.program.Rule.{Rule}
-use Rattle.rule_model.specs.Rows.{pattern_of, binds}
-use Rattle.laden_rows.specs.Extras.{IsFirstWith}
-use Rattle.laden_rows.specs.Placed.{IsSmall, CanGather}
+use Rattle.rule_model.specs.declared.{condition.Condition.{Condition}, life.{Life.{Life, TheVariants.{Finite}}, LifeTable.{LifeTable}}}
+use Rattle.rule_model.specs.{declared.program.{Program.{Program}, Rule.{Rule}}, Rows.{pattern_of, binds}}
+use Rattle.laden_rows.specs.{Extras.{IsFirstWith}, Placed.{IsSmall, CanGather}}
 
 -- for each of these conditions the first rule that has them up to that one
 pub record AreFirsts (p : Program) (conditions : List Condition) (firsts : List ℕ) : Type 0 where

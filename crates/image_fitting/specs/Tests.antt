@@ -1,17 +1,10 @@
 -- The tests by which the code tells whether an image fits plainly.
 use Rattle.std.specs.Prelude.{ℕ, ◌^◌, ◌==◌, ◌&&◌, ◌||◌, not, Bool, true, nat_lt, nat_le, ℤ, pos, ◌+ℤ◌, int_le, List, [], ◌∷◌, length, slice_index_or, slice_set}
-use Rattle.std.specs.Prelude.{if◌then◌else◌}
-use Rattle.std.specs.List.{list_all}
-use Rattle.std.specs.Ordering.{int_eq}
-use Rattle.fx_base.specs.declared.fact.Fact.{Fact}
-use Rattle.fx_base.specs.declared.times.Times.{Times}
+use Rattle.std.specs.{Prelude.{if◌then◌else◌}, List.{list_all}, Ordering.{int_eq}}
+use Rattle.fx_base.specs.declared.{fact.Fact.{Fact}, times.Times.{Times}}
 use Rattle.checkpoint.specs.declared.image.Image.{Image}
-use Rattle.rule_model.specs.declared.program.Program.{Program}
-use Rattle.rule_model.specs.Candidates.{is_present}
-use Rattle.rule_model.specs.Moments.{moment_in}
-use Rattle.rule_model.specs.Types.{is_event, is_point}
-use Rattle.rule_world.specs.Events.{most_millis}
-use Rattle.rule_world.specs.Kinds.{fact_fits}
+use Rattle.rule_model.specs.{declared.program.Program.{Program}, Candidates.{is_present}, Moments.{moment_in}, Types.{is_event, is_point}}
+use Rattle.rule_world.specs.{Events.{most_millis}, Kinds.{fact_fits}}
 
 -- ---- numbers and moments
 

@@ -5,10 +5,8 @@ use Rattle.image_laws.proofs.Common.{moment_in, reached_in, pattern_of, tests_ho
 use Rattle.image_laws.proofs.Common.{is_forgotten, is_kept, is_tested, kept_inside, is_so, not_alive, snapshot_of, IsImageOf, IsKeptOf, and_parts, eqb-true}
 use Rattle.image_laws.proofs.Common.{false_from_ne_true, not-false, not-true, sorted_marked, tag_total, tags_apart}
 use mathlib.Core.Path.{fun_ext}
-use Rattle.rule_model.specs.declared.condition.WindowTag.TheVariants.{Length}
-use Rattle.rule_model.specs.Snapshots.{Reached}
-use Rattle.life_meaning.specs.Reach.{infinite}
-use Rattle.life_meaning.proofs.Limits.{lives_below}
+use Rattle.rule_model.specs.{declared.condition.WindowTag.TheVariants.{Length}, Snapshots.{Reached}}
+use Rattle.life_meaning.{specs.Reach.{infinite}, proofs.Limits.{lives_below}}
 use Rattle.kept_meaning.proofs.Versions.{forgotten_fact}
 
 module _ (p : Program) (table : LifeTable) (w : World) (image : Image) (safe : AreSafe p table) (l : IsLawful p w) (is : IsImageOf p table w image) where

@@ -1,28 +1,14 @@
 -- Which images fit a program with its lives, so that a session can be resumed from them.
-use Rattle.std.specs.Prelude.{◌≡◌, ◌≤◌, ℕ, ℤ, true, false, [], length, Some, slice_get}
-use Rattle.std.specs.List.Sorted.{IsStrictlySortedBy}
-use Rattle.fx_base.specs.Lists.{In}
-use Rattle.fx_base.specs.declared.fact.Fact.{Fact}
-use Rattle.row_delta.specs.declared.extra.Extra.{Extra}
-use Rattle.checkpoint.specs.declared.image.FiredMatch.{FiredMatch}
-use Rattle.checkpoint.specs.declared.image.Image.{Image}
-use Rattle.rule_model.specs.declared.life.Life.TheVariants.{Finite}
-use Rattle.rule_model.specs.declared.life.LifeTable.{LifeTable}
-use Rattle.rule_model.specs.declared.matched.Match.{Match}
-use Rattle.rule_model.specs.declared.program.Program.{Program}
-use Rattle.rule_model.specs.declared.program.Rule.{Rule}
-use Rattle.rule_model.specs.Moments.{reached_in}
-use Rattle.rule_model.specs.Rows.{pattern_of}
-use Rattle.rule_model.specs.Tuples.{name_of}
-use Rattle.row_delta.specs.declared.row.Row.{Row}
-use Rattle.rule_world.specs.Lawful.{IsLawful}
-use Rattle.rule_world.specs.Worlds.{World}
+use Rattle.std.specs.{Prelude.{◌≡◌, ◌≤◌, ℕ, ℤ, true, false, [], length, Some, slice_get}, List.Sorted.{IsStrictlySortedBy}}
+use Rattle.fx_base.specs.{Lists.{In}, declared.fact.Fact.{Fact}}
+use Rattle.row_delta.specs.declared.{extra.Extra.{Extra}, row.Row.{Row}}
+use Rattle.checkpoint.specs.declared.image.{FiredMatch.{FiredMatch}, Image.{Image}}
+use Rattle.rule_model.specs.declared.{life.{Life.TheVariants.{Finite}, LifeTable.{LifeTable}}, matched.Match.{Match}, program.{Program.{Program}, Rule.{Rule}}}
+use Rattle.rule_model.specs.{Moments.{reached_in}, Rows.{pattern_of}, Tuples.{name_of}, Distinct.{tag_cmp}}
+use Rattle.rule_world.specs.{Lawful.{IsLawful}, Worlds.{World}}
 use Rattle.kept_meaning.specs.Kept.{is_alive}
-use Rattle.laden_rows.specs.Extras.{extra_cmp}
-use Rattle.rule_model.specs.Distinct.{tag_cmp}
+use Rattle.laden_rows.specs.{Extras.{extra_cmp}, Laden.{AreOwners, laden}, Placed.{IsPlaced, IsSmall}}
 use Rattle.image_laws.specs.Images.{fired_cmp, has_fired, snapshot_of}
-use Rattle.laden_rows.specs.Laden.{AreOwners, laden}
-use Rattle.laden_rows.specs.Placed.{IsPlaced, IsSmall}
 
 -- the world of what an image has at hand, where nothing was fired
 abbrev pub world_of : Image → World

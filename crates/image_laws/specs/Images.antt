@@ -1,18 +1,9 @@
 -- What the image of a session says of a world.
-use Rattle.std.specs.Prelude.{◌≡◌, ◌↔◌, ◌&&◌, ℕ, ℤ, Bool, List, map, length}
-use Rattle.std.specs.declared.cmp.Ordering.{Ordering}
-use Rattle.std.specs.List.Sorted.{IsStrictlySortedBy}
-use Rattle.fx_base.specs.Lists.{In}
-use Rattle.fx_base.specs.declared.fact.Fact.{Fact}
-use Rattle.checkpoint.specs.declared.image.FiredMatch.{FiredMatch}
-use Rattle.checkpoint.specs.declared.image.Image.{Image}
-use Rattle.rule_model.specs.declared.life.LifeTable.{LifeTable}
-use Rattle.rule_model.specs.declared.matched.Match.{Match}
-use Rattle.rule_model.specs.declared.program.Program.{Program}
-use Rattle.rule_model.specs.Distinct.{tag_cmp}
-use Rattle.rule_model.specs.Matches.{match_cmp, has_match}
-use Rattle.rule_model.specs.Moments.{moment_in, reached_in}
-use Rattle.rule_model.specs.Snapshots.{Snapshot}
+use Rattle.std.specs.{Prelude.{◌≡◌, ◌↔◌, ◌&&◌, ℕ, ℤ, Bool, List, map, length}, declared.cmp.Ordering.{Ordering}, List.Sorted.{IsStrictlySortedBy}}
+use Rattle.fx_base.specs.{Lists.{In}, declared.fact.Fact.{Fact}}
+use Rattle.checkpoint.specs.declared.image.{FiredMatch.{FiredMatch}, Image.{Image}}
+use Rattle.rule_model.specs.{declared.{life.LifeTable.{LifeTable}, matched.Match.{Match}, program.Program.{Program}}, Distinct.{tag_cmp}, Matches.{match_cmp}}
+use Rattle.rule_model.specs.{Matches.{has_match}, Moments.{moment_in, reached_in}, Snapshots.{Snapshot}}
 use Rattle.rule_world.specs.Worlds.{World, snapshot}
 use Rattle.life_meaning.specs.Tables.{IsKept}
 use Rattle.pair_memory.specs.Standing.{clean}

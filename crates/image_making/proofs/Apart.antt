@@ -2,16 +2,10 @@
 use Rattle.std.proofs.Common.{List, Option, [], ap, ap₂, inl, inr, map, refl, take, ℕ, ◌∷◌, ◌≡◌}
 use Rattle.fx_base.specs.Lists.{In}
 use Rattle.image_change.proofs.Lists.{in_take}
-use Rattle.rule_change.proofs.Matching.{over_moves}
-use Rattle.rule_change.proofs.Places.{Moves, entries_apart}
-use Rattle.rule_change.specs.Alike.{AreOver, HasPlaces}
-use Rattle.rule_change.specs.Changed.{moved_condition, moved_pattern}
-use Rattle.rule_model.proofs.RuleOf.{in_place}
-use Rattle.rule_model.specs.declared.condition.Accumulate.{Accumulate}
-use Rattle.rule_model.specs.declared.condition.Condition.{Condition}
-use Rattle.rule_model.specs.declared.condition.Condition.TheVariants.{Existing, Folded, Negated, Plain}
-use Rattle.rule_model.specs.declared.condition.Pattern.{Pattern}
-use Rattle.rule_model.specs.declared.program.Program.{Program}
+use Rattle.rule_change.{proofs.{Matching.{over_moves}, Places.{Moves, entries_apart}}, specs.{Alike.{AreOver, HasPlaces}, Changed.{moved_condition}}}
+use Rattle.rule_change.specs.Changed.{moved_pattern}
+use Rattle.rule_model.{proofs.RuleOf.{in_place}, specs.declared.condition.{Accumulate.{Accumulate}, Condition.{Condition, TheVariants.{Existing, Folded}}}}
+use Rattle.rule_model.specs.declared.{condition.{Condition.TheVariants.{Negated, Plain}, Pattern.{Pattern}}, program.Program.{Program}}
 use Rattle.image_making.specs.Moved.{MovesApart}
 
 module _ (p q : Program) (m : Moves p q) where

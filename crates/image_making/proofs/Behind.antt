@@ -1,40 +1,21 @@
 -- A network can be loaded from what is made of an image.
 use Rattle.std.proofs.Common.{List, Option, Some, [], ap, ap₂, map, option_map, refl, slice_get, subst, suc, sym, take, true, ℕ, ℤ, ◌∙◌, ◌≡◌}
-use Rattle.std.proofs.lemmas.Option.{slice_get-map}
-use Rattle.std.specs.List.Sorted.{IsStrictlySortedBy}
+use Rattle.std.{proofs.lemmas.Option.{slice_get-map}, specs.List.Sorted.{IsStrictlySortedBy}}
 use Rattle.change_read.proofs.Places.{some_is}
 use Rattle.checkpoint.specs.declared.image.Image.{Image}
-use Rattle.fx_base.specs.Lists.{In}
-use Rattle.fx_base.specs.declared.fact.Fact.{Fact}
-use Rattle.image_change.proofs.Lists.{at_last, sorted_mapped}
-use Rattle.image_change.proofs.Lost.{binds_moved}
-use Rattle.image_change.proofs.Owners.{owners}
-use Rattle.image_change.specs.Images.{IsMovedExtra}
+use Rattle.fx_base.specs.{Lists.{In}, declared.fact.Fact.{Fact}}
+use Rattle.image_change.{proofs.{Lists.{at_last, sorted_mapped}, Lost.{binds_moved}, Owners.{owners}}, specs.Images.{IsMovedExtra, IsMovedImage}}
 use Rattle.image_fitting.specs.Plain.{FittingLaw, FitsPlainly}
 use Rattle.image_laws.specs.Fitting.{world_of}
-use Rattle.laden_rows.specs.Extras.{IsFirstWith}
-use Rattle.laden_rows.specs.Placed.{CanGather, IsPlaced}
+use Rattle.laden_rows.specs.{Extras.{IsFirstWith}, Placed.{CanGather, IsPlaced}}
 use Rattle.row_delta.specs.declared.extra.Extra.{Extra}
-use Rattle.rule_change.proofs.Changing.{alike_at_change}
-use Rattle.rule_change.proofs.Matching.{lawful_places, over_moves}
-use Rattle.rule_change.proofs.Rows.{present_same}
-use Rattle.rule_change.specs.Alike.{AreAlike, AreOver}
+use Rattle.rule_change.{proofs.{Changing.{alike_at_change}, Matching.{lawful_places, over_moves}, Rows.{present_same}}, specs.Alike.{AreAlike, AreOver}}
 use Rattle.rule_change.specs.Changed.{changed, moved_condition, moved_fact}
-use Rattle.rule_model.proofs.Listed.{of_map}
-use Rattle.rule_model.specs.Candidates.{is_present}
-use Rattle.rule_model.specs.Distinct.{tag_cmp}
-use Rattle.rule_model.specs.Moments.{moment_in}
-use Rattle.rule_model.specs.Snapshots.{Reached}
-use Rattle.rule_model.specs.declared.condition.Condition.{Condition}
-use Rattle.rule_model.specs.declared.condition.Condition.TheVariants.{Existing, Folded, Negated, Plain}
-use Rattle.rule_model.specs.declared.program.Program.{Program}
-use Rattle.rule_model.specs.declared.program.Rule.{Rule}
-use Rattle.rule_world.specs.Lawful.{IsLawful, IsSoundFact}
-use Rattle.rule_world.specs.Worlds.{World}
+use Rattle.rule_model.{proofs.Listed.{of_map}, specs.{Candidates.{is_present}, Distinct.{tag_cmp}, Moments.{moment_in}, Snapshots.{Reached}}}
+use Rattle.rule_model.specs.declared.{condition.Condition.{Condition, TheVariants.{Existing, Folded, Negated, Plain}}, program.{Program.{Program}, Rule.{Rule}}}
+use Rattle.rule_world.specs.{Lawful.{IsLawful, IsSoundFact}, Worlds.{World}}
 use mathlib.Core.Path.{fun_ext}
-use Rattle.image_making.specs.Laws.{ChangedCanBeLoaded, FittingCanBeLoaded}
-use Rattle.image_making.specs.Loads.{CanBeLoaded}
-use Rattle.image_change.specs.Images.{IsMovedImage}
+use Rattle.image_making.specs.{Laws.{ChangedCanBeLoaded, FittingCanBeLoaded}, Loads.{CanBeLoaded}}
 
 -- ---- a lawful world in which nothing was fired
 

@@ -1,23 +1,12 @@
 -- What comes of a network that is loaded from an image are the rows of the rules over its facts.
-use Rattle.std.proofs.Common.{Bool, List, None, Option, Some, [], ap, arith, cond, false, map, refl, sym}
-use Rattle.std.proofs.Common.{true, ℕ, ◌&&◌, ◌==◌, ◌↔◌, ◌∙◌, ◌∷◌, ◌||◌, ◌≡◌}
-use Rattle.std.proofs.lemmas.Bool.{eqb-true}
-use Rattle.std.proofs.lemmas.Bool.Decides.{nat_tests}
-use Rattle.std.specs.List.{AllByRecursion}
-use Rattle.std.specs.Ordering.{nat_cmp}
-use Rattle.std.specs.declared.cmp.Ordering.TheVariants.{Less}
-use Rattle.std.proofs.Math.Bool.{or-false}
-use Rattle.std.specs.List.Sorted.{IsStrictlySortedBy}
+use Rattle.std.proofs.Common.{Bool, List, None, Option, Some, [], ap, arith, cond, false, map, refl, sym, true, ℕ, ◌&&◌, ◌==◌, ◌↔◌, ◌∙◌, ◌∷◌, ◌||◌, ◌≡◌}
+use Rattle.std.{proofs.lemmas.Bool.{eqb-true, Decides.{nat_tests}}, specs.{List.{AllByRecursion}, Ordering.{nat_cmp}, declared.cmp.Ordering.TheVariants.{Less}}}
+use Rattle.std.{proofs.Math.Bool.{or-false}, specs.List.Sorted.{IsStrictlySortedBy}}
 use Rattle.checkpoint.specs.declared.image.Image.{Image}
-use Rattle.image_laws.specs.Fitting.{IsLadenMatch}
-use Rattle.image_laws.specs.Images.{snapshot_of}
-use Rattle.rete_net.specs.declared.changes.RuleChange.{RuleChange}
-use Rattle.rete_net.specs.Loading.{AreLadenRows, coming}
-use Rattle.rete_net.specs.Nets.{change_of}
-use Rattle.row_delta.specs.declared.delta.Delta.{Delta}
-use Rattle.row_delta.specs.Rows.{has}
-use Rattle.rule_model.specs.declared.matched.Match.{Match}
-use Rattle.rule_model.specs.declared.program.Program.{Program}
+use Rattle.image_laws.specs.{Fitting.{IsLadenMatch}, Images.{snapshot_of}}
+use Rattle.rete_net.specs.{declared.changes.RuleChange.{RuleChange}, Loading.{AreLadenRows, coming}, Nets.{change_of}}
+use Rattle.row_delta.specs.{declared.delta.Delta.{Delta}, Rows.{has}}
+use Rattle.rule_model.specs.declared.{matched.Match.{Match}, program.Program.{Program}}
 use Rattle.image_making.specs.Loads.{comes_by}
 
 abbrev rules_of : List RuleChange → List ℕ

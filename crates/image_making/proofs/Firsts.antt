@@ -1,16 +1,11 @@
 -- Moments of entry points, one after the other.
 use Rattle.std.proofs.Common.{List, Option, [], ap, arith, inl, inr, length, refl, subst, suc, sym, zero, ℕ, ℤ, pos, ◌++◌, ◌+◌, ◌<◌, ◌∙◌, ◌∷◌, ◌≡◌, ◌≤◌, ◌⊎◌}
+use Rattle.std.{proofs.lemmas.{Bool.{cases_lt}, Option.{slice_get_past}, List.{length-append}}, specs.Option.{option_and_then}}
 use Rattle.fx_base.proofs.Orders.{below_or_last}
-use Rattle.std.proofs.lemmas.Bool.{cases_lt}
 use Rattle.image_laws.specs.Images.{AreMoments}
 use Rattle.rule_change.specs.Changed.{entry_in, moment_or_zero}
-use Rattle.rule_model.specs.declared.program.Program.{Program}
-use Rattle.std.proofs.lemmas.Option.{slice_get_past}
-use Rattle.std.specs.Option.{option_and_then}
+use Rattle.rule_model.specs.{declared.program.{Program.{Program}, EntryInfo.{EntryInfo}}, Moments.{moment_in}}
 use Rattle.change_read.specs.Changes.{entry_named}
-use Rattle.rule_model.specs.declared.program.EntryInfo.{EntryInfo}
-use Rattle.std.proofs.lemmas.List.{length-append}
-use Rattle.rule_model.specs.Moments.{moment_in}
 
 -- the first so many moments
 pub record AreFirst (of : ℕ → ℤ) (entries : ℕ) (moments : List ℤ) : Type 0 where

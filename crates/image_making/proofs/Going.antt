@@ -1,37 +1,18 @@
 -- What is counted of forgotten facts goes on under the new rules, one after the other.
-use Rattle.std.proofs.Common.{Bool, List, None, Option, Some, [], ap, arith, cond, false, inl, inr, map, refl, subst, suc, sym, take, true, ℕ, ◌++◌}
-use Rattle.std.proofs.Common.{◌+◌, ◌↔◌, ◌∙◌, ◌∷◌, ◌≡◌, ◌⊎◌, append_assoc}
-use Rattle.std.proofs.lemmas.Bool.{cases_lt}
-use Rattle.std.proofs.lemmas.List.{append-nil}
-use Rattle.std.proofs.lemmas.Cmp.{nat_cmp_total, on_total, then_total}
-use Rattle.std.proofs.lemmas.Map.Entries.{btree_map_get_place}
-use Rattle.std.proofs.lemmas.Map.Lookups.{CmpEqualImpliesEq, exact_unsigned}
-use Rattle.std.specs.BTreeMap.{BTreeMap, IsOrdered, get, is_at}
-use Rattle.std.specs.Cmp.{IsTotalOrder}
-use Rattle.std.specs.List.Sorted.{IsStrictlySortedBy}
-use Rattle.std.specs.List.{AllByRecursion}
-use Rattle.std.specs.Map.{keys_of, lookup}
-use Rattle.std.specs.Ordering.{eq_by_cmp, nat_cmp, ordering_then}
-use Rattle.std.specs.declared.cmp.Ordering.{Ordering}
-use Rattle.std.specs.declared.cmp.Ordering.TheVariants.{Equal, Greater, Less}
+use Rattle.std.proofs.Common.{Bool, List, None, Option, Some, [], ap, arith, cond, false, inl, inr, map, refl, subst, suc, sym, take, true, ℕ, ◌++◌, ◌+◌, ◌↔◌}
+use Rattle.std.proofs.{Common.{◌∙◌, ◌∷◌, ◌≡◌, ◌⊎◌, append_assoc}, lemmas.{Bool.{cases_lt}, List.{append-nil}, Cmp.{nat_cmp_total, on_total, then_total}}}
+use Rattle.std.{proofs.lemmas.Map.{Entries.{btree_map_get_place}, Lookups.{CmpEqualImpliesEq, exact_unsigned}}, specs.BTreeMap.{BTreeMap, IsOrdered, get}}
+use Rattle.std.specs.{BTreeMap.{is_at}, Cmp.{IsTotalOrder}, List.{AllByRecursion, Sorted.{IsStrictlySortedBy}}, Map.{keys_of, lookup}, Ordering.{eq_by_cmp}}
+use Rattle.std.specs.{Ordering.{nat_cmp, ordering_then}, declared.cmp.Ordering.{Ordering, TheVariants.{Equal, Greater, Less}}}
 use Rattle.change_read.proofs.Places.{some_is}
-use Rattle.fx_base.proofs.Orders.{is_eq-true}
-use Rattle.fx_base.proofs.Sequences.{In-append, In-place}
-use Rattle.fx_base.specs.Lists.{In}
-use Rattle.fx_base.specs.declared.ids.RuleId.{RuleId}
-use Rattle.laden_rows.specs.Extras.{extra_cmp}
-use Rattle.laden_rows.specs.Placed.{IsPlaced}
-use Rattle.row_delta.specs.RowOrder.{row_exact, row_total}
-use Rattle.row_delta.specs.Rows.{row_cmp}
-use Rattle.row_delta.specs.declared.extra.Extra.{Extra}
+use Rattle.fx_base.{proofs.{Orders.{is_eq-true}, Sequences.{In-append, In-place}}, specs.{Lists.{In}, declared.ids.RuleId.{RuleId}}}
+use Rattle.laden_rows.specs.{Extras.{extra_cmp}, Placed.{IsPlaced}}
+use Rattle.row_delta.specs.{RowOrder.{row_exact, row_total}, Rows.{row_cmp}, declared.extra.Extra.{Extra}}
 use Rattle.rule_change.specs.Changed.{moved_condition}
-use Rattle.rule_model.proofs.Exact.{decides_by}
-use Rattle.rule_model.proofs.Listed.{in_left, in_map, in_right, of_map}
-use Rattle.rule_model.proofs.Sorted.{below_each}
-use Rattle.rule_model.specs.declared.condition.Condition.{Condition}
-use Rattle.rule_model.specs.declared.program.Program.{Program}
-use Rattle.rule_model.specs.declared.program.Rule.{Rule}
-use Rattle.image_making.specs.Moved.{Beyond, GoesOn, IsFirstMoved, IsMoved, IsNewPlace, IsPut, IsPutAt, MovesApart, Place, beyond_of, extra_in, place_cmp, place_of}
+use Rattle.rule_model.proofs.{Exact.{decides_by}, Listed.{in_left, in_map, in_right, of_map}, Sorted.{below_each}}
+use Rattle.rule_model.specs.declared.{condition.Condition.{Condition}, program.{Program.{Program}, Rule.{Rule}}}
+use Rattle.image_making.specs.Moved.{Beyond, GoesOn, IsFirstMoved, IsMoved, IsNewPlace, IsPut, IsPutAt, MovesApart, Place, beyond_of, extra_in, place_cmp}
+use Rattle.image_making.specs.Moved.{place_of}
 
 -- ---- places in order
 

@@ -1,20 +1,10 @@
 -- Facts by their tags, one after the other.
-use Rattle.std.proofs.Common.{Bool, List, Some, [], ap, arith, cond, false, get_or, inl, inr, length, map, option_map, subst, suc, sym, take, true}
-use Rattle.std.proofs.Common.{zero, ℕ, ◌+◌, ◌<◌, ◌==◌, ◌∙◌, ◌∷◌, ◌≡◌}
-use Rattle.std.proofs.Common.{◌⊎◌}
-use Rattle.std.proofs.lemmas.Bool.{eqb-true, false_from_ne_true}
-use Rattle.std.specs.Borrow.{Bor}
-use Rattle.std.specs.BTreeMap.{BTreeMap, get, is_at}
-use Rattle.std.specs.Ordering.{nat_cmp}
-use Rattle.fx_base.proofs.Orders.{eq_by_nat_cmp, eqb-self}
-use Rattle.fx_base.proofs.Sequences.{In-append}
-use Rattle.fx_base.specs.Lists.{In}
-use Rattle.fx_base.specs.declared.fact.Fact.{Fact}
-use Rattle.fx_base.specs.declared.ids.Tag.{Tag}
-use Rattle.rule_model.proofs.Listed.{in_map}
-use Rattle.rule_model.specs.Distinct.{HaveDistinctTags}
-use Rattle.image_making.specs.AtHand.{fact_in}
-use Rattle.image_making.proofs.Adding.{in_at, next_taken}
+use Rattle.std.proofs.Common.{Bool, List, Some, [], ap, arith, cond, false, get_or, inl, inr, length, map, option_map, subst, suc, sym, take, true, zero, ℕ}
+use Rattle.std.{proofs.{Common.{◌+◌, ◌<◌, ◌==◌, ◌∙◌, ◌∷◌, ◌≡◌, ◌⊎◌}, lemmas.Bool.{eqb-true, false_from_ne_true}}, specs.{Borrow.{Bor}, BTreeMap.{BTreeMap}}}
+use Rattle.std.specs.{BTreeMap.{get, is_at}, Ordering.{nat_cmp}}
+use Rattle.fx_base.{proofs.{Orders.{eq_by_nat_cmp, eqb-self}, Sequences.{In-append}}, specs.{Lists.{In}, declared.{fact.Fact.{Fact}, ids.Tag.{Tag}}}}
+use Rattle.rule_model.{proofs.Listed.{in_map}, specs.Distinct.{HaveDistinctTags}}
+use Rattle.image_making.{specs.AtHand.{fact_in}, proofs.Adding.{in_at, next_taken}}
 
 -- no fact before another has its tag
 apart : (facts : List Fact) → HaveDistinctTags facts → (i : ℕ) (x : Fact) → i < length facts → x ≡ get_or facts i x → (f : Fact) → In f (take i facts) → x.tag.0 ≡ f.tag.0 → ⊥

@@ -1,40 +1,21 @@
 -- A network can be loaded from an image.
-use Rattle.std.proofs.Common.{Err, Ok, Result}
-use Rattle.std.specs.Result.{IsErrAnd}
-use Rattle.rete_net.specs.declared.load.LoadFault.{LoadFault}
-use Rattle.rete_net.specs.declared.load.LoadFault.TheVariants.{NoRow}
-use Rattle.std.proofs.Common.{List, Some, ap, arith, false, refl, subst, sym, true, ℕ, ◌==◌, ◌↔◌, ◌∙◌, ◌≡◌, ◌≤ℤ◌}
-use Rattle.std.proofs.lemmas.Bool.{eqb-true}
-use Rattle.std.proofs.lemmas.Int.{ints}
+use Rattle.std.{proofs.Common.{Err, Ok, Result, List, Some, ap, arith, false, refl, subst, sym, true, ℕ, ◌==◌, ◌↔◌, ◌∙◌, ◌≡◌, ◌≤ℤ◌}, specs.Result.{IsErrAnd}}
+use Rattle.std.{proofs.lemmas.{Bool.{eqb-true}, Int.{ints}}, specs.Ordering.{nat_cmp}}
+use Rattle.rete_net.specs.{declared.{load.LoadFault.{LoadFault, TheVariants.{NoRow}}, changes.RuleChange.{RuleChange}}, Loading.{AreLadenRows, IsLoadable}}
+use Rattle.rete_net.specs.Loading.{IsThere}
 use Rattle.checkpoint.specs.declared.image.Image.{Image}
-use Rattle.condition_rows.proofs.Holding.{held_in}
-use Rattle.condition_rows.specs.Looks.{empty_snapshot}
-use Rattle.condition_rows.specs.Sets.{held}
-use Rattle.fx_base.specs.Lists.{In}
-use Rattle.fx_base.specs.declared.fact.Fact.{Fact}
-use Rattle.fx_base.specs.declared.ids.Tag.{Tag}
+use Rattle.condition_rows.{proofs.Holding.{held_in}, specs.{Looks.{empty_snapshot}, Sets.{held}}}
+use Rattle.fx_base.specs.{Lists.{In}, declared.{fact.Fact.{Fact}, ids.Tag.{Tag}}}
 use Rattle.image_change.proofs.Lists.{sorted_mapped}
-use Rattle.image_laws.specs.Images.{snapshot_of}
+use Rattle.image_laws.specs.{Images.{snapshot_of}, Fitting.{IsLadenMatch}}
 use Rattle.join_tests.specs.Joins.{Look}
 use Rattle.pattern_gate.specs.Moves.{IsOrderly}
-use Rattle.laden_rows.proofs.Extras.{found_in}
-use Rattle.laden_rows.specs.Laden.{AreOwners}
-use Rattle.image_laws.specs.Fitting.{IsLadenMatch}
-use Rattle.rete_net.specs.declared.changes.RuleChange.{RuleChange}
-use Rattle.rete_net.specs.Loading.{AreLadenRows, IsLoadable, IsThere}
+use Rattle.laden_rows.{proofs.Extras.{found_in}, specs.Laden.{AreOwners}}
 use Rattle.row_delta.specs.declared.extra.Extra.{Extra}
-use Rattle.rule_model.specs.declared.matched.Match.{Match}
-use Rattle.rule_model.proofs.Floors.{floor_on}
-use Rattle.rule_model.specs.declared.moment.Moment.{Moment}
-use Rattle.rule_model.specs.declared.program.Program.{Program}
-use Rattle.rule_model.specs.Distinct.{tag_cmp}
-use Rattle.rule_model.specs.Moments.{reached_in}
-use Rattle.rule_model.specs.Snapshots.{Snapshot}
-use Rattle.rule_model.specs.Types.{is_event}
+use Rattle.rule_model.{specs.declared.{matched.Match.{Match}, moment.Moment.{Moment}, program.Program.{Program}}, proofs.Floors.{floor_on}}
+use Rattle.rule_model.specs.{Distinct.{tag_cmp}, Moments.{reached_in}, Snapshots.{Snapshot}, Types.{is_event}}
 use Rattle.rule_world.specs.Events.{most_millis}
-use Rattle.std.specs.Ordering.{nat_cmp}
-use Rattle.image_making.specs.Loads.{CanBeLoaded, comes_by}
-use Rattle.image_making.proofs.Coming.{comes_laden}
+use Rattle.image_making.{specs.Loads.{CanBeLoaded, comes_by}, proofs.Coming.{comes_laden}}
 
 abbrev tag_of : ℕ → Tag
 tag_of n = record { 0 = n }

@@ -1,29 +1,16 @@
 -- What is made of the parts of an image is the image under other rules.
 use Rattle.std.proofs.Common.{List, None, Option, Some, ap, arith, length, map, refl, subst, suc, sym, take, true, ℕ, ℤ, ◌&&◌, ◌+◌, ◌↔◌, ◌∙◌, ◌≡◌}
-use Rattle.std.proofs.lemmas.Bool.{and_from, and_parts}
-use Rattle.std.proofs.lemmas.List.Kept.{IsStrictlySortedBy-filter}
-use Rattle.std.specs.List.{filter}
-use Rattle.std.specs.List.Sorted.{IsStrictlySortedBy}
+use Rattle.std.{proofs.lemmas.{Bool.{and_from, and_parts}, List.Kept.{IsStrictlySortedBy-filter}}, specs.List.{filter, Sorted.{IsStrictlySortedBy}}}
 use Rattle.change_read.proofs.Places.{some_is}
-use Rattle.checkpoint.specs.declared.image.FiredMatch.{FiredMatch}
-use Rattle.checkpoint.specs.declared.image.Image.{Image}
+use Rattle.checkpoint.specs.declared.image.{FiredMatch.{FiredMatch}, Image.{Image}}
 use Rattle.fx_base.specs.Lists.{In}
-use Rattle.image_change.specs.Images.{IsChangedImage, IsMovedExtra}
-use Rattle.image_laws.specs.Fitting.{IsLadenMatch}
-use Rattle.image_laws.specs.Images.{AreMoments, has_fired, match_fired}
-use Rattle.laden_rows.specs.Laden.{AreOwners}
-use Rattle.laden_rows.specs.Placed.{IsPlaced}
+use Rattle.image_change.specs.Images.{IsChangedImage, IsMovedExtra, IsMovedImage}
+use Rattle.image_laws.specs.{Fitting.{IsLadenMatch}, Images.{AreMoments, has_fired, match_fired}}
+use Rattle.laden_rows.specs.{Laden.{AreOwners}, Placed.{IsPlaced}}
 use Rattle.row_delta.specs.declared.extra.Extra.{Extra}
-use Rattle.rule_change.proofs.Changing.{filtered}
-use Rattle.rule_change.specs.Changed.{entry_in, is_marked, moment_or_zero, moved_condition, was_fired}
-use Rattle.rule_model.specs.declared.matched.Match.{Match}
-use Rattle.rule_model.specs.declared.program.Program.{Program}
-use Rattle.rule_model.specs.declared.program.Rule.{Rule}
-use Rattle.rule_model.specs.Matches.{has_match, match_cmp}
-use Rattle.rule_model.specs.Moments.{moment_in}
-use Rattle.image_making.proofs.Going.{unmapped}
-use Rattle.image_change.specs.Images.{IsMovedImage}
-use Rattle.image_making.specs.Moved.{Begins, IsFirstMoved, IsMoved}
+use Rattle.rule_change.{proofs.Changing.{filtered}, specs.Changed.{entry_in, is_marked, moment_or_zero, moved_condition, was_fired}}
+use Rattle.rule_model.specs.{declared.{matched.Match.{Match}, program.{Program.{Program}, Rule.{Rule}}}, Matches.{has_match, match_cmp}, Moments.{moment_in}}
+use Rattle.image_making.{proofs.Going.{unmapped}, specs.Moved.{Begins, IsFirstMoved, IsMoved}}
 
 pub made_moments : (p q : Program) (given was made listed : List ℤ) → given ≡ was → listed ≡ made
     → AreMoments (λ entry. moment_or_zero (moment_in given) (entry_in q p entry)) (length q.entries) made

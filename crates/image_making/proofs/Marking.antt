@@ -1,28 +1,14 @@
 -- Fired matches, one after the other, and what is told of matches.
-use Rattle.std.proofs.Common.{Bool, List, None, Option, Some, [], ap, cond, false, map, refl, sym, true, ℕ, ◌++◌, ◌↔◌, ◌∙◌, ◌∷◌, ◌||◌, ◌≡◌}
-use Rattle.std.proofs.lemmas.List.{map-append}
-use Rattle.std.proofs.Math.Bool.{or-false}
-use Rattle.std.specs.List.{filter, list_all, list_any}
-use Rattle.std.proofs.Common.{append_assoc}
-use Rattle.std.proofs.lemmas.List.Folds.{list_any-append}
-use Rattle.std.specs.Option.{option_and_then}
-use Rattle.std.specs.Ordering.{eq_by_cmp}
-use Rattle.std.specs.Prelude.{slice_get}
+use Rattle.std.proofs.Common.{Bool, List, None, Option, Some, [], ap, cond, false, map, refl, sym, true, ℕ, ◌++◌, ◌↔◌, ◌∙◌, ◌∷◌, ◌||◌, ◌≡◌, append_assoc}
+use Rattle.std.{proofs.{lemmas.List.{map-append, Folds.{list_any-append}}, Math.Bool.{or-false}}, specs.List.{filter, list_all, list_any}}
+use Rattle.std.{specs.{Option.{option_and_then}, Ordering.{eq_by_cmp}, Prelude.{slice_get}}, proofs.lemmas.Bool.{eq-eqb, eqb-true}}
 use Rattle.change_rules.specs.Staying.{place_in}
-use Rattle.checkpoint.specs.declared.image.FiredMatch.{FiredMatch}
-use Rattle.checkpoint.specs.declared.image.Image.{Image}
-use Rattle.fx_base.proofs.Sequences.{In-place, list_all-In, list_all-from, list_any-In, list_any-from}
-use Rattle.fx_base.proofs.Tests.{cond_true_first}
-use Rattle.fx_base.specs.Lists.{In}
-use Rattle.image_laws.specs.Fitting.{IsLadenMatch}
-use Rattle.image_laws.specs.Images.{has_fired, match_fired}
+use Rattle.checkpoint.specs.declared.image.{FiredMatch.{FiredMatch}, Image.{Image}}
+use Rattle.fx_base.{proofs.{Sequences.{In-place, list_all-In, list_all-from, list_any-In, list_any-from}, Tests.{cond_true_first}}, specs.Lists.{In}}
+use Rattle.image_laws.specs.{Fitting.{IsLadenMatch}, Images.{has_fired, match_fired}}
 use Rattle.rule_change.specs.Told.{is_place}
-use Rattle.rule_model.proofs.RuleOf.{has_in, in_has, in_place}
-use Rattle.rule_model.specs.declared.matched.Match.{Match}
-use Rattle.rule_model.specs.declared.program.Program.{Program}
-use Rattle.rule_model.specs.MatchOrders.{match_equiv}
+use Rattle.rule_model.{proofs.RuleOf.{has_in, in_has, in_place}, specs.{declared.{matched.Match.{Match}, program.Program.{Program}}, MatchOrders.{match_equiv}}}
 use Rattle.rule_model.specs.Matches.{has_match, match_cmp}
-use Rattle.std.proofs.lemmas.Bool.{eq-eqb, eqb-true}
 use Rattle.image_making.specs.Marks.{if_marked, is_told}
 
 -- one fired match more

@@ -2,21 +2,14 @@
 use Rattle.std.proofs.Common.{None, Option, false, sym, true, ℕ, ◌∙◌, ◌≡◌}
 use Rattle.checkpoint.specs.declared.image.Image.{Image}
 use Rattle.fx_base.specs.Lists.{In}
-use Rattle.image_change.proofs.Changed.{rows_there}
-use Rattle.image_change.proofs.Kept.{IsTaken}
-use Rattle.image_change.proofs.Owners.{owners}
-use Rattle.image_change.specs.Images.{IsMovedImage}
-use Rattle.image_laws.specs.Fitting.{Fits}
-use Rattle.image_laws.specs.Images.{snapshot_of}
+use Rattle.image_change.{proofs.{Changed.{rows_there}, Kept.{IsTaken}, Owners.{owners}}, specs.Images.{IsMovedImage}}
+use Rattle.image_laws.specs.{Fitting.{Fits}, Images.{snapshot_of}}
 use Rattle.laden_rows.specs.Laden.{AreOwners}
 use Rattle.rete_net.specs.Loading.{IsThere}
 use Rattle.row_delta.specs.declared.extra.Extra.{Extra}
-use Rattle.rule_change.specs.Alike.{AreOver}
-use Rattle.rule_change.specs.Refused.{IsVerdict}
+use Rattle.rule_change.specs.{Alike.{AreOver}, Refused.{IsVerdict}}
 use Rattle.life_meaning.specs.Tables.{AreLives}
-use Rattle.rule_model.specs.Lives.{AreShort}
-use Rattle.rule_model.specs.declared.life.LifeTable.{LifeTable}
-use Rattle.rule_model.specs.declared.program.Program.{Program}
+use Rattle.rule_model.specs.{Lives.{AreShort}, declared.{life.LifeTable.{LifeTable}, program.Program.{Program}}}
 use Rattle.rule_world.specs.Worlds.{World}
 use Rattle.image_making.specs.Change.{IsWorldOf}
 

@@ -1,16 +1,11 @@
 -- What is made where other rules are taken.
 use Rattle.std.proofs.Common.{None, Option, ap, subst, sym, ℕ, ◌∙◌, ◌≡◌}
-use Rattle.checkpoint.specs.declared.image.Image.{Image}
-use Rattle.checkpoint.specs.declared.image.RunPart.{RunPart}
+use Rattle.checkpoint.specs.declared.image.{Image.{Image}, RunPart.{RunPart}}
 use Rattle.image_change.specs.Images.{ChangedFits, ChangedIsImage, IsChangedImage}
-use Rattle.image_laws.specs.Fitting.{Fits}
-use Rattle.image_laws.specs.Images.{IsImageOf}
+use Rattle.image_laws.specs.{Fitting.{Fits}, Images.{IsImageOf}}
 use Rattle.laden_rows.specs.Placed.{IsSmall}
-use Rattle.rule_change.specs.Alike.{AreOver}
-use Rattle.rule_change.specs.Changed.{carried, changed}
-use Rattle.rule_change.specs.Refused.{HaveEntries, HaveTypes}
-use Rattle.rule_model.specs.declared.life.LifeTable.{LifeTable}
-use Rattle.rule_model.specs.declared.program.Program.{Program}
+use Rattle.rule_change.specs.{Alike.{AreOver}, Changed.{carried, changed}, Refused.{HaveEntries, HaveTypes}}
+use Rattle.rule_model.specs.declared.{life.LifeTable.{LifeTable}, program.Program.{Program}}
 use Rattle.image_making.specs.Change.{AreRules, IsTakenOver, IsVerdictOf}
 
 pub are_over : (p q : Program) (from : ℕ → Option ℕ) → AreRules p q from → HaveTypes p q → HaveEntries p q → AreOver p q from

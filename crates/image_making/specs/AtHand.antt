@@ -1,12 +1,6 @@
 -- Lent facts by their tags.
-use Rattle.std.specs.Prelude.{◌≡◌, ℕ, List, Option, Some}
-use Rattle.std.specs.Borrow.{Bor}
-use Rattle.std.specs.BTreeMap.{BTreeMap, get}
-use Rattle.std.specs.Option.{option_map}
-use Rattle.std.specs.Ordering.{nat_cmp}
-use Rattle.fx_base.specs.Lists.{In}
-use Rattle.fx_base.specs.declared.fact.Fact.{Fact}
-use Rattle.fx_base.specs.declared.ids.Tag.{Tag}
+use Rattle.std.specs.{Prelude.{◌≡◌, ℕ, List, Option, Some}, Borrow.{Bor}, BTreeMap.{BTreeMap, get}, Option.{option_map}, Ordering.{nat_cmp}}
+use Rattle.fx_base.specs.{Lists.{In}, declared.{fact.Fact.{Fact}, ids.Tag.{Tag}}}
 use Rattle.image_making.specs.declared.at_hand.AtHand.{AtHand}
 
 abbrev pub fact_in : BTreeMap ℕ (Bor Fact) → Tag → Option Fact

@@ -2,20 +2,13 @@
 use Rattle.std.specs.Prelude.{◌≡◌, ℕ, Option, None}
 use Rattle.checkpoint.specs.declared.image.Image.{Image}
 use Rattle.image_change.specs.Images.{IsChangedImage}
-use Rattle.image_laws.specs.Fitting.{Fits, IsNextNumber}
-use Rattle.image_laws.specs.Images.{IsImageOf}
+use Rattle.image_laws.specs.{Fitting.{Fits, IsNextNumber}, Images.{IsImageOf}}
 use Rattle.laden_rows.specs.Placed.{IsSmall}
-use Rattle.rule_change.specs.declared.code.ChangeCode.{ChangeCode}
-use Rattle.rule_change.specs.Alike.{AreOver, HaveNames, HavePlaces}
-use Rattle.rule_change.specs.Changed.{AreFrom, carried, changed}
+use Rattle.rule_change.specs.{declared.code.ChangeCode.{ChangeCode}, Alike.{AreOver, HaveNames, HavePlaces}, Changed.{AreFrom, carried, changed}}
 use Rattle.rule_change.specs.Refused.{IsVerdict}
 use Rattle.life_meaning.specs.Tables.{AreLives, IsSafeTable}
-use Rattle.rule_model.specs.Lives.{AreShort}
-use Rattle.rule_model.specs.declared.life.LifeTable.{LifeTable}
-use Rattle.rule_model.specs.declared.program.Program.{Program}
-use Rattle.rule_world.specs.Lawful.{IsLawful}
-use Rattle.rule_world.specs.Programs.{IsRunnable}
-use Rattle.rule_world.specs.Worlds.{World}
+use Rattle.rule_model.specs.{Lives.{AreShort}, declared.{life.LifeTable.{LifeTable}, program.Program.{Program}}}
+use Rattle.rule_world.specs.{Lawful.{IsLawful}, Programs.{IsRunnable}, Worlds.{World}}
 
 -- rules and others, of which those that stay are known
 pub record AreRules (p q : Program) (from : ℕ → Option ℕ) : Type 0 where

@@ -2,11 +2,9 @@
 use Rattle.std.specs.Prelude.{ℕ, Option}
 use Rattle.checkpoint.specs.declared.image.Image.{Image}
 use Rattle.rule_change.specs.Alike.{AreOver}
-use Rattle.rule_model.specs.declared.life.LifeTable.{LifeTable}
-use Rattle.rule_model.specs.declared.program.Program.{Program}
-use Rattle.image_making.specs.Loads.{CanBeLoaded}
+use Rattle.rule_model.specs.declared.{life.LifeTable.{LifeTable}, program.Program.{Program}}
+use Rattle.image_making.specs.{Loads.{CanBeLoaded}, Moved.{MovesApart}}
 use Rattle.image_change.specs.Images.{IsMovedImage}
-use Rattle.image_making.specs.Moved.{MovesApart}
 use Rattle.image_laws.specs.Fitting.{Fits}
 use Rattle.life_meaning.specs.Tables.{AreSafe}
 use Rattle.rule_world.specs.Programs.{IsRunnable}

@@ -1,20 +1,11 @@
 -- What a network is loaded with from an image, and what comes of it.
-use Rattle.std.specs.Prelude.{◌≡◌, ◌==◌, ◌&&◌, Bool, true, List}
-use Rattle.std.specs.List.{list_any}
-use Rattle.std.specs.List.Sorted.{IsStrictlySortedBy}
-use Rattle.fx_base.specs.Lists.{In}
-use Rattle.fx_base.specs.declared.fact.Fact.{Fact}
-use Rattle.row_delta.specs.declared.extra.Extra.{Extra}
-use Rattle.row_delta.specs.Rows.{has}
+use Rattle.std.specs.{Prelude.{◌≡◌, ◌==◌, ◌&&◌, Bool, true, List}, List.{list_any, Sorted.{IsStrictlySortedBy}}}
+use Rattle.fx_base.specs.{Lists.{In}, declared.fact.Fact.{Fact}}
+use Rattle.row_delta.specs.{declared.extra.Extra.{Extra}, Rows.{has}}
 use Rattle.checkpoint.specs.declared.image.Image.{Image}
-use Rattle.rule_model.specs.declared.matched.Match.{Match}
-use Rattle.rule_model.specs.declared.program.Program.{Program}
-use Rattle.rule_model.specs.Candidates.{is_present}
-use Rattle.rule_model.specs.Distinct.{tag_cmp}
-use Rattle.rule_world.specs.Lawful.{IsLawful}
-use Rattle.rule_world.specs.Programs.{IsRunnable}
-use Rattle.laden_rows.specs.Extras.{extra_cmp}
-use Rattle.laden_rows.specs.Placed.{IsPlaced}
+use Rattle.rule_model.specs.{declared.{matched.Match.{Match}, program.Program.{Program}}, Candidates.{is_present}, Distinct.{tag_cmp}}
+use Rattle.rule_world.specs.{Lawful.{IsLawful}, Programs.{IsRunnable}}
+use Rattle.laden_rows.specs.{Extras.{extra_cmp}, Placed.{IsPlaced}}
 use Rattle.image_laws.specs.Fitting.{world_of}
 use Rattle.rete_net.specs.declared.changes.RuleChange.{RuleChange}
 

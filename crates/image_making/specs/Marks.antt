@@ -1,9 +1,7 @@
 -- What is told of matches one after the other.
-use Rattle.std.specs.Prelude.{◌||◌, ℕ, Bool, cond, List, [], ◌∷◌, Option}
-use Rattle.std.specs.List.{list_any}
+use Rattle.std.specs.{Prelude.{◌||◌, ℕ, Bool, cond, List, [], ◌∷◌, Option}, List.{list_any}}
 use Rattle.rule_change.specs.Told.{is_place}
-use Rattle.rule_model.specs.declared.matched.Match.{Match}
-use Rattle.rule_model.specs.Matches.{has_match}
+use Rattle.rule_model.specs.{declared.matched.Match.{Match}, Matches.{has_match}}
 
 abbrev pub if_marked : Bool → Match → List Match
 if_marked marked m = cond marked (m ∷ []) []

@@ -1,17 +1,10 @@
 -- What is counted of forgotten facts, under the new rules.
-use Rattle.std.specs.Prelude.{◌≡◌, ◌<◌, ◌+◌, ℕ, ℤ, cond, List, map, take, Option, Some, None, slice_get}
-use Rattle.std.specs.BTreeMap.{BTreeMap, get}
-use Rattle.std.specs.Ordering.{eq_by_cmp, nat_cmp, ordering_then}
-use Rattle.std.specs.declared.cmp.Ordering.{Ordering}
-use Rattle.fx_base.specs.Lists.{In}
-use Rattle.fx_base.specs.declared.ids.RuleId.{RuleId}
-use Rattle.row_delta.specs.declared.extra.Extra.{Extra}
-use Rattle.row_delta.specs.declared.row.Row.{Row}
-use Rattle.row_delta.specs.Rows.{row_cmp}
+use Rattle.std.specs.{Prelude.{◌≡◌, ◌<◌, ◌+◌, ℕ, ℤ, cond, List, map, take, Option, Some, None, slice_get}, BTreeMap.{BTreeMap, get}, Ordering.{eq_by_cmp}}
+use Rattle.std.specs.{Ordering.{nat_cmp, ordering_then}, declared.cmp.Ordering.{Ordering}}
+use Rattle.fx_base.specs.{Lists.{In}, declared.ids.RuleId.{RuleId}}
+use Rattle.row_delta.specs.{declared.{extra.Extra.{Extra}, row.Row.{Row}}, Rows.{row_cmp}}
 use Rattle.rule_change.specs.Changed.{moved_condition}
-use Rattle.rule_model.specs.declared.condition.Condition.{Condition}
-use Rattle.rule_model.specs.declared.program.Program.{Program}
-use Rattle.rule_model.specs.declared.program.Rule.{Rule}
+use Rattle.rule_model.specs.declared.{condition.Condition.{Condition}, program.{Program.{Program}, Rule.{Rule}}}
 
 -- ---- where it goes
 

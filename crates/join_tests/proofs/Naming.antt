@@ -1,11 +1,9 @@
 -- The value under which a candidate is kept, and those under which rows are sought for it, by its side of the equalities and of the range of time.
-use Rattle.join_tests.proofs.Common.{◌≡◌, ◌∙◌, sym, ap, refl, ℕ, pos, ◌+ℤ◌, ◌-ℤ◌, List, [], ◌∷◌, map, Option, Some, None, option_map}
-use Rattle.join_tests.proofs.Common.{Value, Named, Pattern, JoinKey, TimeKey, Look, join_keys, candidate_part, given_or_true, field_of, as_one, time_key}
-use Rattle.join_tests.proofs.Common.{candidate_moment, first_event, last_event, moment_at_point, slot_value, with_slot, once, kept_under, sought_under}
-use Rattle.join_tests.specs.declared.name_key.NameKey.{NameKey}
-use Rattle.join_tests.specs.declared.name_key.NameTime.{NameTime}
-use Rattle.join_tests.specs.Kept.{candidate_value, rows_sought}
-use Rattle.join_tests.specs.NameKeys.{name_field, name_time, name_key, KeptAlikeLaw, SoughtAlikeLaw}
+use Rattle.join_tests.proofs.Common.{◌≡◌, ◌∙◌, sym, ap, refl, ℕ, pos, ◌+ℤ◌, ◌-ℤ◌, List, [], ◌∷◌, map, Option, Some, None, option_map, Value, Named, Pattern}
+use Rattle.join_tests.proofs.Common.{JoinKey, TimeKey, Look, join_keys, candidate_part, given_or_true, field_of, as_one, time_key, candidate_moment}
+use Rattle.join_tests.proofs.Common.{first_event, last_event, moment_at_point, slot_value, with_slot, once, kept_under, sought_under}
+use Rattle.join_tests.specs.{declared.name_key.{NameKey.{NameKey}, NameTime.{NameTime}}, Kept.{candidate_value, rows_sought}, NameKeys.{name_field, name_time}}
+use Rattle.join_tests.specs.NameKeys.{name_key, KeptAlikeLaw, SoughtAlikeLaw}
 
 module _ (look : Look) (who : Named) where
   abbrev field_part : ℕ → Value

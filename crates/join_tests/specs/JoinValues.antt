@@ -1,7 +1,6 @@
 -- The value behind a join value.
 use Rattle.fx_base.specs.declared.value.Value.{Value}
-use Rattle.join_tests.specs.declared.join_value.JoinValue.{JoinValue}
-use Rattle.join_tests.specs.declared.join_value.JoinValue.TheVariants.{Lent, Made}
+use Rattle.join_tests.specs.declared.join_value.JoinValue.{JoinValue, TheVariants.{Lent, Made}}
 
 abbrev pub shown : JoinValue → Value
 shown (Lent v) = v.now

@@ -1,16 +1,8 @@
 -- When a candidate that is named joins a row, by the facts that are at hand.
-use Rattle.std.specs.Prelude.{Bool, false, List, [], ◌∷◌, Option, Some, None, cond}
-use Rattle.std.specs.Option.{option_map, option_and_then}
-use Rattle.std.specs.Ordering.{eq_by_cmp}
-use Rattle.fx_base.specs.declared.ids.Tag.{Tag}
-use Rattle.fx_base.specs.declared.fact.Fact.{Fact}
-use Rattle.row_delta.specs.declared.row.Named.{Named}
-use Rattle.row_delta.specs.declared.row.Row.{Row}
-use Rattle.row_delta.specs.NameOrder.{name_cmp}
-use Rattle.rule_model.specs.declared.condition.Pattern.{Pattern}
-use Rattle.rule_model.specs.Tuples.{Tuple, name_of}
-use Rattle.rule_model.specs.Lent.{tuple_of}
-use Rattle.rule_model.specs.Candidates.{passes}
+use Rattle.std.specs.{Prelude.{Bool, false, List, [], ◌∷◌, Option, Some, None, cond}, Option.{option_map, option_and_then}, Ordering.{eq_by_cmp}}
+use Rattle.fx_base.specs.declared.{ids.Tag.{Tag}, fact.Fact.{Fact}}
+use Rattle.row_delta.specs.{declared.row.{Named.{Named}, Row.{Row}}, NameOrder.{name_cmp}}
+use Rattle.rule_model.specs.{declared.condition.Pattern.{Pattern}, Tuples.{Tuple, name_of}, Lent.{tuple_of}, Candidates.{passes}}
 
 -- the versions of facts that are at hand, by their tags
 abbrev pub Look : Type 0

@@ -1,21 +1,11 @@
 -- The value under which a row or a candidate is kept, and the values under which the other side is sought.
-use Rattle.std.specs.Prelude.{◌≡◌, ℤ, Bool, cond, List, [], ◌∷◌, ◌++◌, map, Option, Some, None}
-use Rattle.std.specs.List.{list_any}
-use Rattle.fx_base.specs.declared.value.Value.{Value}
-use Rattle.fx_base.specs.Values.{same_value}
-use Rattle.row_delta.specs.declared.row.Named.{Named}
-use Rattle.row_delta.specs.declared.row.Row.{Row}
+use Rattle.std.specs.{Prelude.{◌≡◌, ℤ, Bool, cond, List, [], ◌∷◌, ◌++◌, map, Option, Some, None}, List.{list_any}}
+use Rattle.fx_base.specs.{declared.value.Value.{Value}, Values.{same_value}}
+use Rattle.row_delta.specs.declared.row.{Named.{Named}, Row.{Row}}
 use Rattle.rule_model.specs.declared.condition.Pattern.{Pattern}
-use Rattle.join_tests.specs.declared.time_key.TimeKey.{TimeKey}
-use Rattle.join_tests.specs.declared.sought.Sought.{Sought}
-use Rattle.join_tests.specs.declared.sought.Sought.TheVariants.{One, Two}
-use Rattle.join_tests.specs.declared.sought.Sight.{Sight}
-use Rattle.join_tests.specs.declared.sought.Sight.TheVariants.{Alike, Apart}
-use Rattle.join_tests.specs.Joins.{Look}
-use Rattle.join_tests.specs.JoinValues.{shown}
-use Rattle.join_tests.specs.Keys.{join_keys, row_part, candidate_part, as_one}
-use Rattle.join_tests.specs.TimeKeys.{time_key}
-use Rattle.join_tests.specs.Slots.{slot_value, row_moment, candidate_moment, first_event, last_event, first_candidate, last_candidate}
+use Rattle.join_tests.specs.declared.{time_key.TimeKey.{TimeKey}, sought.{Sought.{Sought, TheVariants.{One, Two}}, Sight.{Sight, TheVariants.{Alike, Apart}}}}
+use Rattle.join_tests.specs.{Joins.{Look}, JoinValues.{shown}, Keys.{join_keys, row_part, candidate_part, as_one}, TimeKeys.{time_key}, Slots.{slot_value}}
+use Rattle.join_tests.specs.Slots.{row_moment, candidate_moment, first_event, last_event, first_candidate, last_candidate}
 
 -- the values of equalities, and a slot behind them, as one value
 abbrev pub with_slot : List Value → Value → Value

@@ -1,16 +1,9 @@
 -- How a keyed pattern has its equalities at hand.
-use Rattle.std.specs.Prelude.{List, [], ◌∷◌}
-use Rattle.std.specs.Option.{option_map}
+use Rattle.std.specs.{Prelude.{List, [], ◌∷◌}, Option.{option_map}}
 use Rattle.fx_base.specs.declared.value.Value.{Value}
-use Rattle.rule_model.specs.Lent.{bound_in}
-use Rattle.rule_model.specs.Tests.{field_of}
-use Rattle.join_tests.specs.declared.key.JoinKey.{JoinKey}
-use Rattle.join_tests.specs.declared.key.Keying.{Keying}
-use Rattle.join_tests.specs.declared.key.Keying.TheVariants.{Nothing, One, Several}
-use Rattle.join_tests.specs.declared.part.Partner.{Partner}
-use Rattle.join_tests.specs.declared.part.Partner.TheVariants.{OfRow, OfCandidate}
-use Rattle.join_tests.specs.Joins.{Look}
-use Rattle.join_tests.specs.Keys.{earlier_value, given_or_true}
+use Rattle.rule_model.specs.{Lent.{bound_in}, Tests.{field_of}}
+use Rattle.join_tests.specs.declared.{key.{JoinKey.{JoinKey}, Keying.{Keying, TheVariants.{Nothing, One, Several}}}, part.Partner.{Partner}}
+use Rattle.join_tests.specs.{declared.part.Partner.TheVariants.{OfRow, OfCandidate}, Joins.{Look}, Keys.{earlier_value, given_or_true}}
 
 -- with one equality more
 abbrev pub and_one : Keying → JoinKey → Keying

@@ -1,28 +1,15 @@
 -- The equalities of a pattern by which rows and candidates find each other, and the values that they compare.
-use Rattle.std.specs.Prelude.{ℕ, ℤ, true, List, [], ◌∷◌, ◌++◌, fold, Option, Some, None}
-use Rattle.std.specs.Int.{w64, cast_signed}
+use Rattle.std.specs.{Prelude.{ℕ, ℤ, true, List, [], ◌∷◌, ◌++◌, fold, Option, Some, None}, Int.{w64, cast_signed}}
 use Rattle.std.specs.Hash as fed
 use Rattle.std.specs.Hash.{HashWrites}
 use Rattle.std.specs.Hash.FoldHasher as hasher
 use Rattle.std.specs.declared.hash.FoldHasher.{FoldHasher}
-use Rattle.fx_base.specs.declared.value.Value.{Value}
-use Rattle.fx_base.specs.declared.value.Value.TheVariants.{Int, Bool as Flag, Text}
-use Rattle.row_delta.specs.declared.row.Named.{Named}
-use Rattle.row_delta.specs.declared.row.Row.{Row}
-use Rattle.rule_model.specs.declared.test.RelTag.{RelTag}
-use Rattle.rule_model.specs.declared.test.RelTag.TheVariants.{OneOf, Equal, NotEqual, Less, LessOrEqual, Greater, GreaterOrEqual}
-use Rattle.rule_model.specs.declared.test.Side.{Side}
-use Rattle.rule_model.specs.declared.test.Side.TheVariants.{Lit, Own, Of, Result}
-use Rattle.rule_model.specs.declared.test.Compare.{Compare}
-use Rattle.rule_model.specs.declared.test.Test.{Test}
-use Rattle.rule_model.specs.declared.condition.Pattern.{Pattern}
-use Rattle.rule_model.specs.Lent.{bound_in}
-use Rattle.rule_model.specs.Tests.{field_of, side_value}
-use Rattle.rule_model.specs.Tuples.{Bindings}
-use Rattle.join_tests.specs.declared.key.JoinSide.{JoinSide}
-use Rattle.join_tests.specs.declared.key.JoinSide.TheVariants.{Field, Accumulated}
-use Rattle.join_tests.specs.declared.key.JoinKey.{JoinKey}
-use Rattle.join_tests.specs.Joins.{Look}
+use Rattle.fx_base.specs.declared.value.Value.{Value, TheVariants.{Int, Bool as Flag, Text}}
+use Rattle.row_delta.specs.declared.row.{Named.{Named}, Row.{Row}}
+use Rattle.rule_model.specs.declared.test.{RelTag.{RelTag, TheVariants.{OneOf, Equal, NotEqual, Less, LessOrEqual, Greater, GreaterOrEqual}}, Side.{Side}}
+use Rattle.rule_model.specs.declared.{test.{Side.TheVariants.{Lit, Own, Of, Result}, Compare.{Compare}, Test.{Test}}, condition.Pattern.{Pattern}}
+use Rattle.rule_model.specs.{Lent.{bound_in}, Tests.{field_of, side_value}, Tuples.{Bindings}}
+use Rattle.join_tests.specs.{declared.key.{JoinSide.{JoinSide, TheVariants.{Field, Accumulated}}, JoinKey.{JoinKey}}, Joins.{Look}}
 
 -- ---- the keys
 

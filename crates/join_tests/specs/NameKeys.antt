@@ -1,16 +1,9 @@
 -- What of a pattern decides under which value a candidate is kept, and under which values rows are sought for it.
-use Rattle.std.specs.Prelude.{◌≡◌, ℕ, map}
-use Rattle.std.specs.Option.{option_map}
+use Rattle.std.specs.{Prelude.{◌≡◌, ℕ, map}, Option.{option_map}}
 use Rattle.row_delta.specs.declared.row.Named.{Named}
 use Rattle.rule_model.specs.declared.condition.Pattern.{Pattern}
-use Rattle.join_tests.specs.declared.key.JoinKey.{JoinKey}
-use Rattle.join_tests.specs.declared.name_key.NameKey.{NameKey}
-use Rattle.join_tests.specs.declared.name_key.NameTime.{NameTime}
-use Rattle.join_tests.specs.declared.time_key.TimeKey.{TimeKey}
-use Rattle.join_tests.specs.Joins.{Look}
-use Rattle.join_tests.specs.Keys.{join_keys}
-use Rattle.join_tests.specs.TimeKeys.{time_key}
-use Rattle.join_tests.specs.Kept.{candidate_value, rows_sought}
+use Rattle.join_tests.specs.{declared.{key.JoinKey.{JoinKey}, name_key.{NameKey.{NameKey}, NameTime.{NameTime}}, time_key.TimeKey.{TimeKey}}, Joins.{Look}}
+use Rattle.join_tests.specs.{Keys.{join_keys}, TimeKeys.{time_key}, Kept.{candidate_value, rows_sought}}
 
 -- the candidate's side of an equality
 abbrev pub name_field : JoinKey → ℕ

@@ -1,19 +1,10 @@
 -- What of a pattern decides under which value a row is kept.
-use Rattle.std.specs.Prelude.{List, map, Option, Some, None}
-use Rattle.std.specs.Option.{option_map}
+use Rattle.std.specs.{Prelude.{List, map, Option, Some, None}, Option.{option_map}}
 use Rattle.fx_base.specs.declared.value.Value.{Value}
 use Rattle.row_delta.specs.declared.row.Row.{Row}
-use Rattle.rule_model.specs.declared.condition.Pattern.{Pattern}
-use Rattle.rule_model.specs.Lent.{bound_in}
-use Rattle.join_tests.specs.declared.key.JoinSide.{JoinSide}
-use Rattle.join_tests.specs.declared.key.JoinKey.{JoinKey}
-use Rattle.join_tests.specs.declared.row_key.RowKey.{RowKey}
-use Rattle.join_tests.specs.declared.row_key.RowTime.{RowTime}
-use Rattle.join_tests.specs.declared.time_key.TimeKey.{TimeKey}
-use Rattle.join_tests.specs.Joins.{Look}
-use Rattle.join_tests.specs.Keys.{join_keys, earlier_value, given_or_true, as_one}
-use Rattle.join_tests.specs.TimeKeys.{time_key}
-use Rattle.join_tests.specs.Slots.{moment_at_point, slot_value}
+use Rattle.rule_model.specs.{declared.condition.Pattern.{Pattern}, Lent.{bound_in}}
+use Rattle.join_tests.specs.declared.{key.{JoinSide.{JoinSide}, JoinKey.{JoinKey}}, row_key.{RowKey.{RowKey}, RowTime.{RowTime}}, time_key.TimeKey.{TimeKey}}
+use Rattle.join_tests.specs.{Joins.{Look}, Keys.{join_keys, earlier_value, given_or_true, as_one}, TimeKeys.{time_key}, Slots.{moment_at_point, slot_value}}
 use Rattle.join_tests.specs.Kept.{with_slot}
 
 -- the row's side of an equality

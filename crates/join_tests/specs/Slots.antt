@@ -1,18 +1,9 @@
 -- Slots of time as long as a range: what lies in the range of a moment lies in one of two neighbouring slots.
-use Rattle.std.specs.Prelude.{ℕ, suc, ◌^◌, ℤ, pos, negsuc, ◌+ℤ◌, ◌-ℤ◌, nat_lt, cond, Option, Some, None}
-use Rattle.std.specs.Int.{int_div_euclid}
-use Rattle.fx_base.specs.declared.value.Value.{Value}
-use Rattle.fx_base.specs.declared.times.Times.{Times}
-use Rattle.fx_base.specs.declared.fact.Fact.{Fact}
-use Rattle.row_delta.specs.declared.row.Named.{Named}
-use Rattle.row_delta.specs.declared.row.Row.{Row}
-use Rattle.rule_model.specs.Lent.{bound_in}
-use Rattle.rule_model.specs.Tests.{number_given}
-use Rattle.join_tests.specs.declared.time_key.Point.{Point}
-use Rattle.join_tests.specs.declared.time_key.Point.TheVariants.{Start, End}
-use Rattle.join_tests.specs.declared.time_key.TimeKey.{TimeKey}
-use Rattle.join_tests.specs.Joins.{Look}
-use Rattle.join_tests.specs.Keys.{given_or_true}
+use Rattle.std.specs.{Prelude.{ℕ, suc, ◌^◌, ℤ, pos, negsuc, ◌+ℤ◌, ◌-ℤ◌, nat_lt, cond, Option, Some, None}, Int.{int_div_euclid}}
+use Rattle.fx_base.specs.declared.{value.Value.{Value}, times.Times.{Times}, fact.Fact.{Fact}}
+use Rattle.row_delta.specs.declared.row.{Named.{Named}, Row.{Row}}
+use Rattle.rule_model.specs.{Lent.{bound_in}, Tests.{number_given}}
+use Rattle.join_tests.specs.{declared.time_key.{Point.{Point, TheVariants.{Start, End}}, TimeKey.{TimeKey}}, Joins.{Look}, Keys.{given_or_true}}
 
 -- ---- slots
 

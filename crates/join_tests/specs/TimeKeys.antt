@@ -1,14 +1,8 @@
 -- The range of time by which rows and candidates of a pattern find each other.
-use Rattle.std.specs.Prelude.{ℕ, ℤ, pos, negsuc, ◌+ℤ◌, ◌&&◌, Bool, true, false, cond, List, [], ◌∷◌, Option, Some, None}
-use Rattle.std.specs.Option.{option_or}
-use Rattle.temporal_ops.specs.declared.edge.Corner.{Corner}
-use Rattle.temporal_ops.specs.declared.edge.Corner.TheVariants.{AStart, AEnd, BStart, BEnd}
-use Rattle.temporal_ops.specs.declared.edge.OpEdge.{OpEdge}
-use Rattle.rule_model.specs.declared.test.TimeTest.{TimeTest}
-use Rattle.rule_model.specs.declared.condition.Pattern.{Pattern}
-use Rattle.join_tests.specs.declared.time_key.Point.{Point}
-use Rattle.join_tests.specs.declared.time_key.Point.TheVariants.{Start, End}
-use Rattle.join_tests.specs.declared.time_key.TimeKey.{TimeKey}
+use Rattle.std.specs.{Prelude.{ℕ, ℤ, pos, negsuc, ◌+ℤ◌, ◌&&◌, Bool, true, false, cond, List, [], ◌∷◌, Option, Some, None}, Option.{option_or}}
+use Rattle.temporal_ops.specs.declared.edge.{Corner.{Corner, TheVariants.{AStart, AEnd, BStart, BEnd}}, OpEdge.{OpEdge}}
+use Rattle.rule_model.specs.declared.{test.TimeTest.{TimeTest}, condition.Pattern.{Pattern}}
+use Rattle.join_tests.specs.declared.time_key.{Point.{Point, TheVariants.{Start, End}}, TimeKey.{TimeKey}}
 
 -- a point of the candidate, and one of the event that a row names, in a temporal test
 abbrev pub candidate_corner : Point → Corner

@@ -10,8 +10,7 @@ use Rattle.rule_model.specs.Lent.{Holds}
 use Rattle.rule_lives.proofs.Keeps.{here, tuple_names_kept, tuple_meets_kept}
 use Rattle.pair_memory.specs.Standing.{clean, no_names}
 use Rattle.condition_rows.specs.Looks.{HasAllOf}
-use Rattle.kept_meaning.proofs.Decided.{is_tested}
-use Rattle.kept_meaning.proofs.Versions.{IsLost, lost, tags_behind}
+use Rattle.kept_meaning.proofs.{Decided.{is_tested}, Versions.{IsLost, lost, tags_behind}}
 
 first_operators : (cs : List Condition) (q : ℕ) → HaveOperators cs → HaveOperators (take q cs)
 first_operators cs zero ops = tt

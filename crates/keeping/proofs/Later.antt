@@ -4,12 +4,10 @@ use Rattle.keeping.proofs.Common.{LifeTable, Match, Program, Step, name_of, or_s
 use Rattle.keeping.proofs.Common.{version_at, has_name, held, is_alive, is_pending_named, is_lost, IsLawfulStep, same_fact, step_in_order, false_from_ne_true}
 use Rattle.keeping.proofs.Common.{or_left, or_right, list_any-from, list_any-In}
 use Rattle.rule_world.specs.Worlds.{stepped}
-use Rattle.kept_meaning.specs.Kept.{is_kept, is_forgotten}
+use Rattle.kept_meaning.{specs.Kept.{is_kept, is_forgotten}, proofs.{Decided.{is_so, is_tested}, Versions.{lost, forgotten_fact}}}
 use Rattle.std.specs.Ordering.{eq_by_cmp}
 use Rattle.rule_model.specs.Matches.{matches, match_cmp, has_match}
 use Rattle.rule_lives.proofs.Remains.{kept_before}
-use Rattle.kept_meaning.proofs.Decided.{is_so, is_tested}
-use Rattle.kept_meaning.proofs.Versions.{lost, forgotten_fact}
 
 -- what is not kept is forgotten, of a world in order
 not_kept_is_forgotten : (p : Program) (table : LifeTable) (w : World) → IsOrdered p w → (f : Fact) → In f w.facts → is_kept p table w f ≡ false → is_forgotten p table w (name_of f) ≡ true

@@ -2,8 +2,7 @@
 use Rattle.keeping.proofs.Common.{◌≡◌, ◌∙◌, ◌&&◌, ◌==◌, ℤ, ◌+ℤ◌, ◌-ℤ◌, ◌≤ℤ◌, ◌<ℤ◌, Bool, true, false, [], Option, Some, None, refl, sym, ap, slice_get, In}
 use Rattle.keeping.proofs.Common.{Fact, Condition, WindowTag, Time, Life, Plain, Explicit, Finite, Infinite, LifeTable, Program, Rule, is_inside, is_candidate}
 use Rattle.keeping.proofs.Common.{is_present, pattern_of, Snapshot, tests_hold, unbound, IsLawful, World, was_present, AreSafe, IsLife, finite, lives_below}
-use Rattle.keeping.proofs.Common.{is_alive, is_kept, eqb-true, false_from_ne_true, In-place}
-use Rattle.keeping.proofs.Staying.{after_life, after_less, not_below, too_old, later_too}
+use Rattle.keeping.proofs.{Common.{is_alive, is_kept, eqb-true, false_from_ne_true, In-place}, Staying.{after_life, after_less, not_below, too_old, later_too}}
 use Rattle.kept_meaning.proofs.Decided.{not_alive}
 
 -- no candidate, where the facts of the type are not inside

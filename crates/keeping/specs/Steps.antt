@@ -1,14 +1,9 @@
 -- The steps of which the laws of what is kept speak, and the rows that come in them.
 use Rattle.std.specs.Prelude.{◌≡◌, true, false, List, None}
 use Rattle.row_delta.specs.declared.row.Row.{Row}
-use Rattle.rule_model.specs.declared.condition.Condition.{Condition}
-use Rattle.rule_model.specs.declared.life.LifeTable.{LifeTable}
-use Rattle.rule_model.specs.declared.program.Program.{Program}
-use Rattle.rule_model.specs.declared.step.Step.{Step}
+use Rattle.rule_model.specs.declared.{condition.Condition.{Condition}, life.LifeTable.{LifeTable}, program.Program.{Program}, step.Step.{Step}}
 use Rattle.rule_model.specs.Snapshots.{Snapshot}
-use Rattle.rule_world.specs.Lawful.{IsLawful}
-use Rattle.rule_world.specs.Programs.{UseOperators}
-use Rattle.rule_world.specs.Worlds.{World, snapshot, moved, step_fault}
+use Rattle.rule_world.specs.{Lawful.{IsLawful}, Programs.{UseOperators}, Worlds.{World, snapshot, moved, step_fault}}
 use Rattle.life_meaning.specs.Tables.{AreSafe}
 use Rattle.rule_lives.specs.Law.{IsFlagged}
 use Rattle.condition_rows.specs.Sets.{rows_of}

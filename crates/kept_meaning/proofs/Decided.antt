@@ -1,13 +1,11 @@
 -- The test of what is kept is true exactly of what is kept.
-use Rattle.kept_meaning.proofs.Common.{◌≡◌, ◌↔◌, ◌∙◌, ℤ, ◌+ℤ◌, true, false, Option, Some, None, inl, inr, refl, sym, ap, slice_get, In, Fact, Life, Plain, Explicit}
-use Rattle.kept_meaning.proofs.Common.{Finite, Infinite, LifeTable, Match, Program, name_of, is_event, expiry_of, or_split, of_filter, in_filter, passed, World}
-use Rattle.kept_meaning.proofs.Common.{pending, AreSafe, IsKept, plain, unexpired, endless, living, named, has_name, is_alive, is_pending_named, kept_facts, in_name}
-use Rattle.kept_meaning.proofs.Common.{name_in, or_left, or_right, list_any-from, list_any-In}
-use Rattle.kept_meaning.specs.Kept.{is_kept}
+use Rattle.kept_meaning.proofs.Common.{◌≡◌, ◌↔◌, ◌∙◌, ℤ, ◌+ℤ◌, true, false, Option, Some, None, inl, inr, refl, sym, ap, slice_get, In, Fact, Life, Plain}
+use Rattle.kept_meaning.proofs.Common.{Explicit, Finite, Infinite, LifeTable, Match, Program, name_of, is_event, expiry_of, or_split, of_filter, in_filter}
+use Rattle.kept_meaning.proofs.Common.{passed, World, pending, AreSafe, IsKept, plain, unexpired, endless, living, named, has_name, is_alive, is_pending_named}
+use Rattle.kept_meaning.{proofs.Common.{kept_facts, in_name, name_in, or_left, or_right, list_any-from, list_any-In}, specs.Kept.{is_kept}}
 use Rattle.rule_model.proofs.RuleOf.{in_has, has_in}
 use Rattle.life_meaning.proofs.Safe.{plain_unlisted}
-use Rattle.fx_base.proofs.Tests.{or_first_false}
-use Rattle.fx_base.proofs.Orders.{int_le-true, le-int_le}
+use Rattle.fx_base.proofs.{Tests.{or_first_false}, Orders.{int_le-true, le-int_le}}
 
 -- what is kept is a fact of the world
 pub kept_inside : (p : Program) (table : LifeTable) (w : World) (f : Fact) → IsKept p table w f → In f w.facts

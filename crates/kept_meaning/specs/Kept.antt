@@ -1,15 +1,9 @@
 -- What an engine that forgets keeps of a world, and what it has forgotten, as tests.
-use Rattle.std.specs.Prelude.{◌||◌, not, Bool, true, false, int_le, ℤ, ◌+ℤ◌, List, Option, Some, None, slice_get}
-use Rattle.std.specs.List.{filter, list_any}
+use Rattle.std.specs.{Prelude.{◌||◌, not, Bool, true, false, int_le, ℤ, ◌+ℤ◌, List, Option, Some, None, slice_get}, List.{filter, list_any}}
 use Rattle.fx_base.specs.declared.fact.Fact.{Fact}
 use Rattle.row_delta.specs.declared.row.Named.{Named}
-use Rattle.rule_model.specs.declared.life.Life.{Life}
-use Rattle.rule_model.specs.declared.life.Life.TheVariants.{Plain, Explicit, Finite, Infinite}
-use Rattle.rule_model.specs.declared.life.LifeTable.{LifeTable}
-use Rattle.rule_model.specs.declared.matched.Match.{Match}
-use Rattle.rule_model.specs.declared.program.Program.{Program}
-use Rattle.rule_model.specs.Candidates.{is_present}
-use Rattle.rule_model.specs.Tuples.{name_of}
+use Rattle.rule_model.specs.declared.{life.{Life.{Life, TheVariants.{Plain, Explicit, Finite, Infinite}}, LifeTable.{LifeTable}}, matched.Match.{Match}}
+use Rattle.rule_model.specs.{declared.program.Program.{Program}, Candidates.{is_present}, Tuples.{name_of}}
 use Rattle.rule_world.specs.Worlds.{World, snapshot, pending}
 use Rattle.join_tests.specs.Joins.{version_at}
 use Rattle.pair_memory.specs.Joined.{has_name}

@@ -1,7 +1,6 @@
 -- The values of kept facts and those of forgotten ones are together the values of all, up to their order.
 use Rattle.laden_rows.proofs.Common.{◌≡◌, ◌∙◌, ◌+◌, not, ℤ, Bool, true, false, List, [], ◌∷◌, ◌++◌, map, cond, refl, ap, arith, filter, HaveSame}
-use Rattle.fold_fn.specs.Order.{times, in_rising_order}
-use Rattle.fold_fn.proofs.Rising.{times-cons, times-nil, times-rising}
+use Rattle.fold_fn.{specs.Order.{times, in_rising_order}, proofs.Rising.{times-cons, times-nil, times-rising}}
 
 times_append : (v : ℤ) (xs ys : List ℤ) → times v (xs ++ ys) ≡ times v xs + times v ys
 times_append v [] ys = let none : times v [] ≡ 0 = times-nil v in omega (arith, none)

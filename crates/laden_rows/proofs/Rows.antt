@@ -6,31 +6,15 @@ use Rattle.laden_rows.proofs.Common.{pattern_of, binds, Snapshot, floor, name_of
 use Rattle.laden_rows.proofs.Common.{clean, cleaned, NameHeld, rows_of, candidates_of, held, partners_once, valued_clean, asked_first, held_known}
 use Rattle.laden_rows.proofs.Common.{joining_alike, row_alike, list_any-In, list_any-from, lost_partners, AreExtras, extra_values_of, count_of, extra_at}
 use Rattle.laden_rows.proofs.Common.{AreOwners, IsKeptOf, laden_line, laden_with, joined, or_left, or_right, is_result, line, is_empty_row, empty_row}
-use Rattle.laden_rows.proofs.Common.{same_test}
-use Rattle.std.specs.Prelude.{slice_get}
+use Rattle.laden_rows.{proofs.{Common.{same_test}, Extras.{to_extra, of_extra, extra_values, extra_count}}, specs.Laden.{laden_gives, laden}}
+use Rattle.laden_rows.proofs.{Gathered.{parted_values}, Kept.{known, to_kept, from_kept, candidates_kept, joins_same, partners_kept, partners_once_kept}}
+use Rattle.std.{specs.Prelude.{slice_get}, proofs.lemmas.List.Filters.{length-filter_both}}
 use mathlib.Core.Path.{fun_ext}
-use Rattle.rule_model.specs.Rows.{rows}
-use Rattle.condition_rows.specs.Sets.{has_partner, partners}
-use Rattle.laden_rows.specs.Laden.{laden_gives, laden}
-use Rattle.fold_fn.proofs.ResultLemmas.{result_same}
-use Rattle.rule_model.specs.Tests.{results_hold}
-use Rattle.fold_fn.specs.Results.{fold_result}
-use Rattle.rule_model.specs.declared.condition.Accumulate.{Accumulate}
-use Rattle.rule_model.specs.Lent.{bound_in}
-use Rattle.pair_memory.proofs.Moving.{named_alike}
-use Rattle.condition_rows.specs.Lines.{gives, is_ripe}
-use Rattle.rule_model.proofs.Listed.{in_map, of_map}
-use Rattle.rule_model.proofs.RuleOf.{in_place}
-use Rattle.std.proofs.lemmas.List.Filters.{length-filter_both}
-use Rattle.rule_model.specs.Maturity.{is_mature}
-use Rattle.rule_model.proofs.Firsts.{or_split}
-use Rattle.rule_model.proofs.Floors.{same_floor}
-use Rattle.pair_memory.proofs.Worlds.{joined_clean}
-use Rattle.condition_rows.proofs.Naming.{rows_named}
-use Rattle.condition_rows.proofs.Whole.{one_more}
-use Rattle.laden_rows.proofs.Extras.{to_extra, of_extra, extra_values, extra_count}
-use Rattle.laden_rows.proofs.Gathered.{parted_values}
-use Rattle.laden_rows.proofs.Kept.{known, to_kept, from_kept, candidates_kept, joins_same, partners_kept, partners_once_kept}
+use Rattle.rule_model.{specs.{Rows.{rows}, Tests.{results_hold}, declared.condition.Accumulate.{Accumulate}, Lent.{bound_in}}, proofs.Listed.{in_map, of_map}}
+use Rattle.rule_model.{proofs.{RuleOf.{in_place}, Firsts.{or_split}, Floors.{same_floor}}, specs.Maturity.{is_mature}}
+use Rattle.condition_rows.{specs.{Sets.{has_partner, partners}, Lines.{gives, is_ripe}}, proofs.{Naming.{rows_named}, Whole.{one_more}}}
+use Rattle.fold_fn.{proofs.ResultLemmas.{result_same}, specs.Results.{fold_result}}
+use Rattle.pair_memory.proofs.{Moving.{named_alike}, Worlds.{joined_clean}}
 
 -- ---- the first conditions of a list
 

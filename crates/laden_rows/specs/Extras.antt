@@ -1,24 +1,11 @@
 -- What conditions count or gather of forgotten facts beside rows that name none.
-use Rattle.std.specs.Prelude.{◌≡◌, ◌<◌, ◌↔◌, ℕ, suc, ℤ, Bool, true, false, List, [], map, length, take, Some, slice_get}
-use Rattle.std.specs.declared.cmp.Ordering.{Ordering}
-use Rattle.std.specs.Ordering.{nat_cmp, ordering_then}
-use Rattle.std.specs.List.{filter}
-use Rattle.std.specs.List.Sorted.{IsStrictlySortedBy}
-use Rattle.fx_base.specs.Lists.{In}
-use Rattle.fx_base.specs.declared.fact.Fact.{Fact}
+use Rattle.std.specs.{Prelude.{◌≡◌, ◌<◌, ◌↔◌, ℕ, suc, ℤ, Bool, true, false, List, [], map, length, take, Some, slice_get}, declared.cmp.Ordering.{Ordering}}
+use Rattle.std.specs.{Ordering.{nat_cmp, ordering_then}, List.{filter, Sorted.{IsStrictlySortedBy}}}
+use Rattle.fx_base.specs.{Lists.{In}, declared.fact.Fact.{Fact}}
 use Rattle.fold_fn.specs.Order.{in_rising_order}
-use Rattle.row_delta.specs.declared.extra.Extra.{Extra}
-use Rattle.row_delta.specs.declared.row.Named.{Named}
-use Rattle.row_delta.specs.declared.row.Row.{Row}
-use Rattle.row_delta.specs.Rows.{row_cmp}
-use Rattle.rule_model.specs.declared.condition.Condition.{Condition}
-use Rattle.rule_model.specs.declared.condition.Condition.TheVariants.{Folded}
-use Rattle.rule_model.specs.declared.condition.Pattern.{Pattern}
-use Rattle.rule_model.specs.declared.program.Program.{Program}
-use Rattle.rule_model.specs.declared.program.Rule.{Rule}
-use Rattle.rule_model.specs.Rows.{argument, binds, pattern_of}
-use Rattle.rule_model.specs.Snapshots.{Snapshot}
-use Rattle.rule_model.specs.Tuples.{name_of}
+use Rattle.row_delta.specs.{declared.{extra.Extra.{Extra}, row.{Named.{Named}, Row.{Row}}}, Rows.{row_cmp}}
+use Rattle.rule_model.specs.declared.{condition.{Condition.{Condition, TheVariants.{Folded}}, Pattern.{Pattern}}, program.{Program.{Program}, Rule.{Rule}}}
+use Rattle.rule_model.specs.{Rows.{argument, binds, pattern_of}, Snapshots.{Snapshot}, Tuples.{name_of}}
 use Rattle.pair_memory.specs.Standing.{clean}
 use Rattle.condition_rows.specs.Sets.{partners, rows_of}
 

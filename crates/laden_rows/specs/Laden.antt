@@ -1,34 +1,16 @@
 -- The rows of kept facts, where conditions count and gather beyond them.
 use Rattle.std.specs.Prelude.{◌≡◌, ◌<◌, ◌==◌, ◌&&◌, ◌||◌, ◌↔◌, ◌++◌, not, ℕ, zero, suc, ℤ, Bool, true, false, List, [], map, length, Option, Some, None}
-use Rattle.std.specs.Prelude.{slice_get}
-use Rattle.std.specs.List.{find}
-use Rattle.std.specs.Option.{is_some}
-use Rattle.std.specs.Ordering.{eq_by_cmp}
-use Rattle.fx_base.specs.Lists.{In}
-use Rattle.fx_base.specs.declared.fact.Fact.{Fact}
+use Rattle.std.specs.{Prelude.{slice_get}, List.{find}, Option.{is_some}, Ordering.{eq_by_cmp}}
+use Rattle.fx_base.specs.{Lists.{In}, declared.fact.Fact.{Fact}}
 use Rattle.fold_fn.specs.Results.{fold_result}
-use Rattle.row_delta.specs.declared.extra.Extra.{Extra}
-use Rattle.row_delta.specs.declared.row.Named.{Named}
-use Rattle.row_delta.specs.declared.row.Row.{Row}
-use Rattle.row_delta.specs.Rows.{row_cmp}
-use Rattle.rule_model.specs.declared.condition.Accumulate.{Accumulate}
-use Rattle.rule_model.specs.declared.condition.Condition.{Condition}
-use Rattle.rule_model.specs.declared.condition.Condition.TheVariants.{Plain, Negated, Existing, Folded}
-use Rattle.rule_model.specs.declared.condition.WindowTag.TheVariants.{Length}
-use Rattle.rule_model.specs.declared.program.Program.{Program}
-use Rattle.rule_model.specs.declared.program.Rule.{Rule}
-use Rattle.rule_model.specs.Candidates.{fits}
-use Rattle.rule_model.specs.Distinct.{HaveDistinctTags}
-use Rattle.rule_model.specs.Lent.{bound_in}
-use Rattle.rule_model.specs.Rows.{argument, pattern_of}
-use Rattle.rule_model.specs.Snapshots.{Snapshot}
-use Rattle.rule_model.specs.Tests.{results_hold}
+use Rattle.row_delta.specs.{declared.{extra.Extra.{Extra}, row.{Named.{Named}, Row.{Row}}}, Rows.{row_cmp}}
+use Rattle.rule_model.specs.declared.condition.{Accumulate.{Accumulate}, Condition.{Condition, TheVariants.{Plain, Negated, Existing, Folded}}}
+use Rattle.rule_model.specs.{declared.{condition.WindowTag.TheVariants.{Length}, program.{Program.{Program}, Rule.{Rule}}}, Candidates.{fits}}
+use Rattle.rule_model.specs.{Distinct.{HaveDistinctTags}, Lent.{bound_in}, Rows.{argument, pattern_of}, Snapshots.{Snapshot}, Tests.{results_hold}}
 use Rattle.rule_model.specs.Tuples.{name_of}
 use Rattle.join_tests.specs.Joins.{joins}
-use Rattle.pair_memory.specs.Joined.{joined}
-use Rattle.pair_memory.specs.Valued.{valued}
-use Rattle.condition_rows.specs.Sets.{held, candidates_of, has_partner, partners}
-use Rattle.condition_rows.specs.Lines.{is_ripe, is_result, is_empty_row}
+use Rattle.pair_memory.specs.{Joined.{joined}, Valued.{valued}}
+use Rattle.condition_rows.specs.{Sets.{held, candidates_of, has_partner, partners}, Lines.{is_ripe, is_result, is_empty_row}}
 use Rattle.laden_rows.specs.Extras.{IsFirstWith}
 
 -- ---- one condition

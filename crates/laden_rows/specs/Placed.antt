@@ -1,12 +1,7 @@
 -- Where what is counted of forgotten facts may stand.
-use Rattle.std.specs.Prelude.{◌≡◌, ◌≤◌, ◌^◌, ℕ, suc, false, [], length, IsSorted, Some, slice_get}
-use Rattle.std.specs.Ordering.{int_cmp}
+use Rattle.std.specs.{Prelude.{◌≡◌, ◌≤◌, ◌^◌, ℕ, suc, false, [], length, IsSorted, Some, slice_get}, Ordering.{int_cmp}}
 use Rattle.row_delta.specs.declared.extra.Extra.{Extra}
-use Rattle.rule_model.specs.declared.condition.Condition.{Condition}
-use Rattle.rule_model.specs.declared.condition.Condition.TheVariants.{Folded}
-use Rattle.rule_model.specs.declared.program.Program.{Program}
-use Rattle.rule_model.specs.declared.program.Rule.{Rule}
-use Rattle.rule_model.specs.Rows.{binds}
+use Rattle.rule_model.specs.{declared.{condition.Condition.{Condition, TheVariants.{Folded}}, program.{Program.{Program}, Rule.{Rule}}}, Rows.{binds}}
 use Rattle.laden_rows.specs.Extras.{IsFirstWith}
 
 -- a number that counts on: at most 2^61

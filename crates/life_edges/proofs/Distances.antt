@@ -2,11 +2,9 @@
 use Rattle.life_edges.proofs.Common.{◌≡◌, ℕ, ℤ, ◌-ℤ◌, ◌≤ℤ◌, ◌<ℤ◌, List, [], ◌∷◌, Some, sym, ◌∙◌, ap, subst, arith, slice_get, ints, Times, Condition, Program}
 use Rattle.life_edges.proofs.Common.{Occurrence, SolvesConditions, infinite, Placed, NameEarlier, start_point_of, end_of, edges_of_conditions, IsReach}
 use Rattle.life_edges.proofs.Common.{IsGreatestReach, distance, occurrence_of, limit_of}
-use Rattle.fx_base.specs.declared.bound.Bound.{Bound}
-use Rattle.fx_base.specs.declared.bound.Bound.TheVariants.{Finite, Infinite}
+use Rattle.fx_base.specs.declared.bound.Bound.{Bound, TheVariants.{Finite, Infinite}}
 use Rattle.temporal_net.specs.Networks as net
-use Rattle.life_edges.proofs.Solutions.{Agree}
-use Rattle.life_edges.proofs.Solved.{points_solve, times_solve, times_of, times_agree, points_of, points_agree}
+use Rattle.life_edges.proofs.{Solutions.{Agree}, Solved.{points_solve, times_solve, times_of, times_agree, points_of, points_agree}}
 
 -- the times that a solution of the edges gives
 pub of_points : (p : Program) (conditions : List Condition) (places : List ℕ) → NameEarlier conditions → (v : ℕ → ℤ) → net.SolvesEdges (edges_of_conditions p conditions places 0 conditions) v

@@ -1,8 +1,7 @@
 -- What the conditions that matter to one of them have of the rule.
 use Rattle.life_edges.proofs.Common.{◌≡◌, ◌<◌, ◌≤◌, ℕ, zero, suc, List, [], ◌∷◌, length, take, Some, refl, sym, ap, subst, arith, slice_get, All, Condition}
 use Rattle.life_edges.proofs.Common.{Plain, Negated, Existing, Folded, Program, TimeTest, pattern_of, HaveOperators, bindings, Placed, HaveLives, scope}
-use Rattle.life_edges.proofs.Common.{HaveNetwork}
-use Rattle.life_edges.specs.Places.{placed, StandsIn}
+use Rattle.life_edges.{proofs.Common.{HaveNetwork}, specs.Places.{placed, StandsIn}}
 
 front : (n place : ℕ) (xs : List Condition) (c : Condition) → slice_get (take n xs) place ≡ Some c → (slice_get xs place ≡ Some c) × (take place (take n xs) ≡ take place xs)
 front zero place xs c h = absurd cc

@@ -1,20 +1,13 @@
 -- The network of the conditions of a rule as edges between numbered points (Dechter, Meiri, Pearl 1991): the event of the condition of
 -- place k, which is below 8, starts at the point 2k and ends at the point 2k + 1.
-use Rattle.std.specs.Prelude.{◌==◌, ◌+◌, ◌≤◌, ℕ, zero, suc, pos, Bool, true, false, List, [], ◌∷◌, ◌*◌, ◌++◌, length, map, if◌then◌else◌}
-use Rattle.std.specs.List.{list_any, flat_map}
+use Rattle.std.specs.{Prelude.{◌==◌, ◌+◌, ◌≤◌, ℕ, zero, suc, pos, Bool, true, false, List, [], ◌∷◌, ◌*◌, ◌++◌, length, map, if◌then◌else◌}, List.{list_any}}
+use Rattle.std.specs.List.{flat_map}
 use Rattle.fx_base.specs.Lists.{In}
-use Rattle.temporal_ops.specs.declared.edge.Corner.{Corner}
-use Rattle.temporal_ops.specs.declared.edge.Corner.TheVariants.{AStart, AEnd, BStart, BEnd}
-use Rattle.temporal_ops.specs.declared.edge.OpEdge.{OpEdge}
+use Rattle.temporal_ops.specs.declared.edge.{Corner.{Corner, TheVariants.{AStart, AEnd, BStart, BEnd}}, OpEdge.{OpEdge}}
 use Rattle.temporal_net.specs.declared.edge.NetEdge.{NetEdge}
-use Rattle.rule_model.specs.declared.condition.Condition.{Condition}
-use Rattle.rule_model.specs.declared.condition.Condition.TheVariants.{Plain, Negated, Existing, Folded}
-use Rattle.rule_model.specs.declared.condition.Pattern.{Pattern}
-use Rattle.rule_model.specs.declared.program.Program.{Program}
-use Rattle.rule_model.specs.declared.program.Rule.{Rule}
-use Rattle.rule_model.specs.declared.test.TimeTest.{TimeTest}
-use Rattle.rule_model.specs.Rows.{pattern_of, HaveOperators}
-use Rattle.rule_model.specs.Types.{is_event, is_point}
+use Rattle.rule_model.specs.declared.condition.{Condition.{Condition, TheVariants.{Plain, Negated, Existing, Folded}}, Pattern.{Pattern}}
+use Rattle.rule_model.specs.{declared.{program.{Program.{Program}, Rule.{Rule}}, test.TimeTest.{TimeTest}}, Rows.{pattern_of, HaveOperators}, Types.{is_event}}
+use Rattle.rule_model.specs.Types.{is_point}
 use Rattle.rule_world.specs.Programs.{NameEarlier}
 
 -- conditions that have a network of at most 16 points

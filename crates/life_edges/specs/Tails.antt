@@ -1,15 +1,10 @@
 -- Limits of the code as those of the definitions, and conditions whose reaches and tails 64 bits can add.
 use Rattle.std.specs.Prelude.{◌≡◌, ◌^◌, ◌≤ℤ◌, ℕ, ℤ, pos, List, Some, slice_get}
-use Rattle.fx_base.specs.declared.bound.Bound.{Bound}
-use Rattle.fx_base.specs.declared.bound.Bound.TheVariants.{Finite, Infinite}
-use Rattle.rule_model.specs.declared.condition.Condition.{Condition}
-use Rattle.rule_model.specs.declared.condition.WindowTag.{WindowTag}
-use Rattle.rule_model.specs.declared.condition.WindowTag.TheVariants.{Whole, Time, Length}
-use Rattle.rule_model.specs.declared.program.Program.{Program}
+use Rattle.fx_base.specs.declared.bound.Bound.{Bound, TheVariants.{Finite, Infinite}}
+use Rattle.rule_model.specs.declared.{condition.{Condition.{Condition}, WindowTag.{WindowTag, TheVariants.{Whole, Time, Length}}}, program.Program.{Program}}
 use Rattle.rule_model.specs.Rows.{pattern_of}
 use Rattle.rule_world.specs.Events.{most_millis}
-use Rattle.life_meaning.specs.Lifetimes.{tail}
-use Rattle.life_meaning.specs.Reach.{Limit, finite, infinite}
+use Rattle.life_meaning.specs.{Lifetimes.{tail}, Reach.{Limit, finite, infinite}}
 use Rattle.life_edges.specs.Edges.{HaveNetwork}
 
 abbrev pub limit_of : Bound → Limit

@@ -1,9 +1,9 @@
 -- What a finite life says of every solution, and the solutions that tuples give.
 use Rattle.life_meaning.proofs.Common.{◌≡◌, ◌⊎◌, ℕ, ℤ, pos, ◌+ℤ◌, ◌≤ℤ◌, Bool, true, false, List, [], ◌∷◌, Option, Some, None, refl, sym, ap, subst, arith, inl}
 use Rattle.life_meaning.proofs.Common.{inr, slice_get, take, ints, by_lt_z, In, Fact, Times, Condition, Plain, Negated, Existing, Folded, Pattern, WindowTag}
-use Rattle.life_meaning.proofs.Common.{Whole, Program, Rule, TimeTest, IsPossible, pattern_of, time_holds_with, time_holds, times_hold, Tuple, bound_by, is_event}
-use Rattle.life_meaning.proofs.Common.{is_reference, bindings, binds, finite, infinite, Placed, SolvesWith, scope, IsLife, list_all, Occurrence, bound, aside}
-use Rattle.life_meaning.proofs.Common.{is_test_met, MeetsTests, SolvesConditions, Limit, Below, distance, tail, Adds, of_fact, of_event, LivesFor}
+use Rattle.life_meaning.proofs.Common.{Whole, Program, Rule, TimeTest, IsPossible, pattern_of, time_holds_with, time_holds, times_hold, Tuple, bound_by}
+use Rattle.life_meaning.proofs.Common.{is_event, is_reference, bindings, binds, finite, infinite, Placed, SolvesWith, scope, IsLife, list_all, Occurrence}
+use Rattle.life_meaning.proofs.Common.{bound, aside, is_test_met, MeetsTests, SolvesConditions, Limit, Below, distance, tail, Adds, of_fact, of_event, LivesFor}
 use Rattle.std.proofs.lemmas.Bool.{and_from, and_parts}
 use Rattle.temporal_ops.specs.Edges.{edges_hold}
 

@@ -2,17 +2,10 @@
 -- management for events, inferred expiration offset). An example: in `$s : Smoke() $h : Heat( this after[0s,10s] $s )
 -- Bell( this after[0s,20s] $h )` a smoke matters 30000 ms, since a heat starts at most 10 s behind its end and a bell at most 30 s (i itself
 -- is one of the j, at 0); a heat 20000 ms, for its bell; and a bell 0.
-use Rattle.std.specs.Prelude.{◌≡◌, ℕ, suc, ℤ, pos, true, false, List, take, Option, Some, None, slice_get, ◌⊎◌, if◌then◌else◌}
-use Rattle.std.specs.Int.{int_max}
+use Rattle.std.specs.{Prelude.{◌≡◌, ℕ, suc, ℤ, pos, true, false, List, take, Option, Some, None, slice_get, ◌⊎◌, if◌then◌else◌}, Int.{int_max}}
 use Rattle.fx_base.specs.Lists.{In}
-use Rattle.rule_model.specs.declared.condition.Condition.{Condition}
-use Rattle.rule_model.specs.declared.condition.Condition.TheVariants.{Plain, Negated, Existing, Folded}
-use Rattle.rule_model.specs.declared.condition.Pattern.{Pattern}
-use Rattle.rule_model.specs.declared.condition.WindowTag.{WindowTag}
-use Rattle.rule_model.specs.declared.condition.WindowTag.TheVariants.{Whole, Time, Length}
-use Rattle.rule_model.specs.declared.program.Program.{Program}
-use Rattle.rule_model.specs.declared.program.Rule.{Rule}
-use Rattle.rule_model.specs.Rows.{pattern_of}
+use Rattle.rule_model.specs.declared.condition.{Condition.{Condition, TheVariants.{Plain, Negated, Existing, Folded}}, Pattern.{Pattern}, WindowTag.{WindowTag}}
+use Rattle.rule_model.specs.{declared.{condition.WindowTag.TheVariants.{Whole, Time, Length}, program.{Program.{Program}, Rule.{Rule}}}, Rows.{pattern_of}}
 use Rattle.rule_model.specs.Types.{is_event, is_reference, expiry_of, lateness_of}
 use Rattle.life_meaning.specs.Reach.{Limit, finite, infinite, Below, plus, Placed, IsReach}
 

@@ -1,18 +1,10 @@
 -- The network of the temporal tests of conditions: each event condition has an occurrence, which is a start and an end, and each temporal
 -- test bounds the differences of these points (Dechter, Meiri, Pearl 1991, simple temporal networks).
-use Rattle.std.specs.Prelude.{◌≡◌, ℕ, Bool, true, List, [], take, Some, slice_get}
-use Rattle.std.specs.List.{list_all}
-use Rattle.fx_base.specs.Lists.{In}
-use Rattle.fx_base.specs.declared.times.Times.{Times}
-use Rattle.temporal_ops.specs.Edges.{edges_hold}
-use Rattle.temporal_ops.specs.Possible.{IsEvent}
-use Rattle.rule_model.specs.declared.condition.Condition.{Condition}
-use Rattle.rule_model.specs.declared.condition.Condition.TheVariants.{Plain, Negated, Existing, Folded}
-use Rattle.rule_model.specs.declared.condition.Pattern.{Pattern}
-use Rattle.rule_model.specs.declared.program.Program.{Program}
-use Rattle.rule_model.specs.declared.test.TimeTest.{TimeTest}
-use Rattle.rule_model.specs.Rows.{pattern_of}
-use Rattle.rule_model.specs.Types.{is_event, is_point}
+use Rattle.std.specs.{Prelude.{◌≡◌, ℕ, Bool, true, List, [], take, Some, slice_get}, List.{list_all}}
+use Rattle.fx_base.specs.{Lists.{In}, declared.times.Times.{Times}}
+use Rattle.temporal_ops.specs.{Edges.{edges_hold}, Possible.{IsEvent}}
+use Rattle.rule_model.specs.declared.condition.{Condition.{Condition, TheVariants.{Plain, Negated, Existing, Folded}}, Pattern.{Pattern}}
+use Rattle.rule_model.specs.{declared.{program.Program.{Program}, test.TimeTest.{TimeTest}}, Rows.{pattern_of}, Types.{is_event, is_point}}
 pub use Rattle.rule_world.specs.Typed.{bindings}
 
 -- The event that stands for a condition: that of a pattern which binds a fact has the number by which temporal tests name it, that of

@@ -1,8 +1,7 @@
 -- How far behind the end of one event another can start, over all solutions of a network.
 use Rattle.std.specs.Prelude.{◌≡◌, ℕ, ℤ, ◌+ℤ◌, ◌-ℤ◌, ◌≤ℤ◌, List, [], ◌∷◌}
 use Rattle.fx_base.specs.declared.times.Times.{Times}
-use Rattle.rule_model.specs.declared.condition.Condition.{Condition}
-use Rattle.rule_model.specs.declared.program.Program.{Program}
+use Rattle.rule_model.specs.declared.{condition.Condition.{Condition}, program.Program.{Program}}
 use Rattle.life_meaning.specs.Networks.{Occurrence, occurrence, SolvesConditions}
 
 -- milliseconds, or for ever

@@ -1,21 +1,12 @@
 -- Tables of lives, which of them are safe to forget by, and which facts are kept by them (Walzer, Breddin, Groch 2008; Drools Fusion 5 User Guide,
 -- memory management for events).
 use Rattle.std.specs.Prelude.{◌≡◌, ℕ, ℤ, ◌+ℤ◌, ◌≤ℤ◌, true, false, length, Some, None, slice_get}
-use Rattle.fx_base.specs.Lists.{In}
-use Rattle.fx_base.specs.declared.fact.Fact.{Fact}
-use Rattle.rule_model.specs.declared.life.Life.{Life}
-use Rattle.rule_model.specs.declared.life.Life.TheVariants.{Plain, Explicit, Finite, Infinite}
-use Rattle.rule_model.specs.declared.life.LifeTable.{LifeTable}
-use Rattle.rule_model.specs.declared.matched.Match.{Match}
-use Rattle.rule_model.specs.declared.program.Program.{Program}
-use Rattle.rule_model.specs.Candidates.{is_present}
-use Rattle.rule_model.specs.Lives.{AreShort, endless_lives}
-use Rattle.rule_model.specs.Matches.{has_match}
-use Rattle.rule_model.specs.Tuples.{name_of}
-use Rattle.rule_model.specs.Types.{is_event, expiry_of}
+use Rattle.fx_base.specs.{Lists.{In}, declared.fact.Fact.{Fact}}
+use Rattle.rule_model.specs.declared.{life.{Life.{Life, TheVariants.{Plain, Explicit, Finite, Infinite}}, LifeTable.{LifeTable}}, matched.Match.{Match}}
+use Rattle.rule_model.specs.{declared.program.Program.{Program}, Candidates.{is_present}, Lives.{AreShort, endless_lives}, Matches.{has_match}}
+use Rattle.rule_model.specs.{Tuples.{name_of}, Types.{is_event, expiry_of}}
 use Rattle.rule_world.specs.Worlds.{World, pending}
-use Rattle.life_meaning.specs.Reach.{finite, infinite}
-use Rattle.life_meaning.specs.Lifetimes.{IsLife}
+use Rattle.life_meaning.specs.{Reach.{finite, infinite}, Lifetimes.{IsLife}}
 
 -- ---- the table of lives
 

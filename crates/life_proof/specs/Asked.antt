@@ -1,16 +1,9 @@
 -- Which bounds the finite lives of a table rest on: for each rule, each condition on a type of a finite life that has no window, and each
 -- condition that matters to that one and is on no reference type.
 use Rattle.std.specs.Prelude.{◌≡◌, ◌++◌, ℕ, suc, ℤ, false, List, [], ◌∷◌, Option, Some, None, slice_get, if◌then◌else◌}
-use Rattle.rule_model.specs.declared.condition.Condition.{Condition}
-use Rattle.rule_model.specs.declared.condition.WindowTag.{WindowTag}
-use Rattle.rule_model.specs.declared.condition.WindowTag.TheVariants.{Whole, Time, Length}
-use Rattle.rule_model.specs.declared.life.Life.{Life}
+use Rattle.rule_model.specs.declared.{condition.{Condition.{Condition}, WindowTag.{WindowTag, TheVariants.{Whole, Time, Length}}}, life.Life.{Life}}
 use Rattle.rule_model.specs.declared.life.Life.TheVariants as life
-use Rattle.rule_model.specs.declared.life.LifeTable.{LifeTable}
-use Rattle.rule_model.specs.declared.program.Program.{Program}
-use Rattle.rule_model.specs.declared.program.Rule.{Rule}
-use Rattle.rule_model.specs.Rows.{pattern_of}
-use Rattle.rule_model.specs.Types.{is_reference}
+use Rattle.rule_model.specs.{declared.{life.LifeTable.{LifeTable}, program.{Program.{Program}, Rule.{Rule}}}, Rows.{pattern_of}, Types.{is_reference}}
 use Rattle.life_meaning.specs.Lifetimes.{scope}
 use Rattle.life_edges.specs.Places.{placed}
 use Rattle.life_proof.specs.declared.part.Asked.{Asked}

@@ -1,26 +1,13 @@
 -- Which certificates of lives are good (Dechter, Meiri, Pearl 1991: the edges of a path bound the difference of its ends in each solution
 -- of a network, and a cycle with a sum below 0 leaves no solution).
 use Rattle.std.specs.Prelude.{◌≡◌, ◌≢◌, ◌==◌, ◌&&◌, ℕ, ℤ, pos, ◌-ℤ◌, ◌<ℤ◌, Bool, true, false, List, [], ◌∷◌, Option, Some, None, slice_get, if◌then◌else◌}
-use Rattle.std.specs.List.{AllByRecursion, Contains, list_all, list_any}
-use Rattle.std.specs.Int.RustNames.{int_lt, int_le}
-use Rattle.std.specs.Ordering.{int_eq}
-use Rattle.temporal_net.specs.declared.edge.NetEdge.{NetEdge}
-use Rattle.temporal_net.specs.Networks.{LeadsWay, total}
-use Rattle.rule_model.specs.declared.condition.Condition.{Condition}
-use Rattle.rule_model.specs.declared.life.LifeTable.{LifeTable}
-use Rattle.rule_model.specs.declared.program.Program.{Program}
-use Rattle.rule_model.specs.declared.program.Rule.{Rule}
-use Rattle.rule_model.specs.Rows.{pattern_of}
-use Rattle.rule_model.specs.Types.{is_event}
-use Rattle.life_meaning.specs.Lifetimes.{scope, tail}
-use Rattle.life_meaning.specs.Reach.{Limit, finite, infinite, Below, plus}
-use Rattle.life_edges.specs.Edges.{start_point_of, end_of, edges_of_conditions}
-use Rattle.life_edges.specs.Places.{placed}
-use Rattle.life_proof.specs.declared.part.Asked.{Asked}
-use Rattle.life_proof.specs.declared.part.Part.{Part}
-use Rattle.life_proof.specs.declared.part.Proof.{Proof}
-use Rattle.life_proof.specs.Asked.{asked}
-use Rattle.life_proof.specs.Tables.{IsLawfulTable}
+use Rattle.std.specs.{List.{AllByRecursion, Contains, list_all, list_any}, Int.RustNames.{int_lt, int_le}, Ordering.{int_eq}}
+use Rattle.temporal_net.specs.{declared.edge.NetEdge.{NetEdge}, Networks.{LeadsWay, total}}
+use Rattle.rule_model.specs.declared.{condition.Condition.{Condition}, life.LifeTable.{LifeTable}, program.{Program.{Program}, Rule.{Rule}}}
+use Rattle.rule_model.specs.{Rows.{pattern_of}, Types.{is_event}}
+use Rattle.life_meaning.specs.{Lifetimes.{scope, tail}, Reach.{Limit, finite, infinite, Below, plus}}
+use Rattle.life_edges.specs.{Edges.{start_point_of, end_of, edges_of_conditions}, Places.{placed}}
+use Rattle.life_proof.specs.{declared.part.{Asked.{Asked}, Part.{Part}, Proof.{Proof}}, Asked.{asked}, Tables.{IsLawfulTable}}
 
 -- ---- what a part is held against
 

@@ -1,20 +1,12 @@
 -- What a good certificate shows, over the definitions of networks and lives.
 use Rattle.std.specs.Prelude.{◌≡◌, ℕ, ℤ, ◌-ℤ◌, ◌≤ℤ◌, Some, slice_get}
 use Rattle.fx_base.specs.declared.times.Times.{Times}
-use Rattle.rule_model.specs.declared.life.Life.TheVariants.{Finite}
-use Rattle.rule_model.specs.declared.life.LifeTable.{LifeTable}
-use Rattle.rule_model.specs.declared.program.Program.{Program}
-use Rattle.rule_model.specs.Rows.{pattern_of}
+use Rattle.rule_model.specs.{declared.{life.{Life.TheVariants.{Finite}, LifeTable.{LifeTable}}, program.Program.{Program}}, Rows.{pattern_of}}
 use Rattle.rule_world.specs.Programs.{IsRunnable}
-use Rattle.life_meaning.specs.Tables.{AreLives, AreSafe}
-use Rattle.life_meaning.specs.Lifetimes.{scope, tail, PatternLife}
-use Rattle.life_meaning.specs.Networks.{Occurrence}
-use Rattle.life_meaning.specs.Reach.{Limit, finite, Below, SolvesWith, distance}
+use Rattle.life_meaning.specs.{Tables.{AreLives, AreSafe}, Lifetimes.{scope, tail, PatternLife}, Networks.{Occurrence}, Reach.{Limit, finite, Below}}
+use Rattle.life_meaning.specs.Reach.{SolvesWith, distance}
 use Rattle.life_edges.specs.Places.{placed}
-use Rattle.life_proof.specs.declared.part.Asked.{Asked}
-use Rattle.life_proof.specs.declared.part.Proof.{Proof}
-use Rattle.life_proof.specs.Asked.{IsReachAsked}
-use Rattle.life_proof.specs.Good.{IsGood}
+use Rattle.life_proof.specs.{declared.part.{Asked.{Asked}, Proof.{Proof}}, Asked.{IsReachAsked}, Good.{IsGood}}
 
 -- In each solution of the network of two conditions that are asked about, an event of the second starts behind the end of one of the first
 -- by at most the life less the tail of the second.

@@ -1,13 +1,9 @@
 -- What a solver makes of what is asked.
 use Rattle.std.specs.Prelude.{◌≡◌, ℕ, Bool, true, false, List, map}
-use Rattle.temporal_net.specs.declared.edge.NetEdge.{NetEdge}
-use Rattle.temporal_net.specs.Networks.{edge_at, IsNegativeCycle, IsShortestPath}
-use Rattle.rule_model.specs.declared.condition.Condition.{Condition}
-use Rattle.rule_model.specs.declared.program.Program.{Program}
+use Rattle.temporal_net.specs.{declared.edge.NetEdge.{NetEdge}, Networks.{edge_at, IsNegativeCycle, IsShortestPath}}
+use Rattle.rule_model.specs.declared.{condition.Condition.{Condition}, program.Program.{Program}}
 use Rattle.life_edges.specs.Edges.{start_point_of, end_of}
-use Rattle.life_proof.specs.declared.part.Asked.{Asked}
-use Rattle.life_proof.specs.declared.part.Part.{Part}
-use Rattle.life_proof.specs.Good.{edges_for}
+use Rattle.life_proof.specs.{declared.part.{Asked.{Asked}, Part.{Part}}, Good.{edges_for}}
 
 -- the edges of a shortest path, or those of a negative cycle by their numbers
 abbrev pub AreSolved : Bool → List NetEdge → ℕ → ℕ → List NetEdge → Type 0

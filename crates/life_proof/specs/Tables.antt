@@ -1,21 +1,11 @@
 -- Which tables of lives a certificate may be of: each type has the life that its declaration asks for, and a finite one is not below 0
 -- or a window on the type.
 use Rattle.std.specs.Prelude.{◌≡◌, ◌&&◌, ◌≤ℤ◌, ℕ, ℤ, pos, Bool, true, false, not, List, [], ◌∷◌, length, Option, Some, None, slice_get}
-use Rattle.std.specs.Int.RustNames.{int_le}
-use Rattle.std.specs.List.{list_all}
-use Rattle.std.specs.Ordering.{int_eq}
+use Rattle.std.specs.{Int.RustNames.{int_le}, List.{list_all}, Ordering.{int_eq}}
 use Rattle.fx_base.specs.Lists.{In}
-use Rattle.rule_model.specs.declared.condition.Condition.{Condition}
-use Rattle.rule_model.specs.declared.condition.WindowTag.{WindowTag}
-use Rattle.rule_model.specs.declared.condition.WindowTag.TheVariants.{Whole, Time, Length}
-use Rattle.rule_model.specs.declared.life.Life.{Life}
-use Rattle.rule_model.specs.declared.life.Life.TheVariants.{Plain, Explicit, Finite, Infinite}
-use Rattle.rule_model.specs.declared.life.LifeTable.{LifeTable}
-use Rattle.rule_model.specs.declared.program.Program.{Program}
-use Rattle.rule_model.specs.declared.program.Rule.{Rule}
-use Rattle.rule_model.specs.declared.program.TypeInfo.{TypeInfo}
-use Rattle.rule_model.specs.Rows.{pattern_of}
-use Rattle.rule_model.specs.Types.{is_event, expiry_of}
+use Rattle.rule_model.specs.declared.{condition.{Condition.{Condition}, WindowTag.{WindowTag, TheVariants.{Whole, Time, Length}}}, life.Life.{Life}}
+use Rattle.rule_model.specs.declared.{life.{Life.TheVariants.{Plain, Explicit, Finite, Infinite}, LifeTable.{LifeTable}}, program.Program.{Program}}
+use Rattle.rule_model.specs.{declared.program.{Rule.{Rule}, TypeInfo.{TypeInfo}}, Rows.{pattern_of}, Types.{is_event, expiry_of}}
 
 -- ---- as a relation
 

@@ -2,10 +2,7 @@
 use Rattle.std.specs.Prelude.{◌≡◌, ◌<◌, ◌+◌, ◌^◌, ℕ, ◌++◌, List, [], ◌∷◌, take, Option, Some, None, if◌then◌else◌}
 use Rattle.fx_io.specs.Lines.{has_end}
 use Rattle.rule_world.specs.Worlds.{World}
-use Rattle.line_run.specs.Prompt.{whole_lines}
-use Rattle.line_run.specs.Run.{RunState, Steps, progress_after, run}
-use Rattle.line_run.specs.declared.turn.Progress.{Progress}
-use Rattle.line_run.specs.declared.turn.Turn.{Turn}
+use Rattle.line_run.specs.{Prompt.{whole_lines}, Run.{RunState, Steps, progress_after, run}, declared.turn.{Progress.{Progress}, Turn.{Turn}}}
 use Rattle.line_run.specs.declared.turn.Turn.TheVariants.{Goes, Saves, Stops}
 use Rattle.line_feed.specs.declared.fed.Fed.{Fed}
 

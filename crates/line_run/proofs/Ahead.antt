@@ -1,24 +1,14 @@
 -- The outcome of the lines ahead, line by line, against what was written and what is gathered.
-use Rattle.line_run.proofs.Common.{◌≡◌, ◌≢◌, ◌⊎◌, inl, inr, ◌<◌, ◌≤◌, ◌+◌, ◌++◌, ℕ, Bool, true, false, List, [], ◌∷◌, length, take, drop, Option}
-use Rattle.line_run.proofs.Common.{Some, None}
-use Rattle.line_run.proofs.Common.{Result, Ok, Err, option_map, refl, sym, ap, ap₂, subst, ◌∙◌, append_assoc, arith, IfSome, OnErr, flat_map-append}
-use Rattle.line_run.proofs.Common.{append-nil, length-append, take_at, take-append-drop, prepend, append, AppendsFront, IsExhausted, with_line, total_told}
-use Rattle.line_run.proofs.Common.{HasNoEnd, TakesLine, ReadsBytes, Line, Whole, End, World, Goes, Stops, Progress, Ended, Steps, RunState, Outcome}
-use Rattle.line_run.proofs.Common.{Done, LineEffect, goes_on, stops, then_run, at_limit, at_end, state_in, state_after, progress_after, Does}
-use Rattle.line_run.proofs.Common.{Flushes, Saves, saves, ArePut, Files, Puts}
-use Rattle.std.proofs.Common.{zero, suc}
-use Rattle.std.proofs.lemmas.List.{drop_all, take_all}
-use Rattle.std.proofs.lemmas.Option.{same_Some}
-use Rattle.fx_io.specs.Lines.{lines_of}
-use Rattle.fx_io.specs.Answers.{TakesFromBytes}
-use Rattle.fx_io.specs.declared.line.Line.TheVariants.{Long as LongLine}
-use Rattle.fx_io.proofs.Told.{append-append, prepend-prepend, prepend-nil}
-use Rattle.fx_io.proofs.Ahead.{answers_ahead}
-use Rattle.line_run.specs.declared.turn.Ended.TheVariants.{Script, Limit}
-use Rattle.line_run.specs.Prompt.{said, heard}
-use Rattle.line_run.specs.Run.{run, saved_states}
-use Rattle.line_run.specs.declared.fault.ImageFault.{ImageFault}
-use Rattle.line_run.specs.Unfinished.{LongOver, KeptFront, StoppedKept, RefusedAt, ended_lines, StoppedAtRead}
+use Rattle.line_run.proofs.Common.{◌≡◌, ◌≢◌, ◌⊎◌, inl, inr, ◌<◌, ◌≤◌, ◌+◌, ◌++◌, ℕ, Bool, true, false, List, [], ◌∷◌, length, take, drop, Option, Some, None}
+use Rattle.line_run.proofs.Common.{Result, Ok, Err, option_map, refl, sym, ap, ap₂, subst, ◌∙◌, append_assoc, arith, IfSome, OnErr, flat_map-append, append-nil}
+use Rattle.line_run.proofs.Common.{length-append, take_at, take-append-drop, prepend, append, AppendsFront, IsExhausted, with_line, total_told, HasNoEnd}
+use Rattle.line_run.proofs.Common.{TakesLine, ReadsBytes, Line, Whole, End, World, Goes, Stops, Progress, Ended, Steps, RunState, Outcome, Done, LineEffect}
+use Rattle.line_run.proofs.Common.{goes_on, stops, then_run, at_limit, at_end, state_in, state_after, progress_after, Does, Flushes, Saves, saves, ArePut}
+use Rattle.line_run.{proofs.Common.{Files, Puts}, specs.{declared.turn.Ended.TheVariants.{Script, Limit}, Prompt.{said, heard}, Run.{run, saved_states}}}
+use Rattle.line_run.specs.{declared.fault.ImageFault.{ImageFault}, Unfinished.{LongOver, KeptFront, StoppedKept, RefusedAt, ended_lines, StoppedAtRead}}
+use Rattle.std.proofs.{Common.{zero, suc}, lemmas.{List.{drop_all, take_all}, Option.{same_Some}}}
+use Rattle.fx_io.{specs.{Lines.{lines_of}, Answers.{TakesFromBytes}, declared.line.Line.TheVariants.{Long as LongLine}}, proofs.Told.{append-append}}
+use Rattle.fx_io.proofs.{Told.{prepend-prepend, prepend-nil}, Ahead.{answers_ahead}}
 
 -- what the lines ahead come to: their outcome, and the states whose images are put
 pub record Rest : Type 0 where

@@ -1,8 +1,6 @@
 -- Why a run stops before the end of the script.
 use Rattle.fx_io.specs.declared.line.LineFault.{LineFault}
-use Rattle.line_run.specs.declared.fault.StopFault.{StopFault}
-use Rattle.line_run.specs.declared.fault.StopFault.TheVariants.{ReadFault, WriteFault, ScriptLong, NoMemory, Refused}
-use Rattle.line_run.specs.declared.fault.KeepFault.{KeepFault}
+use Rattle.line_run.specs.declared.fault.{StopFault.{StopFault, TheVariants.{ReadFault, WriteFault, ScriptLong, NoMemory, Refused}}, KeepFault.{KeepFault}}
 use Rattle.line_run.specs.declared.fault.KeepFault.TheVariants as keep
 use Rattle.fx_io.specs.declared.line.LineFault.TheVariants as line
 

@@ -1,9 +1,7 @@
 -- A run: what the lines of a script print one after the other, and how it ends. What a line does in a state is given.
 use Rattle.std.specs.Prelude.{ℕ, ◌+◌, ◌||◌, ◌++◌, Bool, List, [], ◌∷◌, Option, Some, None}
 use Rattle.rule_world.specs.Worlds.{World}
-use Rattle.line_run.specs.declared.turn.Progress.{Progress}
-use Rattle.line_run.specs.declared.turn.Ended.{Ended}
-use Rattle.line_run.specs.declared.turn.Ended.TheVariants.{Script, Limit}
+use Rattle.line_run.specs.declared.turn.{Progress.{Progress}, Ended.{Ended, TheVariants.{Script, Limit}}}
 
 -- a line of the script after which the run goes on: what it prints, the world that it leaves, how many firings are left,
 -- and whether it is a fault

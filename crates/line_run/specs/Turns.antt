@@ -1,17 +1,9 @@
 -- What the loop over the lines does in a turn.
 use Rattle.std.specs.Prelude.{◌≡◌, ◌<◌, ◌≤◌, ℕ, ◌++◌, List, [], length, take, drop, Option, Some, None, Result, Ok, Err, IfSome}
-use Rattle.fx_io.specs.Outside.{append}
-use Rattle.fx_io.specs.Lines.{with_line}
-use Rattle.fx_io.specs.declared.line.Line.{Line}
-use Rattle.fx_io.specs.declared.line.Line.TheVariants.{Whole, Long, End as line_end}
+use Rattle.fx_io.specs.{Outside.{append}, Lines.{with_line}, declared.line.Line.{Line, TheVariants.{Whole, Long, End as line_end}}}
 use Rattle.rule_world.specs.Worlds.{World}
-use Rattle.line_run.specs.declared.fault.StopFault.{StopFault}
-use Rattle.line_run.specs.declared.fault.StopFault.TheVariants.{ReadFault, WriteFault, NoMemory, ScriptLong, Refused}
-use Rattle.line_run.specs.declared.turn.Turn.{Turn}
-use Rattle.line_run.specs.declared.turn.Turn.TheVariants.{Goes, Saves, Stops}
-use Rattle.line_run.specs.declared.turn.Progress.{Progress}
-use Rattle.line_run.specs.declared.turn.Ended.{Ended}
-use Rattle.line_run.specs.declared.turn.Ended.TheVariants.{Script, Limit}
+use Rattle.line_run.specs.declared.{fault.StopFault.{StopFault, TheVariants.{ReadFault, WriteFault, NoMemory, ScriptLong, Refused}}, turn.Turn.{Turn}}
+use Rattle.line_run.specs.declared.turn.{Turn.TheVariants.{Goes, Saves, Stops}, Progress.{Progress}, Ended.{Ended, TheVariants.{Script, Limit}}}
 use Rattle.line_run.specs.Run.{RunState, LineEffect, goes_on, saves, stops, progress_after}
 
 -- a line was done: its text was gathered, and what took it stands for its world, or the limit was met

@@ -1,11 +1,7 @@
 -- Runs that stop before the end of the script.
-use Rattle.std.specs.Prelude.{◌≡◌, ◌≢◌, ◌⊎◌, ◌<◌, ◌+◌, ◌++◌, ℕ, List, [], ◌∷◌, length, Option, Some}
-use Rattle.std.specs.List.{flat_map}
-use Rattle.fx_io.specs.Outside.{append, AppendsFront}
-use Rattle.fx_io.specs.Lines.{lines_of, HasNoEnd}
-use Rattle.line_run.specs.declared.turn.Ended.TheVariants.{Limit}
-use Rattle.line_run.specs.declared.fault.ImageFault.{ImageFault}
-use Rattle.line_run.specs.Run.{Done, Outcome, RunState, Steps, saves, state_after}
+use Rattle.std.specs.{Prelude.{◌≡◌, ◌≢◌, ◌⊎◌, ◌<◌, ◌+◌, ◌++◌, ℕ, List, [], ◌∷◌, length, Option, Some}, List.{flat_map}}
+use Rattle.fx_io.specs.{Outside.{append, AppendsFront}, Lines.{lines_of, HasNoEnd}}
+use Rattle.line_run.specs.{declared.{turn.Ended.TheVariants.{Limit}, fault.ImageFault.{ImageFault}}, Run.{Done, Outcome, RunState, Steps, saves, state_after}}
 use Rattle.line_run.specs.Saves.{Files, Puts, ArePut}
 
 -- lines with their ends

@@ -1,20 +1,13 @@
 -- The rows of a not, what is dropped with forgotten facts, and what waits.
 use Rattle.not_node.proofs.Common.{◌≡◌, ◌∙◌, sym, ap, refl, int_lt, cond, Bool, true, false, not, ◌&&◌, List, Option, Some, None, ℤ, fun_ext, Row, has}
 use Rattle.not_node.proofs.Common.{IsDifference, Pattern, Look, left_at, moment_at, unblocked, not_rows, is_that_moment, mature, later, AwaitsMoments, cleaned}
-use Rattle.not_node.proofs.Common.{not_line, NotLaw, NotStepLaw, NotDropLaw, NotMoveLaw, and_parts, and-true, and_where, not_not}
+use Rattle.not_node.proofs.{Common.{not_line, NotLaw, NotStepLaw, NotDropLaw, NotMoveLaw, and_parts, and-true, and_where, not_not}, Maturing.{row_mature}}
+use Rattle.not_node.{proofs.Maturing.{moment_alike}, specs.Doors.{blocking_pattern}}
 use mathlib.Core.Path.{subst}
-use Rattle.std.specs.Option.{is_some}
-use Rattle.pair_memory.specs.declared.memories.Memories.{Memories}
-use Rattle.pair_memory.specs.Joined.{has_name}
-use Rattle.pair_memory.proofs.Moving.{move_law as memories_move}
-use Rattle.std.specs.List.{list_any}
-use Rattle.tally_node.specs.declared.count.Blockers.{Blockers}
-use Rattle.tally_node.specs.Counts.{counts_blockers, where_unblocked}
-use Rattle.tally_node.specs.Origins.{shows_any}
-use Rattle.tally_node.specs.Tallies.{offers, output_some}
+use Rattle.std.specs.{Option.{is_some}, List.{list_any}}
+use Rattle.pair_memory.{specs.{declared.memories.Memories.{Memories}, Joined.{has_name}}, proofs.Moving.{move_law as memories_move}}
+use Rattle.tally_node.specs.{declared.count.Blockers.{Blockers}, Counts.{counts_blockers, where_unblocked}, Origins.{shows_any}, Tallies.{offers, output_some}}
 use Rattle.tally_node.proofs.Lawful.{blockers_shown, tally_law}
-use Rattle.not_node.proofs.Maturing.{row_mature, moment_alike}
-use Rattle.not_node.specs.Doors.{blocking_pattern}
 
 pub not_law : NotLaw
 not_law p node look world pass rows names forgotten was row =

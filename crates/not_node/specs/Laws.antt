@@ -1,29 +1,14 @@
 -- When a row is mature, which rows a not has, and what a step, forgetting and a change of the store are for them.
-use Rattle.std.specs.Prelude.{◌≡◌, ◌&&◌, ◌≤ℤ◌, not, true, false, int_lt, Bool, cond, List, None, ℤ}
-use Rattle.std.specs.List.{list_any}
-use Rattle.row_delta.specs.declared.row.Named.{Named}
-use Rattle.row_delta.specs.declared.row.Row.{Row}
-use Rattle.row_delta.specs.declared.delta.Delta.{Delta}
-use Rattle.row_delta.specs.Rows.{has}
+use Rattle.std.specs.{Prelude.{◌≡◌, ◌&&◌, ◌≤ℤ◌, not, true, false, int_lt, Bool, cond, List, None, ℤ}, List.{list_any}}
+use Rattle.row_delta.specs.{declared.{row.{Named.{Named}, Row.{Row}}, delta.Delta.{Delta}}, Rows.{has}}
 use Rattle.row_change.specs.Changes.{LeadsRows, IsDifference}
-use Rattle.rule_model.specs.declared.condition.Pattern.{Pattern}
-use Rattle.rule_model.specs.declared.program.Program.{Program}
-use Rattle.rule_model.specs.Lent.{Holds, bound_in}
-use Rattle.rule_model.specs.Maturity.{is_mature}
-use Rattle.rule_model.specs.Tuples.{Tuple, row_of, bound_by}
+use Rattle.rule_model.specs.{declared.{condition.Pattern.{Pattern}, program.Program.{Program}}, Lent.{Holds, bound_in}, Maturity.{is_mature}, Tuples.{Tuple}}
+use Rattle.rule_model.specs.Tuples.{row_of, bound_by}
 use Rattle.join_tests.specs.Joins.{Look}
-use Rattle.pair_memory.specs.Joined.{has_name}
-use Rattle.pair_memory.specs.Memories.{left_at, Agrees}
-use Rattle.pair_memory.specs.Standing.{clean, cleaned, either, remembered, PassesAlike, StandsFor, LooksAlike}
+use Rattle.pair_memory.specs.{Joined.{has_name}, Memories.{left_at, Agrees}, Standing.{clean, cleaned, either, remembered, PassesAlike, StandsFor, LooksAlike}}
 use Rattle.pair_memory.specs.Inputs.{IsNameDifference, IsStepped}
-use Rattle.tally_node.specs.Counts.{counts_blockers}
-use Rattle.tally_node.specs.Laws.{StandsCounted, ForgottenStay}
-use Rattle.tally_node.specs.Tallies.{SeeAlike, TallyStep}
-use Rattle.not_node.specs.declared.node.NotNode.{NotNode}
-use Rattle.not_node.specs.Moments.{moment_at}
-use Rattle.not_node.specs.Rows.{IsInStep, not_rows}
-use Rattle.not_node.specs.Waiting.{waits, mature}
-use Rattle.not_node.specs.Doors.{blocking_pattern}
+use Rattle.tally_node.specs.{Counts.{counts_blockers}, Laws.{StandsCounted, ForgottenStay}, Tallies.{SeeAlike, TallyStep}}
+use Rattle.not_node.specs.{declared.node.NotNode.{NotNode}, Moments.{moment_at}, Rows.{IsInStep, not_rows}, Waiting.{waits, mature}, Doors.{blocking_pattern}}
 
 -- A row that waits for its moment is mature where its tuple is.
 abbrev pub MaturityLaw : Type 0

@@ -1,13 +1,8 @@
 -- The moment for which a row waits.
 use Rattle.std.specs.Prelude.{ℤ, cond, Option, Some, None}
-use Rattle.temporal_ops.specs.declared.window.Window.{Window}
-use Rattle.temporal_ops.specs.declared.window.Window.TheVariants.{Never, UpTo, Unbounded}
+use Rattle.temporal_ops.specs.declared.window.Window.{Window, TheVariants.{Never, UpTo, Unbounded}}
 use Rattle.row_delta.specs.declared.row.Row.{Row}
-use Rattle.rule_model.specs.declared.condition.Pattern.{Pattern}
-use Rattle.rule_model.specs.declared.program.Program.{Program}
-use Rattle.rule_model.specs.Lent.{bound_in}
-use Rattle.rule_model.specs.Maturity.{start_window_at}
-use Rattle.rule_model.specs.Tuples.{Bindings}
+use Rattle.rule_model.specs.{declared.{condition.Pattern.{Pattern}, program.Program.{Program}}, Lent.{bound_in}, Maturity.{start_window_at}, Tuples.{Bindings}}
 use Rattle.rule_model.specs.Types.{is_event}
 use Rattle.join_tests.specs.Joins.{Look}
 

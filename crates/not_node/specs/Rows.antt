@@ -4,14 +4,8 @@ use Rattle.row_delta.specs.declared.row.Row.{Row}
 use Rattle.rule_model.specs.declared.program.Program.{Program}
 use Rattle.join_tests.specs.Joins.{Look}
 use Rattle.pair_memory.specs.declared.memories.Memories.{Memories}
-use Rattle.tally_node.specs.declared.count.Blockers.{Blockers}
-use Rattle.tally_node.specs.Counts.{where_unblocked}
-use Rattle.tally_node.specs.Origins.{itself, shows_any}
-use Rattle.tally_node.specs.Tallies.{shown}
-use Rattle.not_node.specs.declared.node.NotNode.{NotNode}
-use Rattle.not_node.specs.Moments.{moment_at}
-use Rattle.not_node.specs.Waiting.{AwaitsMoments, ripe}
-use Rattle.not_node.specs.Doors.{blocking_pattern}
+use Rattle.tally_node.specs.{declared.count.Blockers.{Blockers}, Counts.{where_unblocked}, Origins.{itself, shows_any}, Tallies.{shown}}
+use Rattle.not_node.specs.{declared.node.NotNode.{NotNode}, Moments.{moment_at}, Waiting.{AwaitsMoments, ripe}, Doors.{blocking_pattern}}
 
 -- the left rows for which no candidate is counted
 abbrev pub unblocked : Memories Blockers → Look → Row → Bool

@@ -3,9 +3,8 @@ use Rattle.page_map.proofs.Common.{◌≡◌, ◌∙◌, sym, ap, subst, ℕ, �
 use Rattle.page_map.proofs.Common.{BTreeMap, is_at, WritesThrough, Directory, free, ArePagesApart, AreDirectories, number_in_pages, value_at, numbered, among}
 use Rattle.page_map.proofs.Common.{held, AreDirectoriesApart, All-get_or}
 use Rattle.std.specs.FinMap as map
-use Rattle.page_map.proofs.Kept.{get-numbers, put_anew, put_first, take_out, take_last, unchanged, emptied, rewritten, rewritten_others}
-use Rattle.page_map.proofs.Rows.{stands, stands_at, whole}
-use Rattle.page_map.proofs.Moved.{stands_in_row, stands_in_tree, row_written, row_held, tree_written, tree_held}
+use Rattle.page_map.proofs.{Kept.{get-numbers, put_anew, put_first, take_out, take_last, unchanged, emptied, rewritten, rewritten_others}, Rows.{stands}}
+use Rattle.page_map.proofs.{Rows.{stands_at, whole}, Moved.{stands_in_row, stands_in_tree, row_written, row_held, tree_written, tree_held}}
 
 -- the value of a key, by its directory
 pub found : (first : ℕ) (row : List Directory) (tree : List (ℕ × Directory)) → AreDirectoriesApart first row tree → (key : ℕ) (o : Option Directory) → stands (key / 2048) (among first row tree) ≡ o

@@ -2,9 +2,8 @@
 use Rattle.page_map.proofs.Common.{◌≡◌, ◌∙◌, sym, ap, refl, ℕ, ◌+◌, ◌^◌, ◌<◌, ◌≤◌, List, [], ◌∷◌, ◌++◌, Bool, true, false, cond, Option, Some, None, length}
 use Rattle.page_map.proofs.Common.{set, arith, length-append, length-set, ◌/◌, ◌%◌, nat_lt, option_or, nat_cmp, is_at, All-push, All-pop, All-tail, ltb-true}
 use Rattle.page_map.proofs.Common.{ltb-false, Directory, ArePagesApart, AreDirectories, value_for_number, value_at, numbered, among, held, AreDirectoriesApart}
-use Rattle.page_map.proofs.Common.{IsTrimmed, All-set, numbers_of}
-use Rattle.page_map.proofs.Kept.{apart, together, tied, same_values, past_pages}
-use Rattle.page_map.proofs.Rows.{stands, or_none, none_before, none_behind, some_within, stands_set, stands_push, stands_among, none_among, whole}
+use Rattle.page_map.proofs.{Common.{IsTrimmed, All-set, numbers_of}, Kept.{apart, together, tied, same_values, past_pages}, Rows.{stands, or_none, none_before}}
+use Rattle.page_map.proofs.Rows.{none_behind, some_within, stands_set, stands_push, stands_among, none_among, whole}
 
 -- where a row has a directory, the tree has none
 pub tree_none : (first : ℕ) (row : List Directory) (tree : List (ℕ × Directory)) → AreDirectoriesApart first row tree → (n : ℕ) (d : Directory) → stands n (numbered first row) ≡ Some d → stands n tree ≡ None

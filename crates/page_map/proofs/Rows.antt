@@ -2,9 +2,8 @@
 use Rattle.page_map.proofs.Common.{◌≡◌, ◌∙◌, sym, ap, subst, refl, ℕ, zero, suc, ◌+◌, ◌^◌, ◌<◌, ◌≤◌, List, [], ◌∷◌, ◌++◌, Bool, true, false, cond, Option, Some}
 use Rattle.page_map.proofs.Common.{None, length, get_or, set, arith, nat_lt, option_or, Less, nat_cmp, is_at, lookup, keys_of, values_of, AllByRecursion}
 use Rattle.page_map.proofs.Common.{ltb-true, ltb-false, append-nil, recursion_from_All, Directory, ArePagesApart, AreDirectories, numbered, among}
-use Rattle.page_map.proofs.Common.{AreDirectoriesApart, All-from_recursion}
+use Rattle.page_map.proofs.{Common.{AreDirectoriesApart, All-from_recursion}, Kept.{apart, together, tied, beyond, all_above}}
 use Rattle.std.specs.List.Sorted.{IsStrictlySortedBy}
-use Rattle.page_map.proofs.Kept.{apart, together, tied, beyond, all_above}
 
 -- ---- look-ups
 

@@ -2,11 +2,7 @@
 -- pages of 64 keys each.
 use Rattle.std.specs.Prelude.{◌≤◌, ◌<◌, ◌+◌, ◌*◌, ◌/◌, ◌%◌, ◌^◌, ℕ, zero, suc, List, [], ◌∷◌, Option, Some, None, cond, length, nat_eq, slice_index_or}
 use Rattle.std.specs.FinMap as map
-use Rattle.std.specs.Global.{Vec}
-use Rattle.std.specs.List.{All}
-use Rattle.std.specs.List.Sorted.{IsStrictlySortedBy}
-use Rattle.std.specs.Map.{keys_of, values_of}
-use Rattle.std.specs.Ordering.{nat_cmp}
+use Rattle.std.specs.{Global.{Vec}, List.{All, Sorted.{IsStrictlySortedBy}}, Map.{keys_of, values_of}, Ordering.{nat_cmp}}
 
 -- a finite map from numbers to numbers
 abbrev pub NumberMap : Type 0

@@ -1,9 +1,6 @@
 -- The two parts of a map: its run, and its tree.
-use Rattle.std.specs.Prelude.{ℕ}
-use Rattle.std.specs.BTreeMap.{BTreeMap}
-use Rattle.page_map.specs.declared.run.Run.{Run}
-use Rattle.page_map.specs.Pages.{Directory, NumberMap}
-use Rattle.page_map.specs.Rows.{AreDirectoriesApart, held}
+use Rattle.std.specs.{Prelude.{ℕ}, BTreeMap.{BTreeMap}}
+use Rattle.page_map.specs.{declared.run.Run.{Run}, Pages.{Directory, NumberMap}, Rows.{AreDirectoriesApart, held}}
 
 -- run and tree fit each other
 abbrev pub AreParts : Run → BTreeMap ℕ Directory → Type 0

@@ -1,8 +1,5 @@
 -- Directories in a tree, and a row of directories that stand at consecutive numbers: the numbers of the row stand in no tree.
-use Rattle.std.specs.Prelude.{◌≡◌, ◌≤◌, ◌<◌, ◌+◌, ◌^◌, ℕ, List, [], ◌∷◌, ◌++◌, None, cond, length, nat_lt}
-use Rattle.std.specs.BTreeMap.{is_at}
-use Rattle.std.specs.List.{All}
-use Rattle.std.specs.Map.{lookup}
+use Rattle.std.specs.{Prelude.{◌≡◌, ◌≤◌, ◌<◌, ◌+◌, ◌^◌, ℕ, List, [], ◌∷◌, ◌++◌, None, cond, length, nat_lt}, BTreeMap.{is_at}, List.{All}, Map.{lookup}}
 use Rattle.std.specs.Ordering.{nat_cmp}
 use Rattle.page_map.specs.Pages.{Directory, NumberMap, ArePagesApart, AreDirectories, numbers_of, value_at}
 

@@ -2,12 +2,9 @@
 use Rattle.pair_memory.proofs.Common.{◌≡◌, ◌∙◌, sym, ap, refl, subst, List, [], ◌∷◌, Bool, true, false, ◌&&◌, ◌||◌, Some, None, is_some, Ordering, eq_by_cmp}
 use Rattle.pair_memory.proofs.Common.{Value, same_value, equal_values, Named, Row, row_cmp, name_cmp, Pattern, JoinIndex, bucket_at, at, Look, joins, row_value}
 use Rattle.pair_memory.proofs.Common.{candidate_value, row_kept, unjoined, row_joins, name_joins, stands_in, rows_sought, candidates_sought, is_value_among}
-use Rattle.pair_memory.proofs.Common.{name_kept}
-use Rattle.std.proofs.Math.Bool.{and-false, or-false}
-use Rattle.std.specs.List.Sorted.{IsStrictlySortedBy}
+use Rattle.pair_memory.{proofs.{Common.{name_kept}, Joining.{row_decides, name_decides, splits_alike, splits_or}}, specs.Joined.{joined}}
+use Rattle.std.{proofs.Math.Bool.{and-false, or-false}, specs.List.Sorted.{IsStrictlySortedBy}}
 use Rattle.join_tests.proofs.Meeting.{row_sought, candidate_sought}
-use Rattle.pair_memory.specs.Joined.{joined}
-use Rattle.pair_memory.proofs.Joining.{row_decides, name_decides, splits_alike, splits_or}
 
 or_same : (a : Bool) → (a || a) ≡ a
 or_same true = refl

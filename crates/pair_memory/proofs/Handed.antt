@@ -1,16 +1,11 @@
 -- Candidates that are handed to a node, one after another, and what the node makes of all that came and went.
-use Rattle.pair_memory.proofs.Common.{◌≡◌, ◌∙◌, sym, ap, refl, ℕ, zero, suc, ◌+◌, ◌<◌, arith, length, take, get_or, List, [], ◌∷◌, Bool, true, false, not, ◌&&◌, ◌||◌}
-use Rattle.pair_memory.proofs.Common.{eq_by_cmp, Named, Row, name_cmp, name_equiv, Look, joins, Memories, has_name, has_left, has_right, KeepsMemories, unjoined}
-use Rattle.fx_base.proofs.Tests.{and_first, or_first_false, or_second_false}
-use Rattle.row_delta.specs.declared.delta.Delta.{Delta}
-use Rattle.row_delta.specs.Rows.{has}
-use Rattle.pair_memory.specs.Inputs.{IsStepped}
-use Rattle.pair_memory.specs.declared.candidates.Candidates.{Candidates}
-use Rattle.pair_memory.specs.Handed.{moved, MayMove}
-use Rattle.pair_memory.specs.Joined.{joined, AreDistinct}
-use Rattle.pair_memory.specs.Shared.{sharing, NamesAgree, AreHanded, ForgoesOld, TakesOver}
-use Rattle.pair_memory.proofs.Joining.{splits_alike}
+use Rattle.pair_memory.proofs.Common.{◌≡◌, ◌∙◌, sym, ap, refl, ℕ, zero, suc, ◌+◌, ◌<◌, arith, length, take, get_or, List, [], ◌∷◌, Bool, true, false, not, ◌&&◌}
+use Rattle.pair_memory.proofs.Common.{◌||◌, eq_by_cmp, Named, Row, name_cmp, name_equiv, Look, joins, Memories, has_name, has_left, has_right, KeepsMemories}
+use Rattle.pair_memory.{proofs.Common.{unjoined}, specs.{Inputs.{IsStepped}, declared.candidates.Candidates.{Candidates}, Handed.{moved, MayMove}}}
+use Rattle.pair_memory.{specs.{Joined.{joined, AreDistinct}, Shared.{sharing, NamesAgree, AreHanded, ForgoesOld, TakesOver}}, proofs.Joining.{splits_alike}}
 use Rattle.pair_memory.proofs.Turning.{any_name, keeps_then, less_more, more_more}
+use Rattle.fx_base.proofs.Tests.{and_first, or_first_false, or_second_false}
+use Rattle.row_delta.specs.{declared.delta.Delta.{Delta}, Rows.{has}}
 
 -- ---- one candidate after another
 

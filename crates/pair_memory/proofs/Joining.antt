@@ -1,16 +1,11 @@
 -- Rows that are made by one fact more.
 use Rattle.pair_memory.proofs.Common.{◌≡◌, ◌∙◌, sym, ap, refl, subst, List, [], ◌∷◌, Bool, true, false, ◌&&◌, ◌||◌, Option, Some, None, is_some, option_map}
 use Rattle.pair_memory.proofs.Common.{is_at, eq_by_cmp, is_some-lookup, Named, Row, row_cmp, has, same_equiv, name_cmp, name_equiv, found, with_name}
-use Rattle.pair_memory.proofs.Common.{split_last, unjoined, splits, has_name, row_exact, name_exact, front_of}
-use Rattle.std.proofs.lemmas.Bool.{and_from, and_parts}
-use Rattle.std.proofs.Math.Bool.{and-false, or-false, or_assoc}
-use Rattle.std.specs.Bool.{Decides}
-use Rattle.std.proofs.lemmas.Bool.Decides.{same_from_decides}
+use Rattle.pair_memory.{proofs.{Common.{split_last, unjoined, splits, has_name, row_exact, name_exact, front_of}, Lasts.{split_snoc}}, specs.Joined.{joined}}
+use Rattle.pair_memory.proofs.Lasts.{is_snoc}
+use Rattle.std.{proofs.{lemmas.Bool.{and_from, and_parts, Decides.{same_from_decides}}, Math.Bool.{and-false, or-false, or_assoc}}, specs.Bool.{Decides}}
 use Rattle.alpha_memory.specs.declared.bucket.Bucket.TheVariants.{One}
-use Rattle.pair_memory.specs.Joined.{joined}
-use Rattle.pair_memory.proofs.Lasts.{split_snoc, is_snoc}
-use Rattle.fx_base.proofs.Orders.{is_eq-true}
-use Rattle.fx_base.proofs.Tests.{and_or_and}
+use Rattle.fx_base.proofs.{Orders.{is_eq-true}, Tests.{and_or_and}}
 
 pub row_decides : (a b : Row) → Decides (eq_by_cmp row_cmp a b) (a ≡ b)
 row_decides a b = (λ e. row_exact a b (is_eq-true (row_cmp a b) e), λ e. subst (λ c. eq_by_cmp row_cmp a c ≡ true) e (same_equiv.refl a))

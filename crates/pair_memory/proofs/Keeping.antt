@@ -1,13 +1,10 @@
 -- What is kept after a change at one row, or at one candidate.
-use Rattle.pair_memory.proofs.Common.{◌≡◌, ◌∙◌, sym, ap, refl, subst, Bool, true, false, cond, not, ◌&&◌, ◌||◌, Option, Some, None, is_some, then_some}
-use Rattle.pair_memory.proofs.Common.{IfSome, SeesRows, eq_by_cmp, Value}
-use Rattle.pair_memory.proofs.Common.{same_value, Named, Row, row_cmp, name_cmp, Pattern, JoinIndex, at, Look, joins, row_value, candidate_value, Memories}
-use Rattle.pair_memory.proofs.Common.{joined, has_left, has_right, made, KeepsMemories, same_itself, left_at}
+use Rattle.pair_memory.proofs.Common.{◌≡◌, ◌∙◌, sym, ap, refl, subst, Bool, true, false, cond, not, ◌&&◌, ◌||◌, Option, Some, None, is_some, then_some, IfSome}
+use Rattle.pair_memory.proofs.Common.{SeesRows, eq_by_cmp, Value, same_value, Named, Row, row_cmp, name_cmp, Pattern, JoinIndex, at, Look, joins, row_value}
+use Rattle.pair_memory.proofs.Common.{candidate_value, Memories, joined, has_left, has_right, made, KeepsMemories, same_itself, left_at}
+use Rattle.pair_memory.{specs.{declared.candidates.Candidates.{Candidates}, Shared.{KeepsNames}}, proofs.Joining.{row_decides, name_decides, joined_alike}}
 use Rattle.std.proofs.lemmas.Bool.{and_parts}
 use Rattle.join_tests.specs.declared.sought.Sight.{Sight}
-use Rattle.pair_memory.specs.declared.candidates.Candidates.{Candidates}
-use Rattle.pair_memory.specs.Shared.{KeepsNames}
-use Rattle.pair_memory.proofs.Joining.{row_decides, name_decides, joined_alike}
 
 absorbed : (a b : Bool) → (b ≡ true → a ≡ true) → (a && b) ≡ b
 absorbed a true h = ap (λ x. x && true) (h refl)

@@ -1,5 +1,6 @@
 -- The left rows as a list.
-use Rattle.pair_memory.proofs.Common.{◌≡◌, ◌∙◌, ap, List, is_some, Value, equal_values, same_value, Row, row_cmp, has, at, Look, Memories, has_left, AreKeys, row_value, true}
+use Rattle.pair_memory.proofs.Common.{◌≡◌, ◌∙◌, ap, List, is_some, Value, equal_values, same_value, Row, row_cmp, has, at, Look, Memories, has_left, AreKeys}
+use Rattle.pair_memory.proofs.Common.{row_value, true}
 use Rattle.fx_base.proofs.Tests.{same_test}
 
 -- each row stands under its own join value

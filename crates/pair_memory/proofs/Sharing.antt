@@ -3,15 +3,9 @@ use Rattle.pair_memory.proofs.Common.{◌≡◌, ◌∙◌, sym, ap, refl, ℕ, 
 use Rattle.pair_memory.proofs.Common.{list_any, eq_by_cmp, list_any-append, list_any_more, Named, Row, row_cmp, has, same_equiv, name_cmp, name_equiv, Value}
 use Rattle.pair_memory.proofs.Common.{same_value, Pattern, Look, row_value, candidate_value, Memories, unjoined, has_name, has_left, has_right, KeepsMemories}
 use Rattle.pair_memory.proofs.Common.{Option, Some, None, name_kept, beside, RowsLeave, RowsCome, NamesLeave, NamesCome, LooksWhereKept}
-use Rattle.join_tests.specs.declared.row_key.RowKey.{RowKey}
-use Rattle.join_tests.specs.RowKeys.{value_by}
-use Rattle.join_tests.proofs.Siding.{kept_by}
-use Rattle.pair_memory.specs.declared.candidates.Candidates.{Candidates}
-use Rattle.pair_memory.specs.Shared.{over}
-use Rattle.pair_memory.specs.declared.left_rows.LeftRows.{LeftRows}
-use Rattle.pair_memory.specs.Joined.{joined}
-use Rattle.pair_memory.proofs.Joining.{name_decides, splits_alike, splits_or, joined_alike, none_right}
-use Rattle.pair_memory.proofs.Turning.{keeps_then, less_more, more_more, any_name}
+use Rattle.pair_memory.specs.{declared.{candidates.Candidates.{Candidates}, left_rows.LeftRows.{LeftRows}}, Shared.{over}, Joined.{joined}}
+use Rattle.pair_memory.proofs.{Joining.{name_decides, splits_alike, splits_or, joined_alike, none_right}, Turning.{keeps_then, less_more, more_more, any_name}}
+use Rattle.join_tests.{specs.{declared.row_key.RowKey.{RowKey}, RowKeys.{value_by}}, proofs.Siding.{kept_by}}
 use Rattle.fx_base.proofs.Tests.{and_or_and}
 use Rattle.std.proofs.Math.Bool.{and-false, and-true}
 

@@ -1,7 +1,6 @@
 -- What memories stand for after a step, and after forgetting.
-use Rattle.pair_memory.proofs.Common.{◌≡◌, ◌∙◌, ap, refl, Bool, true, false, not, ◌&&◌, ◌||◌, has, row_naming, cleaned, remembered}
-use Rattle.pair_memory.specs.Steps.{StepsLaw, ForgetsLaw}
-use Rattle.pair_memory.proofs.Worlds.{forgotten_more}
+use Rattle.pair_memory.{proofs.Common.{◌≡◌, ◌∙◌, ap, refl, Bool, true, false, not, ◌&&◌, ◌||◌, has, row_naming, cleaned, remembered}, specs.Steps.{StepsLaw}}
+use Rattle.pair_memory.{specs.Steps.{ForgetsLaw}, proofs.Worlds.{forgotten_more}}
 use Rattle.fx_base.proofs.Tests.{and_not_not}
 
 -- a set after its difference

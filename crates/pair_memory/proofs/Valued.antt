@@ -1,7 +1,6 @@
 -- Rows that are made by one value more.
 use Rattle.pair_memory.proofs.Common.{◌≡◌, ◌∙◌, ap, refl, ℤ, List, Bool, true, false, Option, Some, None, option_map, Row, split_last}
-use Rattle.pair_memory.specs.Valued.{with_row_value, value_front, unvalued, splits_value, valued}
-use Rattle.pair_memory.proofs.Lasts.{split_snoc, is_snoc}
+use Rattle.pair_memory.{specs.Valued.{with_row_value, value_front, unvalued, splits_value, valued}, proofs.Lasts.{split_snoc, is_snoc}}
 
 -- the row with these values in place of its own
 abbrev pub row_valued : Row → List ℤ → Row

@@ -1,10 +1,8 @@
 -- What memories that stand for left rows and candidates of the world make, and what they stand for after a step or after forgetting.
 use Rattle.pair_memory.proofs.Common.{◌≡◌, ◌∙◌, sym, ap, refl, List, [], ◌∷◌, Bool, true, false, not, ◌&&◌, ◌||◌, Option, Some, None, list_any, list_any-append}
 use Rattle.pair_memory.proofs.Common.{Named, Row, Look, joins, Memories, with_name, unjoined, splits, has_left, has_right, made, cleaned, remembered, clean}
-use Rattle.pair_memory.proofs.Common.{either, PassesAlike, StandsFor}
+use Rattle.pair_memory.{proofs.{Common.{either, PassesAlike, StandsFor}, Joining.{joined_alike, from_unjoined}}, specs.Joined.{joined}}
 use Rattle.std.proofs.Math.Bool.{and-false}
-use Rattle.pair_memory.specs.Joined.{joined}
-use Rattle.pair_memory.proofs.Joining.{joined_alike, from_unjoined}
 
 not_or : (a b : Bool) → not (a || (b || false)) ≡ (not a && not b)
 not_or true b = refl

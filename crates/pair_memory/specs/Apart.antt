@@ -1,17 +1,10 @@
 -- The left rows of several nodes, kept once, and the candidates of one of them.
-use Rattle.std.specs.Prelude.{◌≡◌, ◌&&◌, ◌||◌, not, Bool, List}
-use Rattle.std.specs.Option.{is_some}
+use Rattle.std.specs.{Prelude.{◌≡◌, ◌&&◌, ◌||◌, not, Bool, List}, Option.{is_some}}
 use Rattle.fx_base.specs.Values.{same_value}
-use Rattle.row_delta.specs.declared.row.Named.{Named}
-use Rattle.row_delta.specs.declared.row.Row.{Row}
-use Rattle.row_delta.specs.Rows.{row_cmp, has}
+use Rattle.row_delta.specs.{declared.row.{Named.{Named}, Row.{Row}}, Rows.{row_cmp, has}}
 use Rattle.alpha_memory.specs.JoinIndex.{at}
-use Rattle.join_tests.specs.Joins.{Look}
-use Rattle.join_tests.specs.RowKeys.{row_key, value_by}
-use Rattle.pair_memory.specs.declared.candidates.Candidates.{Candidates}
-use Rattle.pair_memory.specs.declared.left_rows.LeftRows.{LeftRows}
-use Rattle.pair_memory.specs.declared.memories.Memories.{Memories}
-use Rattle.pair_memory.specs.Joined.{has_name}
+use Rattle.join_tests.specs.{Joins.{Look}, RowKeys.{row_key, value_by}}
+use Rattle.pair_memory.specs.{declared.{candidates.Candidates.{Candidates}, left_rows.LeftRows.{LeftRows}, memories.Memories.{Memories}}, Joined.{has_name}}
 use Rattle.pair_memory.specs.Memories.{name_kept, has_left, has_right, KeepsMemories}
 
 -- the row is kept

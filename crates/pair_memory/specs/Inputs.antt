@@ -1,12 +1,8 @@
 -- What a step gives a node: what changes in the rows of the conditions before it, and in its candidates, each named by a row of its own.
 use Rattle.std.specs.Prelude.{◌≡◌, ◌&&◌, ◌||◌, not, Bool, Option, Some, None, List, [], ◌∷◌, ℤ}
-use Rattle.row_delta.specs.declared.row.Named.{Named}
-use Rattle.row_delta.specs.declared.row.Row.{Row}
-use Rattle.row_delta.specs.declared.delta.Delta.{Delta}
-use Rattle.row_delta.specs.Rows.{has}
+use Rattle.row_delta.specs.{declared.{row.{Named.{Named}, Row.{Row}}, delta.Delta.{Delta}}, Rows.{has}}
 use Rattle.join_tests.specs.Joins.{Look}
-use Rattle.pair_memory.specs.declared.memories.Memories.{Memories}
-use Rattle.pair_memory.specs.Memories.{has_left, has_right, KeepsMemories}
+use Rattle.pair_memory.specs.{declared.memories.Memories.{Memories}, Memories.{has_left, has_right, KeepsMemories}}
 
 -- the row that names a candidate alone
 abbrev pub row_naming : Named → Row

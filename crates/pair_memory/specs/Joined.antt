@@ -1,11 +1,6 @@
 -- The rows that a test makes of rows with one fact more, where sets are tests too.
-use Rattle.std.specs.Prelude.{◌≡◌, ◌&&◌, Bool, false, List, [], ◌∷◌, ◌++◌, Option, Some, None}
-use Rattle.std.specs.Option.{option_map}
-use Rattle.std.specs.List.{list_any}
-use Rattle.std.specs.Ordering.{eq_by_cmp}
-use Rattle.row_delta.specs.NameOrder.{name_cmp}
-use Rattle.row_delta.specs.declared.row.Named.{Named}
-use Rattle.row_delta.specs.declared.row.Row.{Row}
+use Rattle.std.specs.{Prelude.{◌≡◌, ◌&&◌, Bool, false, List, [], ◌∷◌, ◌++◌, Option, Some, None}, Option.{option_map}, List.{list_any}, Ordering.{eq_by_cmp}}
+use Rattle.row_delta.specs.{NameOrder.{name_cmp}, declared.row.{Named.{Named}, Row.{Row}}}
 
 -- a row with one fact more
 abbrev pub with_name : Row → Named → Row

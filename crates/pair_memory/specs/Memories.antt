@@ -1,19 +1,11 @@
 -- What the two memories of a node keep.
-use Rattle.std.specs.Prelude.{◌≡◌, Bool, true, Option}
-use Rattle.std.specs.Option.{is_some}
-use Rattle.fx_base.specs.declared.value.Value.{Value}
-use Rattle.fx_base.specs.Values.{same_value}
-use Rattle.row_delta.specs.declared.row.Named.{Named}
-use Rattle.row_delta.specs.declared.row.Row.{Row}
-use Rattle.row_delta.specs.Rows.{row_cmp}
-use Rattle.row_delta.specs.NameOrder.{name_cmp}
+use Rattle.std.specs.{Prelude.{◌≡◌, Bool, true, Option}, Option.{is_some}}
+use Rattle.fx_base.specs.{declared.value.Value.{Value}, Values.{same_value}}
+use Rattle.row_delta.specs.{declared.row.{Named.{Named}, Row.{Row}}, Rows.{row_cmp}, NameOrder.{name_cmp}}
 use Rattle.rule_model.specs.declared.condition.Pattern.{Pattern}
-use Rattle.alpha_memory.specs.declared.join_index.JoinIndex.{JoinIndex}
-use Rattle.alpha_memory.specs.JoinIndex.{at}
-use Rattle.join_tests.specs.Joins.{Look, joins}
-use Rattle.join_tests.specs.Kept.{row_value, candidate_value}
-use Rattle.pair_memory.specs.Joined.{joined}
-use Rattle.pair_memory.specs.declared.memories.Memories.{Memories}
+use Rattle.alpha_memory.specs.{declared.join_index.JoinIndex.{JoinIndex}, JoinIndex.{at}}
+use Rattle.join_tests.specs.{Joins.{Look, joins}, Kept.{row_value, candidate_value}}
+use Rattle.pair_memory.specs.{Joined.{joined}, declared.memories.Memories.{Memories}}
 
 -- the row is kept in an index under the join value that it has for a pattern, by these facts
 abbrev pub row_kept : {S : Type 0} → Pattern → JoinIndex Value Row S → Look → Row → Bool

@@ -1,25 +1,12 @@
 -- Candidates that several nodes take alike, kept once: a node is shown with them in place of its own.
-use Rattle.std.specs.Prelude.{◌≡◌, ◌&&◌, ◌||◌, not, Bool, true, false, List, Option, Some, None}
-use Rattle.std.specs.Option.{is_some}
-use Rattle.fx_base.specs.declared.value.Value.{Value}
-use Rattle.fx_base.specs.Values.{same_value}
-use Rattle.row_delta.specs.declared.delta.Delta.{Delta}
-use Rattle.row_delta.specs.declared.row.Named.{Named}
-use Rattle.row_delta.specs.declared.row.Row.{Row}
-use Rattle.row_delta.specs.NameOrder.{name_cmp}
-use Rattle.row_delta.specs.Rows.{has}
+use Rattle.std.specs.{Prelude.{◌≡◌, ◌&&◌, ◌||◌, not, Bool, true, false, List, Option, Some, None}, Option.{is_some}}
+use Rattle.fx_base.specs.{declared.value.Value.{Value}, Values.{same_value}}
+use Rattle.row_delta.specs.{declared.{delta.Delta.{Delta}, row.{Named.{Named}, Row.{Row}}}, NameOrder.{name_cmp}, Rows.{has}}
 use Rattle.rule_model.specs.declared.condition.Pattern.{Pattern}
-use Rattle.alpha_memory.specs.declared.join_index.JoinIndex.{JoinIndex}
-use Rattle.alpha_memory.specs.JoinIndex.{at}
-use Rattle.join_tests.specs.Joins.{Look, joins}
-use Rattle.join_tests.specs.Kept.{candidate_value}
-use Rattle.join_tests.specs.NameKeys.{name_key}
-use Rattle.pair_memory.specs.declared.candidates.Candidates.{Candidates}
-use Rattle.pair_memory.specs.declared.memories.Memories.{Memories}
-use Rattle.pair_memory.specs.Apart.{has_candidate}
-use Rattle.pair_memory.specs.Inputs.{row_naming}
-use Rattle.pair_memory.specs.Joined.{has_name, AreDistinct}
-use Rattle.pair_memory.specs.Memories.{has_left, has_right}
+use Rattle.alpha_memory.specs.{declared.join_index.JoinIndex.{JoinIndex}, JoinIndex.{at}}
+use Rattle.join_tests.specs.{Joins.{Look, joins}, Kept.{candidate_value}, NameKeys.{name_key}}
+use Rattle.pair_memory.specs.{declared.{candidates.Candidates.{Candidates}, memories.Memories.{Memories}}, Apart.{has_candidate}, Inputs.{row_naming}}
+use Rattle.pair_memory.specs.{Joined.{has_name, AreDistinct}, Memories.{has_left, has_right}}
 
 -- the memories of a node with these candidates in place of its own
 abbrev pub sharing : {S : Type 0} → Memories S → Candidates → Memories S

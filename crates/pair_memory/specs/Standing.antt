@@ -1,12 +1,9 @@
 -- Which rows and candidates a node stands for, where some facts have been forgotten.
-use Rattle.std.specs.Prelude.{◌≡◌, ◌&&◌, ◌||◌, not, Bool, true, false, List, [], ◌∷◌}
-use Rattle.std.specs.List.{list_any}
-use Rattle.row_delta.specs.declared.row.Named.{Named}
-use Rattle.row_delta.specs.declared.row.Row.{Row}
+use Rattle.std.specs.{Prelude.{◌≡◌, ◌&&◌, ◌||◌, not, Bool, true, false, List, [], ◌∷◌}, List.{list_any}}
+use Rattle.row_delta.specs.declared.row.{Named.{Named}, Row.{Row}}
 use Rattle.rule_model.specs.declared.condition.Pattern.{Pattern}
 use Rattle.join_tests.specs.Joins.{Look, joins}
-use Rattle.pair_memory.specs.declared.memories.Memories.{Memories}
-use Rattle.pair_memory.specs.Memories.{left_at, has_left, has_right, Agrees}
+use Rattle.pair_memory.specs.{declared.memories.Memories.{Memories}, Memories.{left_at, has_left, has_right, Agrees}}
 
 -- the row names none of these facts
 abbrev pub clean : (Named → Bool) → Row → Bool

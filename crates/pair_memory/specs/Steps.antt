@@ -1,15 +1,10 @@
 -- What the memories of any node stand for after a step, and after forgetting.
 use Rattle.std.specs.Prelude.{◌≡◌, ◌&&◌, not, true, Bool, List}
-use Rattle.row_delta.specs.declared.row.Named.{Named}
-use Rattle.row_delta.specs.declared.row.Row.{Row}
-use Rattle.row_delta.specs.declared.delta.Delta.{Delta}
-use Rattle.row_delta.specs.Rows.{has}
+use Rattle.row_delta.specs.{declared.{row.{Named.{Named}, Row.{Row}}, delta.Delta.{Delta}}, Rows.{has}}
 use Rattle.row_change.specs.Changes.{LeadsRows}
 use Rattle.join_tests.specs.Joins.{Look}
-use Rattle.pair_memory.specs.declared.memories.Memories.{Memories}
-use Rattle.pair_memory.specs.Memories.{has_left, has_right, KeepsMemories}
-use Rattle.pair_memory.specs.Standing.{clean, cleaned, either, remembered, StandsFor}
-use Rattle.pair_memory.specs.Inputs.{IsNameDifference, IsStepped}
+use Rattle.pair_memory.specs.{declared.memories.Memories.{Memories}, Memories.{has_left, has_right, KeepsMemories}, Standing.{clean, cleaned, either}}
+use Rattle.pair_memory.specs.{Standing.{remembered, StandsFor}, Inputs.{IsNameDifference, IsStepped}}
 
 -- Memories that stand for rows and candidates stand for the new ones after a step that is given the true differences, of what names no
 -- forgotten fact.

@@ -1,16 +1,10 @@
 -- Rows and candidates that are looked for under one value.
-use Rattle.std.specs.Prelude.{◌&&◌, Bool, true, List, Option, Some, None}
-use Rattle.std.specs.Option.{is_some, option_and_then}
-use Rattle.std.specs.declared.cmp.Ordering.{Ordering}
-use Rattle.std.specs.BTreeMap.{is_at}
-use Rattle.std.specs.Map.{lookup}
-use Rattle.fx_base.specs.declared.value.Value.{Value}
-use Rattle.fx_base.specs.Values.{same_value}
-use Rattle.row_delta.specs.declared.row.Named.{Named}
-use Rattle.row_delta.specs.declared.row.Row.{Row}
+use Rattle.std.specs.{Prelude.{◌&&◌, Bool, true, List, Option, Some, None}, Option.{is_some, option_and_then}, declared.cmp.Ordering.{Ordering}}
+use Rattle.std.specs.{BTreeMap.{is_at}, Map.{lookup}}
+use Rattle.fx_base.specs.{declared.value.Value.{Value}, Values.{same_value}}
+use Rattle.row_delta.specs.declared.row.{Named.{Named}, Row.{Row}}
 use Rattle.rule_model.specs.declared.condition.Pattern.{Pattern}
-use Rattle.join_tests.specs.Joins.{Look, joins}
-use Rattle.join_tests.specs.Kept.{row_value, candidate_value}
+use Rattle.join_tests.specs.{Joins.{Look, joins}, Kept.{row_value, candidate_value}}
 
 -- the value is that which is asked for, where one is
 abbrev pub is_under : Option Value → Value → Bool

@@ -1,7 +1,5 @@
 -- Rows with one value more, and what a test says of them, where sets are tests.
-use Rattle.std.specs.Prelude.{Bool, false, ℤ, List, [], ◌∷◌, ◌++◌, Option, Some, None}
-use Rattle.std.specs.Option.{option_map}
-use Rattle.std.specs.Ordering.{int_eq}
+use Rattle.std.specs.{Prelude.{Bool, false, ℤ, List, [], ◌∷◌, ◌++◌, Option, Some, None}, Option.{option_map}, Ordering.{int_eq}}
 use Rattle.row_delta.specs.declared.row.Row.{Row}
 use Rattle.pair_memory.specs.Joined.{split_last}
 

@@ -5,12 +5,10 @@ use Rattle.pattern_gate.proofs.Common.{Fact, HaveDistinctTags, name_of, Pattern,
 use Rattle.pattern_gate.proofs.Common.{MayGo, Arrival, named_of, after, has_tag, WindowKind, arrival_of, is_meant, is_given_meant, is_one_meant, less_fact}
 use Rattle.pattern_gate.proofs.Common.{less_facts, more_fact, more_facts, LetsAllGo, LetsCome, LetsAllCome, append_assoc, append-nil, map-append, shares_tag}
 use Rattle.pattern_gate.proofs.Common.{Tag, AllOf, of_filter, in_filter, passed, distinct_filtered}
-use Rattle.window_gate.specs.declared.change.WindowKind.TheVariants.{Whole, Time, Length}
-use Rattle.std.specs.List.Sorted.{IsStrictlySortedBy}
-use Rattle.std.proofs.lemmas.List.Elements.{filter-append}
+use Rattle.window_gate.specs.declared.change.{WindowKind.TheVariants.{Whole, Time, Length}, GateChange.TheVariants.{Come, Gone}}
+use Rattle.std.{specs.List.Sorted.{IsStrictlySortedBy}, proofs.lemmas.List.Elements.{filter-append}}
 use Rattle.rule_model.proofs.Once.{one_fact}
 use Rattle.condition_rows.proofs.Ends.{in_name}
-use Rattle.window_gate.specs.declared.change.GateChange.TheVariants.{Come, Gone}
 use Rattle.fx_base.proofs.Sequences.{filter-all}
 
 -- ---- filters

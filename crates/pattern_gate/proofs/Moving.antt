@@ -5,14 +5,11 @@ use Rattle.pattern_gate.proofs.Common.{fits, candidates, HaveDistinctTags, Snaps
 use Rattle.pattern_gate.proofs.Common.{IsNameDifference, no_rows, no_names, candidates_of, StandsForArrivals, MayPass, MayStart, window_of, LeavesAt, most}
 use Rattle.pattern_gate.proofs.Common.{Arrival, inside, rows_inside, WindowKind, PatternGate, arrival_of, arrivals, window_kind_of, has_good_window, GateStands}
 use Rattle.pattern_gate.proofs.Common.{LeavesBy, at_clock, IsOrderly, MovesSnapshot, is_meant, is_one_meant, less_facts, more_fact, more_facts, LetsAllGo}
-use Rattle.pattern_gate.proofs.Common.{LetsCome, LetsAllCome, TakesStep, ints, IsDifference, unbound, and_parts, Whole, Time, Length}
-use Rattle.rule_model.specs.Simple.{is_whole}
-use Rattle.rule_model.specs.Tests.{tests_hold}
-use Rattle.rule_model.specs.Types.{is_event}
-use Rattle.rule_world.specs.Events.{most_millis}
-use Rattle.rule_world.specs.Programs.{is_window}
-use Rattle.pattern_gate.proofs.Arriving.{filter_among, rising, left, meant, less_all, lets_all, more_one, more_all, lets_come, lets_all_come, none_meant}
+use Rattle.pattern_gate.proofs.{Common.{LetsCome, LetsAllCome, TakesStep, ints, IsDifference, unbound, and_parts, Whole, Time, Length}, Arriving.{filter_among}}
+use Rattle.pattern_gate.proofs.Arriving.{rising, left, meant, less_all, lets_all, more_one, more_all, lets_come, lets_all_come, none_meant}
 use Rattle.pattern_gate.proofs.Inside.{inside_are, rows_named}
+use Rattle.rule_model.specs.{Simple.{is_whole}, Tests.{tests_hold}, Types.{is_event}}
+use Rattle.rule_world.specs.{Events.{most_millis}, Programs.{is_window}}
 use Rattle.fx_base.proofs.Orders.{int_le-true}
 
 -- ---- windows

@@ -5,8 +5,7 @@ use Rattle.pattern_gate.proofs.Common.{Arrival, rows_inside, WindowKind, Pattern
 use Rattle.pattern_gate.proofs.Common.{LetsCome, LetsAllCome, ReachesArrivals, LetsGo, at_drop_more, at_drop_all, LeadsRows, without, along}
 use Rattle.window_gate.specs.declared.change.WindowKind.TheVariants.{Whole, Time, Length}
 use Rattle.row_delta.specs.DifferenceLaws.{between_applicable}
-use Rattle.row_change.specs.declared.change.Change.{Change}
-use Rattle.row_change.proofs.Alike.{leads_alike}
+use Rattle.row_change.{specs.declared.change.Change.{Change}, proofs.Alike.{leads_alike}}
 
 -- without what is in the first alone, and with what is in the second alone, it is the second
 led : (a b : Bool) → ((a && not (a && not b)) || (b && not a)) ≡ b

@@ -1,13 +1,8 @@
 -- What the gate of a pattern needs of the facts of a snapshot.
 use Rattle.std.specs.Prelude.{◌≡◌, ◌⊎◌, false}
-use Rattle.fx_base.specs.Lists.{In}
-use Rattle.fx_base.specs.declared.fact.Fact.{Fact}
-use Rattle.rule_model.specs.declared.condition.Pattern.{Pattern}
-use Rattle.rule_model.specs.declared.condition.WindowTag.{WindowTag}
-use Rattle.rule_model.specs.declared.condition.WindowTag.TheVariants.{Whole, Time, Length}
-use Rattle.rule_model.specs.declared.program.Program.{Program}
-use Rattle.rule_model.specs.Candidates.{fits, is_candidate}
-use Rattle.rule_model.specs.Snapshots.{Snapshot}
+use Rattle.fx_base.specs.{Lists.{In}, declared.fact.Fact.{Fact}}
+use Rattle.rule_model.specs.declared.{condition.{Pattern.{Pattern}, WindowTag.{WindowTag, TheVariants.{Whole, Time, Length}}}, program.Program.{Program}}
+use Rattle.rule_model.specs.{Candidates.{fits, is_candidate}, Snapshots.{Snapshot}}
 
 -- a window lets a fact be: it is inside none of a time, and counts for none of a length
 abbrev pub IsLetBe : WindowTag → Program → Pattern → Snapshot → Fact → Type 0

@@ -1,22 +1,14 @@
 -- For which facts of a snapshot the gate of a pattern stands.
-use Rattle.std.specs.Prelude.{◌≡◌, ◌≤ℤ◌, ◌&&◌, ◌||◌, ℤ, Bool, List, map}
-use Rattle.std.specs.List.{filter}
-use Rattle.fx_base.specs.Lists.{In}
-use Rattle.fx_base.specs.declared.fact.Fact.{Fact}
-use Rattle.rule_model.specs.declared.condition.Pattern.{Pattern}
-use Rattle.rule_model.specs.declared.condition.WindowTag.{WindowTag}
+use Rattle.std.specs.{Prelude.{◌≡◌, ◌≤ℤ◌, ◌&&◌, ◌||◌, ℤ, Bool, List, map}, List.{filter}}
+use Rattle.fx_base.specs.{Lists.{In}, declared.fact.Fact.{Fact}}
+use Rattle.rule_model.specs.declared.condition.{Pattern.{Pattern}, WindowTag.{WindowTag}}
 use Rattle.rule_model.specs.declared.condition.WindowTag.TheVariants as tag
-use Rattle.rule_model.specs.declared.program.Program.{Program}
-use Rattle.rule_model.specs.Candidates.{fits, candidates}
-use Rattle.rule_model.specs.Simple.{is_whole}
-use Rattle.rule_model.specs.Snapshots.{Snapshot}
-use Rattle.rule_model.specs.Tuples.{name_of}
+use Rattle.rule_model.specs.{declared.program.Program.{Program}, Candidates.{fits, candidates}, Simple.{is_whole}, Snapshots.{Snapshot}, Tuples.{name_of}}
 use Rattle.rule_model.specs.Types.{is_event}
 use Rattle.rule_world.specs.Programs.{is_window}
 use Rattle.window_gate.specs.declared.change.WindowKind.{WindowKind}
 use Rattle.window_gate.specs.declared.change.WindowKind.TheVariants as kind
-use Rattle.window_gate.specs.Windows.{Arrival}
-use Rattle.window_gate.specs.Standing.{LeavesAt, StandsForArrivals, window_of}
+use Rattle.window_gate.specs.{Windows.{Arrival}, Standing.{LeavesAt, StandsForArrivals, window_of}}
 use Rattle.pattern_gate.specs.declared.gate.PatternGate.{PatternGate}
 
 abbrev pub arrival_of : Fact → Arrival

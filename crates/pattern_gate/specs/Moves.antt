@@ -1,14 +1,8 @@
 -- Snapshots as a store keeps them, and what leads from one to the next.
-use Rattle.std.specs.Prelude.{ℕ, ◌≡◌, ◌==◌, ◌++◌, not, Bool, true, ℤ, pos, ◌≤ℤ◌, List, map, Option, option_to_list}
-use Rattle.std.specs.List.{filter, list_any}
-use Rattle.std.specs.List.Sorted.{IsStrictlySortedBy}
-use Rattle.std.specs.Ordering.{nat_cmp}
-use Rattle.fx_base.specs.Lists.{In}
-use Rattle.fx_base.specs.declared.fact.Fact.{Fact}
-use Rattle.rule_model.specs.declared.program.Program.{Program}
-use Rattle.rule_model.specs.Candidates.{is_present}
-use Rattle.rule_model.specs.Distinct.{HaveDistinctTags}
-use Rattle.rule_model.specs.Snapshots.{Snapshot, floor}
+use Rattle.std.specs.{Prelude.{ℕ, ◌≡◌, ◌==◌, ◌++◌, not, Bool, true, ℤ, pos, ◌≤ℤ◌, List, map, Option, option_to_list}, List.{filter, list_any}}
+use Rattle.std.specs.{List.Sorted.{IsStrictlySortedBy}, Ordering.{nat_cmp}}
+use Rattle.fx_base.specs.{Lists.{In}, declared.fact.Fact.{Fact}}
+use Rattle.rule_model.specs.{declared.program.Program.{Program}, Candidates.{is_present}, Distinct.{HaveDistinctTags}, Snapshots.{Snapshot, floor}}
 use Rattle.rule_model.specs.Types.{is_event}
 use Rattle.rule_world.specs.Events.{most_millis}
 

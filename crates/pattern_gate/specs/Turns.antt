@@ -1,17 +1,10 @@
 -- What a step of the gate of a pattern does, turn by turn.
-use Rattle.std.specs.Prelude.{◌≡◌, ◌==◌, ◌&&◌, ◌||◌, Bool, true, false, cond, ℤ, List, [], ◌∷◌, Option, Some, None}
-use Rattle.std.specs.List.{list_any}
+use Rattle.std.specs.{Prelude.{◌≡◌, ◌==◌, ◌&&◌, ◌||◌, Bool, true, false, cond, ℤ, List, [], ◌∷◌, Option, Some, None}, List.{list_any}}
 use Rattle.fx_base.specs.declared.fact.Fact.{Fact}
-use Rattle.row_delta.specs.declared.row.Row.{Row}
-use Rattle.row_delta.specs.Rows.{has}
-use Rattle.row_change.specs.declared.change.Change.{Change}
-use Rattle.row_change.specs.Changes.{LeadsRows}
-use Rattle.rule_model.specs.declared.condition.Pattern.{Pattern}
-use Rattle.rule_model.specs.Tests.{tests_hold}
-use Rattle.rule_model.specs.Tuples.{name_of, unbound}
-use Rattle.window_gate.specs.declared.change.GateChange.TheVariants.{Come, Gone, Clock}
-use Rattle.window_gate.specs.declared.change.WindowKind.{WindowKind}
-use Rattle.window_gate.specs.Windows.{Arrival, after, rows_inside}
+use Rattle.row_delta.specs.{declared.row.Row.{Row}, Rows.{has}}
+use Rattle.row_change.specs.{declared.change.Change.{Change}, Changes.{LeadsRows}}
+use Rattle.rule_model.specs.{declared.condition.Pattern.{Pattern}, Tests.{tests_hold}, Tuples.{name_of, unbound}}
+use Rattle.window_gate.specs.{declared.change.{GateChange.TheVariants.{Come, Gone, Clock}, WindowKind.{WindowKind}}, Windows.{Arrival, after, rows_inside}}
 use Rattle.window_gate.specs.Standing.{StandsForArrivals, TakesChange, window_of}
 use Rattle.pattern_gate.specs.declared.gate.PatternGate.{PatternGate}
 

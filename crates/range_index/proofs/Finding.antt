@@ -1,12 +1,7 @@
 -- Which places ranges have for a number, whatever their order.
-use Rattle.std.proofs.Common.{◌≡◌, ◌∙◌, sym, ap, refl, ℕ, ℤ, ◌&&◌, ◌||◌, cond, Bool, true, false, List, [], ◌∷◌, ◌++◌, nat_eq}
-use Rattle.std.proofs.Math.Bool.{or-false}
-use Rattle.std.proofs.lemmas.List.Folds.{list_any-append}
-use Rattle.std.proofs.lemmas.List.Sorted.{list_any-IsPermutation}
-use Rattle.std.specs.List.{list_any}
-use Rattle.std.specs.List.Sorted.{IsPermutation}
-use Rattle.range_index.specs.Ranges.{has_number, is_found, places_with}
-use Rattle.range_index.specs.declared.placed.PlacedRange.{PlacedRange}
+use Rattle.std.proofs.{Common.{◌≡◌, ◌∙◌, sym, ap, refl, ℕ, ℤ, ◌&&◌, ◌||◌, cond, Bool, true, false, List, [], ◌∷◌, ◌++◌, nat_eq}, Math.Bool.{or-false}}
+use Rattle.std.{proofs.lemmas.List.{Folds.{list_any-append}, Sorted.{list_any-IsPermutation}}, specs.List.{list_any, Sorted.{IsPermutation}}}
+use Rattle.range_index.specs.{Ranges.{has_number, is_found, places_with}, declared.placed.PlacedRange.{PlacedRange}}
 
 abbrev pub finds : ℤ → ℕ → PlacedRange → Bool
 finds number place range = has_number range number && nat_eq place range.place

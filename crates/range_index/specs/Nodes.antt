@@ -1,9 +1,6 @@
 -- A tree over ranges, as a list of nodes in which what is below a node stands behind it.
 use Rattle.std.specs.Prelude.{◌≡◌, ◌≤◌, ◌<◌, ◌+◌, ◌*◌, ◌≤ℤ◌, ℤ, Bool, ◌&&◌, List, [], ◌∷◌, int_le, length, take}
-use Rattle.range_index.specs.declared.node.Block.{Block}
-use Rattle.range_index.specs.declared.node.Node.{Node}
-use Rattle.range_index.specs.declared.node.Node.TheVariants.{Range, Block as BlockNode}
-use Rattle.range_index.specs.declared.placed.PlacedRange.{PlacedRange}
+use Rattle.range_index.specs.declared.{node.{Block.{Block}, Node.{Node, TheVariants.{Range, Block as BlockNode}}}, placed.PlacedRange.{PlacedRange}}
 
 -- the ranges among nodes
 abbrev pub leaves : List Node → List PlacedRange

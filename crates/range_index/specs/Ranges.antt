@@ -1,6 +1,5 @@
 -- Closed ranges of whole numbers, each with a place.
-use Rattle.std.specs.Prelude.{ℕ, ℤ, Bool, ◌&&◌, cond, List, [], ◌∷◌, int_le, nat_eq}
-use Rattle.std.specs.List.{list_any}
+use Rattle.std.specs.{Prelude.{ℕ, ℤ, Bool, ◌&&◌, cond, List, [], ◌∷◌, int_le, nat_eq}, List.{list_any}}
 use Rattle.range_index.specs.declared.placed.PlacedRange.{PlacedRange}
 
 abbrev pub has_number : PlacedRange → ℤ → Bool

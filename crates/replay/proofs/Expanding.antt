@@ -1,31 +1,19 @@
 -- What a rule file reads as that is written out to another one: its front whole, and behind it what the checks of earlier items ask for.
-use Rattle.replay.proofs.Common.{◌≡◌, ◌≤◌, ◌<◌, ◌+◌, ◌-◌, ◌⊎◌, ◌++◌, ℕ, List, [], length, get_or, take, inl, inr, Result, Ok, Err, Some, sym, ap, ◌∙◌, refl, arith}
-use Rattle.replay.proofs.Common.{◌||◌, ◌∷◌, append-nil, take_all, take-append-drop, flat_map, Written, Failure, failure_of, checked_by, Program, obstacle, Refusal}
-use Rattle.replay.proofs.Common.{Accepted, Refused, plain_file, of_checked, of_obstacle, with_titles}
-use Rattle.replay.specs.Refusals.{of_checked_with}
-use Rattle.std.specs.Prelude.{drop}
-use Rattle.drl_check.specs.Outcomes.{checked}
-use Rattle.std.proofs.lemmas.List.{get_or_append_left}
-use Rattle.std.proofs.lemmas.Grind.{flat_map-append}
+use Rattle.replay.proofs.Common.{◌≡◌, ◌≤◌, ◌<◌, ◌+◌, ◌-◌, ◌⊎◌, ◌++◌, ℕ, List, [], length, get_or, take, inl, inr, Result, Ok, Err, Some, sym, ap, ◌∙◌, refl}
+use Rattle.replay.proofs.Common.{arith, ◌||◌, ◌∷◌, append-nil, take_all, take-append-drop, flat_map, Written, Failure, failure_of, checked_by, Program}
+use Rattle.replay.{proofs.Common.{obstacle, Refusal, Accepted, Refused, plain_file, of_checked, of_obstacle, with_titles}, specs.Refusals.{of_checked_with}}
+use Rattle.replay.{specs.declared.refusal.RefusalCode.TheVariants.{Checked}, proofs.Fronts.{Both, first_alike}}
+use Rattle.std.{specs.Prelude.{drop}, proofs.lemmas.{List.{get_or_append_left}, Grind.{flat_map-append}}}
+use Rattle.drl_check.specs.{Outcomes.{checked}, Answers.{within_32_bits}}
 use Rattle.fx_base.proofs.Sequences.{drop_past}
 use Rattle.drl_expr.specs.Words.{is_among}
-use Rattle.drl_grammar.specs.declared.file.File.{File}
-use Rattle.drl_grammar.specs.declared.file.Item.{Item}
-use Rattle.drl_grammar.specs.declared.written.WrittenItem.{WrittenItem}
-use Rattle.drl_grammar.specs.declared.written.WrittenType.{WrittenType}
+use Rattle.drl_grammar.specs.declared.{file.{File.{File}, Item.{Item}}, written.{WrittenItem.{WrittenItem}, WrittenType.{WrittenType}}}
 use Rattle.drl_names.specs.Names.{names_of}
 use Rattle.drl_program.specs.Programs.{program_of}
-use Rattle.drl_sight.specs.Declarations.{types_of, rules_of}
-use Rattle.drl_sight.specs.Observed.{watched_names}
-use Rattle.drl_check.specs.Answers.{within_32_bits}
-use Rattle.subrules.specs.Hierarchy.{written_types_of}
-use Rattle.subrules.specs.Expanded.{expanded, plain_items, titles, titles_in, origins, origins_from}
-use Rattle.subrules.specs.Front.{short_items}
-use Rattle.subrules.specs.declared.expanding.Expanded.{Expanded}
-use Rattle.subrules.specs.Outcomes.{IsExpanded}
-use Rattle.subrules.proofs.FrontLaws.{as_many_origins, as_many_titles, origins_append, same_types, same_watched, watched_append}
-use Rattle.replay.specs.declared.refusal.RefusalCode.TheVariants.{Checked}
-use Rattle.replay.proofs.Fronts.{Both, first_alike}
+use Rattle.drl_sight.specs.{Declarations.{types_of, rules_of}, Observed.{watched_names}}
+use Rattle.subrules.specs.{Hierarchy.{written_types_of}, Expanded.{expanded, plain_items, titles, titles_in, origins, origins_from}, Front.{short_items}}
+use Rattle.subrules.{specs.{declared.expanding.Expanded.{Expanded}, Outcomes.{IsExpanded}}, proofs.FrontLaws.{as_many_origins, as_many_titles, origins_append}}
+use Rattle.subrules.proofs.FrontLaws.{same_types, same_watched, watched_append}
 
 -- by the titles and origins of the whole file
 by_whole : (file : Written) (found : Result Program Failure) → of_checked file found ≡ of_checked_with (titles file.items) (origins file.items) found

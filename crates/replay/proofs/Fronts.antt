@@ -2,27 +2,20 @@
 -- the types that are declared and those that are watched.
 use Rattle.replay.proofs.Common.{◌≡◌, ◌≤◌, ◌<◌, ◌+◌, ◌++◌, ◌∷◌, ◌&&◌, ◌||◌, ℕ, Bool, true, false, List, [], length, Option, Some, None, refl, sym, ap, ◌∙◌}
 use Rattle.replay.proofs.Common.{arith, length-append, list_any, Failure, Program, nat_lt, if◌then◌else◌}
-use Rattle.std.specs.Prelude.{drop, not}
-use Rattle.std.proofs.lemmas.Bool.Decides.{nat_tests}
+use Rattle.std.{specs.Prelude.{drop, not}, proofs.lemmas.Bool.Decides.{nat_tests}}
 use Rattle.drl_expr.specs.Words.{is_among}
 use Rattle.drl_grammar.specs.declared.action.ActTree.{ActTree}
 use Rattle.drl_grammar.specs.declared.action.ActTree.TheVariants as action
 use Rattle.drl_grammar.specs.declared.file.Body.{Body}
 use Rattle.drl_grammar.specs.declared.file.Body.TheVariants as body
-use Rattle.drl_grammar.specs.declared.file.Item.{Item}
-use Rattle.drl_grammar.specs.declared.file.TypeTree.{TypeTree}
-use Rattle.drl_sight.specs.Annotations.{is_tree_of_events}
-use Rattle.drl_sight.specs.Declarations.{types_of, rules_of, type_names, rule_names, rule_in}
-use Rattle.drl_sight.specs.EntryPoints.{declared_entries, entry_names}
-use Rattle.drl_sight.specs.Observed.{is_event_among, watched_names}
-use Rattle.drl_sight.specs.Sight.{Sight, Meaning, of_fact, of_field, of_result, meaning_of, sight_of_actions}
+use Rattle.drl_grammar.specs.declared.file.{Item.{Item}, TypeTree.{TypeTree}}
+use Rattle.drl_sight.specs.{Annotations.{is_tree_of_events}, Declarations.{types_of, rules_of, type_names, rule_names, rule_in}, EntryPoints.{declared_entries}}
+use Rattle.drl_sight.specs.{EntryPoints.{entry_names}, Observed.{is_event_among, watched_names}, Sight.{Sight, Meaning, of_fact, of_field, of_result}}
+use Rattle.drl_sight.specs.Sight.{meaning_of, sight_of_actions}
 use Rattle.drl_program.specs.Programs.{types_alone}
 use Rattle.drl_limits.specs.Limits.{has_few_entries, rule_within}
-use Rattle.drl_check.specs.declared.fault.CheckCode.{CheckCode}
-use Rattle.drl_check.specs.declared.fault.CheckCode.TheVariants.{TwiceDeclared, LimitPassed}
-use Rattle.drl_check.specs.Checks.{codes_in_order, drops_observed, fails, failure_at, failure_from, first_code}
-use Rattle.drl_check.specs.Events.{is_observed_meant, retracts_observed}
-use Rattle.drl_check.specs.Failing.{first_failing}
+use Rattle.drl_check.specs.{declared.fault.CheckCode.{CheckCode, TheVariants.{TwiceDeclared, LimitPassed}}, Checks.{codes_in_order, drops_observed, fails}}
+use Rattle.drl_check.specs.{Checks.{failure_at, failure_from, first_code}, Events.{is_observed_meant, retracts_observed}, Failing.{first_failing}}
 use Rattle.drl_check.proofs.Failures.{failing_is, rules_next}
 
 -- ---- what is watched under the same names

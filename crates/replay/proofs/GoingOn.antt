@@ -1,17 +1,13 @@
 -- The run behind the image of an earlier one is the rest of the run of both scripts as one, and what is saved of it the image of that.
-use Rattle.replay.proofs.Common.{◌≡◌, inl, inr, ◌≤◌, ◌++◌, ℕ, List, Option, Some, None, refl, sym, ap, subst, ◌∙◌, arith, lines_of, Image, RunPart, LifeTable, Program, AreLives}
-use Rattle.replay.proofs.Common.{empty_world, Gives, Fires, Counts, first_part, run_part_at, run_on, Outcome, RunSetting, RunState, setting_of, then_run, whole_run}
-use Rattle.replay.proofs.Common.{first_state, script_joined, whole_behind, GoesOn, IsImageOfRun, IsRest, Report, Reports, IsToldBehind, IsReport, IsRunBehind}
-use Rattle.replay.proofs.Common.{IsRunStatus, IsSaved, IsSavedBehind, IsSaveStatus, outcome_report, run_status, Wanted, usage_line, refuses, refuses_checkpoint, runs}
-use Rattle.replay.proofs.Common.{resumes, saves, saves_on, accepts, tells_lives, proves, sums_up}
+use Rattle.replay.proofs.Common.{◌≡◌, inl, inr, ◌≤◌, ◌++◌, ℕ, List, Option, Some, None, refl, sym, ap, subst, ◌∙◌, arith, lines_of, Image, RunPart, LifeTable}
+use Rattle.replay.proofs.Common.{Program, AreLives, empty_world, Gives, Fires, Counts, first_part, run_part_at, run_on, Outcome, RunSetting, RunState}
+use Rattle.replay.proofs.Common.{setting_of, then_run, whole_run, first_state, script_joined, whole_behind, GoesOn, IsImageOfRun, IsRest, Report, Reports}
+use Rattle.replay.proofs.Common.{IsToldBehind, IsReport, IsRunBehind, IsRunStatus, IsSaved, IsSavedBehind, IsSaveStatus, outcome_report, run_status, Wanted}
+use Rattle.replay.proofs.Common.{usage_line, refuses, refuses_checkpoint, runs, resumes, saves, saves_on, accepts, tells_lives, proves, sums_up}
+use Rattle.replay.{specs.Behind.{IsSoundWorld, KeepWorlds, IsRefusedOn}, proofs.{Programs.{WantsRunnable}, Tables.{by_table}}}
 use Rattle.image_laws.specs.Fitting.{Fits}
-use Rattle.rule_world.specs.Programs.{IsRunnable}
-use Rattle.rule_world.proofs.Lawfuls.{empty_lawful}
-use Rattle.script_run.proofs.Joined.{part_joined}
-use Rattle.script_run.proofs.Kept.{run_keeps}
-use Rattle.replay.specs.Behind.{IsSoundWorld, KeepWorlds, IsRefusedOn}
-use Rattle.replay.proofs.Programs.{WantsRunnable}
-use Rattle.replay.proofs.Tables.{by_table}
+use Rattle.rule_world.{specs.Programs.{IsRunnable}, proofs.Lawfuls.{empty_lawful}}
+use Rattle.script_run.proofs.{Joined.{part_joined}, Kept.{run_keeps}}
 
 empty_sound : (p : Program) → IsSoundWorld p empty_world
 empty_sound p = record { lawful = empty_lawful p; ids = omega arith; tags = omega arith }

@@ -1,8 +1,7 @@
 -- What is written of an image, by what was said.
 use Rattle.replay.proofs.Common.{◌≡◌, ◌≢◌, ◌⊎◌, inl, inr, ◌<◌, ◌≤◌, ℕ, Bool, true, false, List, length, nat_lt, Option, refl, sym, ap, subst, ◌∙◌, arith}
 use Rattle.replay.proofs.Common.{if◌then◌else◌, append, AppendsFront, Image, image_bytes, Script, CheckpointCode, TooLong, Unfit, Says, can_go_on}
-use Rattle.replay.proofs.Common.{checkpoint_text, image_limit, Report, Reports, checkpoint_report, image_report, run_status}
-use Rattle.replay.proofs.ImagesRead.{is_long, is_short}
+use Rattle.replay.proofs.{Common.{checkpoint_text, image_limit, Report, Reports, checkpoint_report, image_report, run_status}, ImagesRead.{is_long, is_short}}
 
 -- the report of an image, by its two tests
 by_tests : (image : Image) (long goes : Bool) → nat_lt image_limit (length (image_bytes image)) ≡ long → can_go_on image ≡ goes

@@ -1,20 +1,15 @@
 -- The program of an accepted rule file may be run.
-use Rattle.replay.proofs.Common.{◌≡◌, ℕ, List, Option, Some, None, Result, Ok, Err, refl, sym, subst, Failure, failure_of, checked_by, Written, Parsed}
-use Rattle.replay.proofs.Common.{is_file, lexical, outside, parsed, too_long, rules_text, Asked, RuleFile, Load, Mode, Run, Save, Check, Lives, Proof, Program}
+use Rattle.replay.proofs.Common.{◌≡◌, ℕ, List, Option, Some, None, Result, Ok, Err, refl, sym, subst, Failure, failure_of, checked_by, Written, Parsed, is_file}
+use Rattle.replay.proofs.Common.{lexical, outside, parsed, too_long, rules_text, Asked, RuleFile, Load, Mode, Run, Save, Check, Lives, Proof, Program}
 use Rattle.replay.proofs.Common.{Checkpoint, checkpoint_in, has_image, is_refused, of_checked, of_obstacle, of_parsed, plain_file, reading, Reading, Accepted}
-use Rattle.replay.proofs.Common.{Refused, obstacle, Wanted, Files, saves, saves_on, resumes, wanted_behind, wanted_by, wanted_by_file, wanted_by_reading, wanted_from}
-use Rattle.replay.proofs.Common.{wanted_rules, sums_up}
-use Rattle.drl_check.specs.Outcomes.{checked}
-use Rattle.drl_check.proofs.Exact.{exact_none}
-use Rattle.drl_check.proofs.Runnable.{accepted_runnable}
+use Rattle.replay.proofs.Common.{Refused, obstacle, Wanted, Files, saves, saves_on, resumes, wanted_behind, wanted_by, wanted_by_file, wanted_by_reading}
+use Rattle.replay.{proofs.Common.{wanted_from, wanted_rules, sums_up}, specs.{Refusals.{IsSoundReading}, Wanted.{wanted_by_name, wanted_by_number}}}
+use Rattle.replay.proofs.Titles.{is_runnable}
+use Rattle.drl_check.{specs.Outcomes.{checked}, proofs.{Exact.{exact_none}, Runnable.{accepted_runnable}}}
 use Rattle.drl_grammar.specs.declared.file.File.{File}
 use Rattle.drl_program.specs.Programs.{program_of}
 use Rattle.rule_world.specs.Programs.{IsRunnable}
-use Rattle.subrules.specs.declared.fault.Obstacle.{Obstacle}
-use Rattle.subrules.specs.Expanded.{titles}
-use Rattle.replay.specs.Refusals.{IsSoundReading}
-use Rattle.replay.specs.Wanted.{wanted_by_name, wanted_by_number}
-use Rattle.replay.proofs.Titles.{is_runnable}
+use Rattle.subrules.specs.{declared.fault.Obstacle.{Obstacle}, Expanded.{titles}}
 
 by_ok : (o : Option Failure) (p q : Program) → checked_by o p ≡ Ok q → (o ≡ None) × (q ≡ p)
 by_ok None p q e = (refl, cc)

@@ -5,14 +5,10 @@ use Rattle.replay.proofs.Common.{Program, Gives, Fires, Counts, Refusal, checkpo
 use Rattle.replay.proofs.Common.{IsRefusedReading, lines_of, LifeTable, run_on, setting_of, Report, IsToldBehind, IsDefinite, IsFront, IsFrontOfEach, IsReport}
 use Rattle.replay.proofs.Common.{IsRunBehind, IsRunStatus, IsSavedBehind, IsSaveStatus, Wanted, Files, usage_line, refuses, refuses_checkpoint, runs, resumes}
 use Rattle.replay.proofs.Common.{saves, saves_on, accepts, tells_lives, proves, sums_up, wanted_by_file, wanted_by_reading, wanted_from, wanted_rules}
-use Rattle.replay.proofs.Common.{IsRefusedFile, HasRefused, Run, Check, Lives, Proof, Save}
-use Rattle.replay.specs.Beginnings.{shows_rules}
+use Rattle.replay.{proofs.Common.{IsRefusedFile, HasRefused, Run, Check, Lives, Proof, Save}, specs.Beginnings.{shows_rules}}
+use Rattle.replay.specs.{declared.refusal.RefusalCode.TheVariants.{Missing}, Checkpoints.{checkpoint_of, rules_shown}, Names.{names_read}}
+use Rattle.replay.{specs.Wanted.{wanted_by_name, wanted_by_number}, proofs.Tables.{behind_one, by_table, one_report, one_saved}}
 use Rattle.drl_parse.specs.Parsed.{parsed, parsed_by}
-use Rattle.replay.specs.declared.refusal.RefusalCode.TheVariants.{Missing}
-use Rattle.replay.specs.Checkpoints.{checkpoint_of, rules_shown}
-use Rattle.replay.specs.Names.{names_read}
-use Rattle.replay.specs.Wanted.{wanted_by_name, wanted_by_number}
-use Rattle.replay.proofs.Tables.{behind_one, by_table, one_report, one_saved}
 
 -- what is wanted of a load, by what its rule file is
 pub a_load : (number limit : ℕ) (found : Reading) → reading rules_text ≡ found → wanted_by_number number limit ≡ wanted_by_reading (sums_up number limit) found

@@ -6,18 +6,11 @@ use Rattle.replay.proofs.Common.{run_part_at, run_on, Outcome, RunState, setting
 use Rattle.replay.proofs.Common.{Behind, TooLong, Unfit, BeginsIn, CanBegin, IsBeginningFor, part_of, image_bytes, can_go_on, image_limit, ShelfSeen, seen}
 use Rattle.replay.proofs.Common.{TellsScript, MayEnd, RunOf, Says, Report, IsReport, IsWritten, IsFront, IsLong, IsRunStatus, IsBehindSome, IsRunBehind}
 use Rattle.replay.proofs.Common.{IsSaved, IsSaveStatus, IsStopped, TakesFor, checkpoint_report, fault_status, image_report, outcome_report, run_status, Wanted}
-use Rattle.replay.proofs.Common.{wanted_at, MayRefuse, IsImage}
+use Rattle.replay.proofs.{Common.{wanted_at, MayRefuse, IsImage}, Calls.{some_is, written_as, none_written}, Reports.{front_none}, Tables.{by_table}}
 use Rattle.image_laws.specs.Images.{IsImageOf}
-use Rattle.script_run.specs.declared.run_fault.RunFault.{RunFault}
-use Rattle.script_run.specs.declared.run_fault.RunFault.TheVariants.{ReadFault, WriteFault, NoMemory, ScriptLong}
-use Rattle.line_run.specs.declared.turn.Ended.{Ended}
-use Rattle.line_run.specs.declared.turn.Progress.{Progress}
-use Rattle.script_run.specs.Run.{run as run_lines}
+use Rattle.script_run.specs.{declared.run_fault.RunFault.{RunFault, TheVariants.{ReadFault, WriteFault, NoMemory, ScriptLong}}, Run.{run as run_lines}}
 use Rattle.script_run.specs.Turns.{TakesScript}
-use Rattle.line_run.specs.Turns.{AtEnd, ReachesWorld}
-use Rattle.replay.proofs.Calls.{some_is, written_as, none_written}
-use Rattle.replay.proofs.Reports.{front_none}
-use Rattle.replay.proofs.Tables.{by_table}
+use Rattle.line_run.specs.{declared.turn.{Ended.{Ended}, Progress.{Progress}}, Turns.{AtEnd, ReachesWorld}}
 
 -- ---- statuses
 

@@ -6,10 +6,8 @@ use Rattle.replay.proofs.Common.{outcome_report, summary_report, lives_text, Wan
 use Rattle.replay.proofs.Common.{accepts, tells_lives, proves, sums_up}
 use Rattle.std.proofs.lemmas.Bool.{both_ways}
 use Rattle.gen_load.specs.Script.{script_text}
-use Rattle.rule_model.specs.declared.life.Life.TheVariants.{Plain, Explicit, Finite, Infinite}
-use Rattle.rule_model.specs.Types.{is_event, expiry_of}
-use Rattle.life_meaning.specs.Lifetimes.{IsLife, PatternLife}
-use Rattle.life_meaning.specs.Reach.{Limit, finite, infinite, Below}
+use Rattle.rule_model.specs.{declared.life.Life.TheVariants.{Plain, Explicit, Finite, Infinite}, Types.{is_event, expiry_of}}
+use Rattle.life_meaning.specs.{Lifetimes.{IsLife, PatternLife}, Reach.{Limit, finite, infinite, Below}}
 use Rattle.image_laws.proofs.One.{one_image}
 use Rattle.fx_base.proofs.Orders.{≤ℤ_antisym}
 

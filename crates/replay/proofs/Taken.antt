@@ -1,29 +1,17 @@
 -- What was saved is taken as a checkpoint.
 use Rattle.replay.proofs.Common.{◌≡◌, inl, inr, ◌≤◌, ◌^◌, ◌++◌, ◌&&◌, ℕ, Bool, true, false, List, [], ◌∷◌, drop, length, nat_lt, Option, Some, None, refl, sym}
-use Rattle.replay.proofs.Common.{ap, subst, ◌∙◌, arith, nat_tests, append_assoc, append-nil, bytes_eq, if◌then◌else◌, lines_of, Image}
-use Rattle.replay.proofs.Common.{Script, LifeTable, Program, AreLives, Gives, Fires, Counts, first_part, run_part_at, Outcome, RunState, setting_of, whole_run}
-use Rattle.replay.proofs.Common.{can_go_on, has_image, Unfit, TooLong, Report, Reports, IsReport, IsSaved}
-use Rattle.replay.proofs.Common.{checkpoint_report, image_report, run_status, Wanted, usage_line, refuses, refuses_checkpoint, runs, resumes, saves, saves_on}
-use Rattle.replay.proofs.Common.{accepts, tells_lives, proves, sums_up}
-use Rattle.std.specs.Prelude.{nat_le}
-use Rattle.std.proofs.lemmas.Bool.{and_parts}
-use Rattle.std.proofs.lemmas.Slice.Eq.{bytes_eq-Decides}
-use Rattle.checkpoint.specs.Bytes.{field_bytes, image_bytes, IsImage}
-use Rattle.checkpoint.specs.Reading.{fields_at}
-use Rattle.checkpoint.proofs.Structs.{fields_exact}
-use Rattle.image_laws.specs.Fitting.{Fits}
-use Rattle.image_laws.specs.Images.{IsImageOf}
-use Rattle.image_laws.proofs.Fit.{image_fits}
-use Rattle.life_meaning.specs.Tables.{AreSafe}
-use Rattle.life_meaning.proofs.Safe.{safe_life}
+use Rattle.replay.proofs.Common.{ap, subst, ◌∙◌, arith, nat_tests, append_assoc, append-nil, bytes_eq, if◌then◌else◌, lines_of, Image, Script, LifeTable}
+use Rattle.replay.proofs.Common.{Program, AreLives, Gives, Fires, Counts, first_part, run_part_at, Outcome, RunState, setting_of, whole_run, can_go_on}
+use Rattle.replay.proofs.Common.{has_image, Unfit, TooLong, Report, Reports, IsReport, IsSaved, checkpoint_report, image_report, run_status, Wanted, usage_line}
+use Rattle.replay.proofs.Common.{refuses, refuses_checkpoint, runs, resumes, saves, saves_on, accepts, tells_lives, proves, sums_up}
+use Rattle.replay.{specs.{Behind.{IsSoundWorld, KeepWorlds, AreTaken, IsTakenAgain}, Checkpoints.{checkpoint_of, image_limit}}, proofs.GoingOn.{whole_sound}}
+use Rattle.replay.proofs.{GoingOn.{saved_so}, ImagesRead.{image_is}, Programs.{WantsRunnable}, Tables.{by_table}}
+use Rattle.std.{specs.Prelude.{nat_le}, proofs.lemmas.{Bool.{and_parts}, Slice.Eq.{bytes_eq-Decides}}}
+use Rattle.checkpoint.{specs.{Bytes.{field_bytes, image_bytes, IsImage}, Reading.{fields_at}}, proofs.Structs.{fields_exact}}
+use Rattle.image_laws.{specs.{Fitting.{Fits}, Images.{IsImageOf}}, proofs.Fit.{image_fits}}
+use Rattle.life_meaning.{specs.Tables.{AreSafe}, proofs.Safe.{safe_life}}
 use Rattle.rule_world.specs.Programs.{IsRunnable}
 use Rattle.line_run.specs.Parts.{EndsLine}
-use Rattle.replay.specs.Behind.{IsSoundWorld, KeepWorlds, AreTaken, IsTakenAgain}
-use Rattle.replay.specs.Checkpoints.{checkpoint_of, image_limit}
-use Rattle.replay.proofs.GoingOn.{whole_sound, saved_so}
-use Rattle.replay.proofs.ImagesRead.{image_is}
-use Rattle.replay.proofs.Programs.{WantsRunnable}
-use Rattle.replay.proofs.Tables.{by_table}
 
 -- ---- an image that was written
 

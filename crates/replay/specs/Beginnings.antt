@@ -1,18 +1,13 @@
 -- Where a run begins, and in which worlds.
 use Rattle.std.specs.Prelude.{◌≡◌, ◌⊎◌, ℕ, Bool, true, false, List, Option, Some, None}
 use Rattle.fx_io.specs.Outside.{Rose, IsOnShelf}
-use Rattle.command_words.specs.declared.asking.Mode.{Mode}
-use Rattle.command_words.specs.declared.asking.Mode.TheVariants.{Run, Check, Lives, Proof, Save}
+use Rattle.command_words.specs.declared.asking.Mode.{Mode, TheVariants.{Run, Check, Lives, Proof, Save}}
 use Rattle.checkpoint.specs.declared.image.RunPart.{RunPart}
-use Rattle.image_laws.specs.Fitting.{Fits}
-use Rattle.image_laws.specs.Images.{IsImageOf}
-use Rattle.rule_model.specs.declared.life.LifeTable.{LifeTable}
-use Rattle.rule_model.specs.declared.program.Program.{Program}
-use Rattle.rule_world.specs.Lawful.{IsLawful}
-use Rattle.rule_world.specs.Worlds.{World, empty_world}
+use Rattle.image_laws.specs.{Fitting.{Fits}, Images.{IsImageOf}}
+use Rattle.rule_model.specs.declared.{life.LifeTable.{LifeTable}, program.Program.{Program}}
+use Rattle.rule_world.specs.{Lawful.{IsLawful}, Worlds.{World, empty_world}}
 use Rattle.line_run.specs.Parts.{first_part}
-use Rattle.replay.specs.declared.beginning.Beginning.{Beginning}
-use Rattle.replay.specs.declared.beginning.Beginning.TheVariants.{First, Behind}
+use Rattle.replay.specs.declared.beginning.Beginning.{Beginning, TheVariants.{First, Behind}}
 
 -- what an image says of the run before it has gone on
 abbrev pub part_of : Beginning → RunPart

@@ -1,25 +1,17 @@
 -- A run that goes on behind the image of an earlier one: when it is refused, and the run of both scripts as one.
 use Rattle.std.specs.Prelude.{◌≡◌, ◌≤◌, ◌++◌, ℕ, List, Option, Some}
-use Rattle.fx_io.specs.Lines.{lines_of}
-use Rattle.fx_io.specs.Outside.{append}
+use Rattle.fx_io.specs.{Lines.{lines_of}, Outside.{append}}
 use Rattle.script_read.specs.declared.asked.Change.{Change}
 use Rattle.checkpoint.specs.declared.image.Image.{Image}
 use Rattle.answer_lines.specs.declared.lines.OutLine.{OutLine}
-use Rattle.image_laws.specs.Fitting.{Fits}
-use Rattle.image_laws.specs.Images.{IsImageOf}
-use Rattle.rule_model.specs.declared.life.LifeTable.{LifeTable}
-use Rattle.rule_model.specs.declared.program.Program.{Program}
+use Rattle.image_laws.specs.{Fitting.{Fits}, Images.{IsImageOf}}
+use Rattle.rule_model.specs.declared.{life.LifeTable.{LifeTable}, program.Program.{Program}}
 use Rattle.life_meaning.specs.Tables.{AreLives}
-use Rattle.rule_world.specs.Lawful.{IsLawful}
-use Rattle.rule_world.specs.Programs.{IsRunnable}
-use Rattle.rule_world.specs.Worlds.{World}
-use Rattle.script_run.specs.Firings.{Gives, Fires, Counts}
-use Rattle.line_run.specs.Parts.{EndsLine, first_part, run_part_at}
-use Rattle.line_run.specs.Run.{RunState}
-use Rattle.script_run.specs.Run.{setting_of, whole_run}
-use Rattle.replay.specs.Checkpoints.{checkpoint_of, has_image}
-use Rattle.replay.specs.Report.{Report, Reports, IsSaved, run_status}
-use Rattle.replay.specs.Wanted.{Wanted, refuses_checkpoint, resumes, saves, saves_on}
+use Rattle.rule_world.specs.{Lawful.{IsLawful}, Programs.{IsRunnable}, Worlds.{World}}
+use Rattle.script_run.specs.{Firings.{Gives, Fires, Counts}, Run.{setting_of, whole_run}}
+use Rattle.line_run.specs.{Parts.{EndsLine, first_part, run_part_at}, Run.{RunState}}
+use Rattle.replay.specs.{Checkpoints.{checkpoint_of, has_image}, Report.{Report, Reports, IsSaved, run_status}, Wanted.{Wanted, refuses_checkpoint, resumes}}
+use Rattle.replay.specs.Wanted.{saves, saves_on}
 
 -- the checkpoint that a run is to go on from is refused: it is no image of the rules, or does not fit them
 abbrev pub IsUnread : Wanted → Type 0

@@ -1,14 +1,11 @@
 -- What a call of the program does with the outside, by what it is asked for.
 use Rattle.std.specs.Prelude.{◌≡◌, ◌⊎◌, ◌<◌, ◌≤◌, ◌^◌, ℕ, List, [], length, Option, Some, None, option_map, IfSome}
 use Rattle.fx_io.specs.Outside.{Rose, append, AppendsFront, count_after}
-use Rattle.command_words.specs.declared.asking.Asked.{Asked}
-use Rattle.command_words.specs.declared.asking.Asked.TheVariants.{RuleFile, Load}
+use Rattle.command_words.specs.declared.asking.Asked.{Asked, TheVariants.{RuleFile, Load}}
 use Rattle.script_run.specs.Firings.{Gives, Fires, Counts}
-use Rattle.replay.specs.Notices.{usage}
-use Rattle.replay.specs.Refusals.{refusal_text}
-use Rattle.replay.specs.Report.{Report, Reports, IsWritten, IsLong, IsStopped, TakesFor}
-use Rattle.replay.specs.Wanted.{Wanted, Files, runs, resumes, saves, saves_on, usage_line, wanted_from, wanted_rules, wanted_by_name, wanted_by_number}
-use Rattle.replay.specs.Wanted.{IfRefuses, RunsScript, IsUnfit, ReadFails, MayRefuse}
+use Rattle.replay.specs.{Notices.{usage}, Refusals.{refusal_text}, Report.{Report, Reports, IsWritten, IsLong, IsStopped, TakesFor}, Wanted.{Wanted, Files}}
+use Rattle.replay.specs.Wanted.{runs, resumes, saves, saves_on, usage_line, wanted_from, wanted_rules, wanted_by_name, wanted_by_number, IfRefuses, RunsScript}
+use Rattle.replay.specs.Wanted.{IsUnfit, ReadFails, MayRefuse}
 
 -- ---- what is seen of the outside
 

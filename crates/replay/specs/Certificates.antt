@@ -1,18 +1,12 @@
 -- Certificates of lives as lines: a part as the name of its rule, its two conditions, counted from 1, the edges of its path or cycle and
 -- their sum, and for a path the tail of the second condition. The event of condition k starts at the point `sk` and ends at `ek`.
 use Rattle.std.specs.Prelude.{ℕ, ℤ, ◌+◌, ◌/◌, ◌%◌, ◌==◌, ◌++◌, Bool, true, false, List, [], ◌∷◌, Option, Some, None, slice_get, codes, if◌then◌else◌}
-use Rattle.std.specs.Fmt.{decimal, signed_decimal}
-use Rattle.std.specs.List.{flat_map}
-use Rattle.temporal_net.specs.declared.edge.NetEdge.{NetEdge}
-use Rattle.temporal_net.specs.Networks.{total}
-use Rattle.rule_model.specs.declared.condition.Condition.{Condition}
-use Rattle.rule_model.specs.declared.program.Program.{Program}
-use Rattle.rule_model.specs.declared.program.Rule.{Rule}
+use Rattle.std.specs.{Fmt.{decimal, signed_decimal}, List.{flat_map}}
+use Rattle.temporal_net.specs.{declared.edge.NetEdge.{NetEdge}, Networks.{total}}
+use Rattle.rule_model.specs.declared.{condition.Condition.{Condition}, program.{Program.{Program}, Rule.{Rule}}}
 use Rattle.life_meaning.specs.Reach.{Limit, finite, infinite}
 use Rattle.script_run.specs.Texts.{quoted_byte, rule_name}
-use Rattle.life_proof.specs.declared.part.Part.{Part}
-use Rattle.life_proof.specs.declared.part.Proof.{Proof}
-use Rattle.life_proof.specs.Good.{tail_at}
+use Rattle.life_proof.specs.{declared.part.{Part.{Part}, Proof.{Proof}}, Good.{tail_at}}
 
 abbrev pub point_text : ℕ → List ℕ
 point_text x = (if x % 2 == 0 then codes "s" else codes "e") ++ decimal (x / 2 + 1)

@@ -1,14 +1,10 @@
 -- Images in files, and why they are refused.
-use Rattle.std.specs.Prelude.{◌≡◌, ℕ, ◌++◌, ◌^◌, ◌&&◌, Bool, List, [], ◌∷◌, length, nat_le, nat_lt, Option, Some, None, codes, if◌then◌else◌}
-use Rattle.std.specs.Str.{bytes_eq}
-use Rattle.checkpoint.specs.declared.image.Image.{Image}
-use Rattle.checkpoint.specs.Reading.{decoded}
+use Rattle.std.specs.{Prelude.{◌≡◌, ℕ, ◌++◌, ◌^◌, ◌&&◌, Bool, List, [], ◌∷◌, length, nat_le, nat_lt, Option, Some, None, codes, if◌then◌else◌}, Str.{bytes_eq}}
+use Rattle.checkpoint.specs.{declared.image.Image.{Image}, Reading.{decoded}}
 use Rattle.drl_parse.specs.Parsed.{Parsed, is_file, outside, too_long, lexical, parsed}
 use Rattle.drl_show.specs.Shown.{shown}
-use Rattle.replay.specs.declared.checkpoint_file.CheckpointFault.{CheckpointFault}
-use Rattle.replay.specs.declared.checkpoint_file.CheckpointFault.TheVariants.{Refused, ReadFault, NoMemory}
-use Rattle.replay.specs.declared.refused_checkpoint.CheckpointCode.{CheckpointCode}
-use Rattle.replay.specs.declared.refused_checkpoint.CheckpointCode.TheVariants.{Missing, TooLong, BadImage, OtherRules, Unfit}
+use Rattle.replay.specs.declared.checkpoint_file.CheckpointFault.{CheckpointFault, TheVariants.{Refused, ReadFault, NoMemory}}
+use Rattle.replay.specs.declared.refused_checkpoint.CheckpointCode.{CheckpointCode, TheVariants.{Missing, TooLong, BadImage, OtherRules, Unfit}}
 
 -- ---- the text of rules
 

@@ -1,7 +1,6 @@
 -- The names of the variables in a rule file.
 use Rattle.std.specs.Prelude.{ℕ, List, []}
-use Rattle.drl_names.specs.Names.{names_of}
-use Rattle.drl_names.specs.declared.rule_names.RuleNames.{RuleNames}
+use Rattle.drl_names.specs.{Names.{names_of}, declared.rule_names.RuleNames.{RuleNames}}
 use Rattle.drl_parse.specs.Parsed.{Parsed, is_file, outside, too_long, lexical, parsed}
 use Rattle.replay.specs.Refusals.{plain_file}
 

@@ -1,11 +1,6 @@
 -- What is written where no script is run.
-use Rattle.std.specs.Prelude.{ℕ, ◌++◌, List, [], ◌∷◌, length, zip, codes}
-use Rattle.std.specs.Fmt.{decimal, signed_decimal}
-use Rattle.std.specs.List.{flat_map}
-use Rattle.rule_model.specs.declared.life.Life.{Life}
-use Rattle.rule_model.specs.declared.life.Life.TheVariants.{Plain, Explicit, Finite, Infinite}
-use Rattle.rule_model.specs.declared.program.Program.{Program}
-use Rattle.rule_model.specs.declared.program.TypeInfo.{TypeInfo}
+use Rattle.std.specs.{Prelude.{ℕ, ◌++◌, List, [], ◌∷◌, length, zip, codes}, Fmt.{decimal, signed_decimal}, List.{flat_map}}
+use Rattle.rule_model.specs.declared.{life.Life.{Life, TheVariants.{Plain, Explicit, Finite, Infinite}}, program.{Program.{Program}, TypeInfo.{TypeInfo}}}
 
 -- where the words are refused
 abbrev pub usage : List ℕ

@@ -1,25 +1,14 @@
 -- What a rule file is: a program, or refused.
-use Rattle.std.specs.Prelude.{ℕ, ◌-◌, ◌++◌, List, [], ◌∷◌, Option, Some, None, Result, Ok, Err, slice_index_or, codes}
-use Rattle.std.specs.Fmt.{decimal}
+use Rattle.std.specs.{Prelude.{ℕ, ◌-◌, ◌++◌, List, [], ◌∷◌, Option, Some, None, Result, Ok, Err, slice_index_or, codes}, Fmt.{decimal}}
 use Rattle.drl_lex.specs.Faults.{lex_code_name}
 use Rattle.drl_parse.specs.Parsed.{Parsed, is_file, outside, too_long, lexical, parsed}
-use Rattle.drl_grammar.specs.declared.file.File.{File}
-use Rattle.drl_grammar.specs.declared.written.Written.{Written}
-use Rattle.subrules.specs.declared.fault.ExpandCode.{ExpandCode}
-use Rattle.subrules.specs.declared.fault.Obstacle.{Obstacle}
-use Rattle.subrules.specs.CodeNames.{expand_code_name}
-use Rattle.subrules.specs.Expanded.{expanded, origins, titles}
+use Rattle.drl_grammar.specs.declared.{file.File.{File}, written.Written.{Written}}
+use Rattle.subrules.specs.{declared.fault.{ExpandCode.{ExpandCode}, Obstacle.{Obstacle}}, CodeNames.{expand_code_name}, Expanded.{expanded, origins, titles}}
 use Rattle.subrules.specs.Faults.{obstacle}
-use Rattle.drl_check.specs.CodeNames.{check_code_name}
-use Rattle.drl_check.specs.Answers.{within_32_bits}
-use Rattle.drl_check.specs.Checks.{Failure}
-use Rattle.drl_check.specs.Outcomes.{checked}
+use Rattle.drl_check.specs.{CodeNames.{check_code_name}, Answers.{within_32_bits}, Checks.{Failure}, Outcomes.{checked}}
 use Rattle.rule_model.specs.declared.program.Program.{Program}
 use Rattle.rule_world.specs.Programs.{IsRunnable}
-use Rattle.replay.specs.Titles.{with_titles}
-use Rattle.replay.specs.declared.refusal.RefusalCode.{RefusalCode}
-use Rattle.replay.specs.declared.refusal.Refusal.{Refusal}
-use Rattle.replay.specs.declared.rule_file.Reading.{Reading}
+use Rattle.replay.specs.{Titles.{with_titles}, declared.{refusal.{RefusalCode.{RefusalCode}, Refusal.{Refusal}}, rule_file.Reading.{Reading}}}
 use Rattle.replay.specs.declared.rule_file.Reading.TheVariants.{Accepted, Refused}
 use Rattle.replay.specs.declared.refusal.RefusalCode.TheVariants as code
 

@@ -1,41 +1,21 @@
 -- What the program writes, and its status, with an engine of these meanings.
 use Rattle.std.specs.Prelude.{◌≡◌, ◌⊎◌, ◌<◌, ◌≤◌, ◌+◌, ◌^◌, ℕ, true, false, List, length, nat_lt, Option, Some, None, if◌then◌else◌}
-use Rattle.fx_io.specs.Outside.{append, AppendsFront}
-use Rattle.fx_io.specs.Lines.{lines_of}
-use Rattle.rule_model.specs.declared.life.LifeTable.{LifeTable}
+use Rattle.fx_io.specs.{Outside.{append, AppendsFront}, Lines.{lines_of}}
+use Rattle.rule_model.specs.declared.{life.LifeTable.{LifeTable}, program.Program.{Program}}
 use Rattle.life_meaning.specs.Tables.{AreLives}
 use Rattle.gen_load.specs.Script.{script_text}
-use Rattle.script_run.specs.declared.run_fault.RunFault.{RunFault}
-use Rattle.script_run.specs.declared.run_fault.RunFault.TheVariants.{ReadFault, WriteFault, NoMemory, ScriptLong}
-use Rattle.line_run.specs.declared.turn.Ended.{Ended}
-use Rattle.line_run.specs.declared.turn.Ended.TheVariants.{Script, Limit}
-use Rattle.script_run.specs.Firings.{Gives, Fires, Counts}
-use Rattle.line_run.specs.Parts.{first_part, run_part_at}
-use Rattle.script_run.specs.Parts.{run_on}
-use Rattle.line_run.specs.Prompt.{whole_lines}
-use Rattle.line_run.specs.Run.{Outcome, RunState}
-use Rattle.script_run.specs.Run.{setting_of, whole_run}
-use Rattle.script_run.specs.Texts.{limit_text}
-use Rattle.script_run.specs.Unfinished.{Long}
-use Rattle.line_run.specs.Unfinished.{StoppedAtRead}
-use Rattle.checkpoint.specs.declared.image.Image.{Image}
-use Rattle.checkpoint.specs.declared.image.RunPart.{RunPart}
-use Rattle.checkpoint.specs.Bytes.{image_bytes, IsImage}
-use Rattle.image_laws.specs.Fitting.{Fits}
-use Rattle.image_laws.specs.Images.{IsImageOf}
-use Rattle.rule_model.specs.declared.program.Program.{Program}
-use Rattle.rule_world.specs.Lawful.{IsLawful}
-use Rattle.rule_world.specs.Worlds.{World}
-use Rattle.replay.specs.declared.refused_checkpoint.CheckpointCode.{CheckpointCode}
-use Rattle.replay.specs.declared.refused_checkpoint.CheckpointCode.TheVariants.{TooLong, Unfit}
-use Rattle.replay.specs.Checkpoints.{can_go_on, checkpoint_text, image_limit}
-use Rattle.replay.specs.Refusals.{refusal_text}
-use Rattle.life_proof.specs.declared.part.Proof.{Proof}
-use Rattle.life_proof.specs.Good.{IsGood}
-use Rattle.replay.specs.Certificates.{proof_text}
-use Rattle.replay.specs.Summary.{summary_text}
-use Rattle.replay.specs.Notices.{usage, accepted_text, lives_text}
-use Rattle.replay.specs.Wanted.{Wanted, usage_line, refuses, refuses_checkpoint, runs, resumes, saves, saves_on, accepts, tells_lives, proves, sums_up}
+use Rattle.script_run.specs.{declared.run_fault.RunFault.{RunFault, TheVariants.{ReadFault, WriteFault, NoMemory, ScriptLong}}, Firings.{Gives, Fires, Counts}}
+use Rattle.script_run.specs.{Parts.{run_on}, Run.{setting_of, whole_run}, Texts.{limit_text}, Unfinished.{Long}}
+use Rattle.line_run.specs.{declared.turn.Ended.{Ended, TheVariants.{Script, Limit}}, Parts.{first_part, run_part_at}, Prompt.{whole_lines}, Run.{Outcome}}
+use Rattle.line_run.specs.{Run.{RunState}, Unfinished.{StoppedAtRead}}
+use Rattle.checkpoint.specs.{declared.image.{Image.{Image}, RunPart.{RunPart}}, Bytes.{image_bytes, IsImage}}
+use Rattle.image_laws.specs.{Fitting.{Fits}, Images.{IsImageOf}}
+use Rattle.rule_world.specs.{Lawful.{IsLawful}, Worlds.{World}}
+use Rattle.replay.specs.{declared.refused_checkpoint.CheckpointCode.{CheckpointCode, TheVariants.{TooLong, Unfit}}, Checkpoints.{can_go_on, checkpoint_text}}
+use Rattle.replay.specs.{Checkpoints.{image_limit}, Refusals.{refusal_text}, Certificates.{proof_text}, Summary.{summary_text}, Notices.{usage, accepted_text}}
+use Rattle.replay.specs.{Notices.{lives_text}, Wanted.{Wanted, usage_line, refuses, refuses_checkpoint, runs, resumes, saves, saves_on, accepts, tells_lives}}
+use Rattle.replay.specs.Wanted.{proves, sums_up}
+use Rattle.life_proof.specs.{declared.part.Proof.{Proof}, Good.{IsGood}}
 
 -- what is written, and the status
 pub record Report : Type 0 where

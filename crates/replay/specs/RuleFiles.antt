@@ -1,19 +1,13 @@
 -- What the bytes of a rule file are, by the grammar and the checks.
 use Rattle.std.specs.Prelude.{◌≡◌, ℕ, ◌<◌, ◌≤◌, List, length, Some, None}
 use Rattle.drl_lex.specs.declared.fault.LexCode.{LexCode}
-use Rattle.drl_grammar.specs.declared.written.Written.{Written}
-use Rattle.drl_grammar.specs.Files.{IsFile, IsOutside}
+use Rattle.drl_grammar.specs.{declared.written.Written.{Written}, Files.{IsFile, IsOutside}}
 use Rattle.drl_parse.specs.Parsed.{file_limit, IsLexical}
 use Rattle.drl_program.specs.Programs.{program_of}
-use Rattle.drl_check.specs.declared.fault.CheckCode.{CheckCode}
-use Rattle.subrules.specs.declared.fault.ExpandCode.{ExpandCode}
-use Rattle.subrules.specs.Expanded.{titles}
-use Rattle.subrules.specs.Faults.{obstacle}
-use Rattle.drl_check.specs.Checks.{IsAcceptedFile, IsFirstFailure}
-use Rattle.replay.specs.declared.refusal.RefusalCode.TheVariants.{TooLong, Lexical, Syntax, Expanded, Checked}
-use Rattle.replay.specs.declared.rule_file.Reading.{Reading}
-use Rattle.replay.specs.declared.rule_file.Reading.TheVariants.{Accepted, Refused}
-use Rattle.replay.specs.Refusals.{whole_file, plain_file, origin_of, obstacle_at}
+use Rattle.drl_check.specs.{declared.fault.CheckCode.{CheckCode}, Checks.{IsAcceptedFile, IsFirstFailure}}
+use Rattle.subrules.specs.{declared.fault.ExpandCode.{ExpandCode}, Expanded.{titles}, Faults.{obstacle}}
+use Rattle.replay.specs.declared.{refusal.RefusalCode.TheVariants.{TooLong, Lexical, Syntax, Expanded, Checked}, rule_file.Reading.{Reading}}
+use Rattle.replay.specs.{declared.rule_file.Reading.TheVariants.{Accepted, Refused}, Refusals.{whole_file, plain_file, origin_of, obstacle_at}}
 use Rattle.replay.specs.Titles.{with_titles}
 
 -- One case holds, and no other: there are too many bytes; they are no tokens; an item is outside the grammar; they are a file of

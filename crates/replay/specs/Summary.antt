@@ -1,7 +1,5 @@
 -- The summary of what a run over a load prints.
-use Rattle.std.specs.Prelude.{ℕ, ◌++◌, ◌==◌, List, [], ◌∷◌, length, codes}
-use Rattle.std.specs.Fmt.{decimal}
-use Rattle.std.specs.List.{count_by, starts_with}
+use Rattle.std.specs.{Prelude.{ℕ, ◌++◌, ◌==◌, List, [], ◌∷◌, length, codes}, Fmt.{decimal}, List.{count_by, starts_with}}
 use Rattle.fx_io.specs.Lines.{lines_of}
 
 -- how many lines of a text begin with these bytes

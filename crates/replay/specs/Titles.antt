@@ -1,7 +1,6 @@
 -- The names under which rules fire.
 use Rattle.std.specs.Prelude.{ℕ, drop, List, [], ◌∷◌}
-use Rattle.rule_model.specs.declared.program.Program.{Program}
-use Rattle.rule_model.specs.declared.program.Rule.{Rule}
+use Rattle.rule_model.specs.declared.program.{Program.{Program}, Rule.{Rule}}
 
 abbrev pub first_or : List ℕ → List (List ℕ) → List ℕ
 first_or name [] = name

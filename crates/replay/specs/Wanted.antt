@@ -1,25 +1,15 @@
 -- What the words and the rule file ask for.
-use Rattle.std.specs.Prelude.{ℕ, ◌≡◌, ◌⊎◌, List, [], Option, Some, None}
-use Rattle.std.proofs.Common.{String, Global}
+use Rattle.std.{specs.Prelude.{ℕ, ◌≡◌, ◌⊎◌, List, [], Option, Some, None}, proofs.Common.{String, Global}}
 use Rattle.fx_io.specs.Outside.{Rose}
-use Rattle.command_words.specs.declared.asking.Asked.{Asked}
-use Rattle.command_words.specs.declared.asking.Asked.TheVariants.{RuleFile, Load}
-use Rattle.command_words.specs.declared.asking.Mode.{Mode}
-use Rattle.command_words.specs.declared.asking.Mode.TheVariants.{Run, Check, Lives, Proof, Save}
+use Rattle.command_words.specs.declared.asking.{Asked.{Asked, TheVariants.{RuleFile, Load}}, Mode.{Mode, TheVariants.{Run, Check, Lives, Proof, Save}}}
 use Rattle.command_words.specs.Asked.{asked_by}
 use Rattle.checkpoint.specs.declared.image.Image.{Image}
 use Rattle.gen_load.specs.Rules.{rules_text}
 use Rattle.rule_model.specs.declared.program.Program.{Program}
-use Rattle.replay.specs.declared.refusal.Refusal.{Refusal}
-use Rattle.replay.specs.declared.refusal.RefusalCode.TheVariants.{Missing}
-use Rattle.replay.specs.declared.rule_file.Reading.{Reading}
-use Rattle.replay.specs.declared.rule_file.Reading.TheVariants.{Accepted, Refused}
-use Rattle.replay.specs.declared.beginning.Beginning.{Beginning}
-use Rattle.replay.specs.declared.beginning.Beginning.TheVariants.{First, Behind}
-use Rattle.replay.specs.Beginnings.{RunsIn, RefusesFor}
-use Rattle.replay.specs.declared.refused_checkpoint.CheckpointCode.{CheckpointCode}
-use Rattle.replay.specs.Checkpoints.{Checkpoint, has_image, is_refused, checkpoint_in, rules_shown}
-use Rattle.replay.specs.Refusals.{reading, whole_file, IsRefusedReading}
+use Rattle.replay.specs.declared.{refusal.{Refusal.{Refusal}, RefusalCode.TheVariants.{Missing}}, rule_file.Reading.{Reading, TheVariants.{Accepted, Refused}}}
+use Rattle.replay.specs.{declared.beginning.Beginning.{Beginning, TheVariants.{First, Behind}}, Beginnings.{RunsIn, RefusesFor}}
+use Rattle.replay.specs.{declared.refused_checkpoint.CheckpointCode.{CheckpointCode}, Checkpoints.{Checkpoint, has_image, is_refused, checkpoint_in}}
+use Rattle.replay.specs.{Checkpoints.{rules_shown}, Refusals.{reading, whole_file, IsRefusedReading}}
 
 pub data Wanted : Type 0 where
   -- the usage line: the words are refused

@@ -3,17 +3,13 @@ use Rattle.rete_net.proofs.Common.{◌≡◌, ◌∙◌, sym, ap, refl, subst, z
 use Rattle.rete_net.proofs.Common.{fun_ext, slice_get_within, Fact, Delta, Named, Row, has, LeadsRows, IsDifference, Condition, Program, Rule, HaveDistinctTags}
 use Rattle.rete_net.proofs.Common.{Snapshot, Look, cleaned, rows_of, empty_row, rows_named, AreFans, shown_nodes, RuleChange, Rete, NetNode, condition_of}
 use Rattle.rete_net.proofs.Common.{IsIndexOf, AreNodeOwners, NodesStand, clean_rows, change_of, IsChange, AreBetween, AreScheduled, before, IsNetOf, no_change}
-use Rattle.rete_net.proofs.Common.{delta_at, changes_from, NetStep, Moment, AreSources}
+use Rattle.rete_net.proofs.{Common.{delta_at, changes_from, NetStep, Moment, AreSources}, Answering.{is_change, found_change, past_change, in_order}}
+use Rattle.rete_net.proofs.{Chaining.{AreMade, IsGiven, AreStanding, StaysBeside, standing_now, answer_at}, Cleaning.{has_clean}, Frames.{net_again}}
+use Rattle.rete_net.proofs.{Frames.{stepped_nodes}, Turning.{rising}}
 use Rattle.candidate_source.specs.Sources.{source_at}
 use Rattle.rule_model.specs.Rows.{rows}
 use Rattle.condition_rows.proofs.Whole.{one_more}
-use Rattle.rete_net.proofs.Answering.{is_change, found_change, past_change, in_order}
-use Rattle.rete_net.proofs.Chaining.{AreMade, IsGiven, AreStanding, StaysBeside, standing_now, answer_at}
-use Rattle.rete_net.proofs.Cleaning.{has_clean}
-use Rattle.rete_net.proofs.Frames.{net_again, stepped_nodes}
-use Rattle.rete_net.proofs.Turning.{rising}
-use Rattle.fx_base.proofs.Sequences.{get-below}
-use Rattle.fx_base.proofs.Tests.{and_not_self}
+use Rattle.fx_base.proofs.{Sequences.{get-below}, Tests.{and_not_self}}
 
 -- the rows of conditions are what the lines make of them
 pub rows_made : (p : Program) (s : Snapshot) → HaveDistinctTags s.facts → AreMade p s (rows_of p s)

@@ -1,23 +1,15 @@
 -- Nodes that a step does not reach, with a gate of their own or of a source, and turns as they are told by sources that change for others.
 use Rattle.rete_net.proofs.Common.{◌≡◌, ◌∙◌, sym, ap, refl, subst, ℕ, ◌&&◌, ◌||◌, not, true, Bool, List, [], Option, Some, None, Fact, Delta, Named, Row}
-use Rattle.rete_net.proofs.Common.{Moment, Program}
-use Rattle.rete_net.proofs.Common.{Look, Candidates, changes_nothing, PatternGate, GateStands, condition_of, pattern_of, Condition, NetNode, Fan, Seat}
-use Rattle.rete_net.proofs.Common.{member_of, showing}
-use Rattle.rete_net.proofs.Common.{IsHalf, IsOfSeat, Member, IsStillAt, no_change, NodeStep, TurnStep, NetNodeStands, taking}
-use Rattle.rete_net.proofs.Common.{floor, snapshot_at, has, row_naming, Row, has_name, NodeForgets, TurnForgets}
-use Rattle.pair_memory.specs.Apart.{has_candidate}
+use Rattle.rete_net.proofs.Common.{Moment, Program, Look, Candidates, changes_nothing, PatternGate, GateStands, condition_of, pattern_of, Condition, NetNode}
+use Rattle.rete_net.proofs.Common.{Fan, Seat, member_of, showing, IsHalf, IsOfSeat, Member, IsStillAt, no_change, NodeStep, TurnStep, NetNodeStands, taking}
+use Rattle.rete_net.{proofs.Common.{floor, snapshot_at, has, row_naming, Row, has_name, NodeForgets, TurnForgets}, specs.Lending.{IsSameFor, IsSameIn}}
+use Rattle.rete_net.{specs.Lending.{MayForget, MayForgetIn, MayTurn, MayTurnIn, TurnsAt}, proofs.{Idle.{idle_steps}, Lone.{alone_stays, IsAlone}}}
+use Rattle.rete_net.proofs.{Passing.{passed_over}, Showing.{alone_shown, condition_shown, still_shown}, Siblings.{nothing_is}}
+use Rattle.pair_memory.specs.{Apart.{has_candidate}, Shared.{KeepsNames}}
 use Rattle.join_tests.specs.NameKeys.{name_key}
 use Rattle.pattern_gate.specs.Alike.{TakesAlike}
-use Rattle.pair_memory.specs.Shared.{KeepsNames}
-use Rattle.candidate_source.specs.declared.source.Source.{Source}
-use Rattle.candidate_source.specs.Doors.{source_candidates, source_gate, source_pattern}
+use Rattle.candidate_source.specs.{declared.source.Source.{Source}, Doors.{source_candidates, source_gate, source_pattern}}
 use Rattle.condition_node.specs.Lending.{with_candidates}
-use Rattle.rete_net.specs.Lending.{IsSameFor, IsSameIn, MayForget, MayForgetIn, MayTurn, MayTurnIn, TurnsAt}
-use Rattle.rete_net.proofs.Idle.{idle_steps}
-use Rattle.rete_net.proofs.Lone.{alone_stays, IsAlone}
-use Rattle.rete_net.proofs.Passing.{passed_over}
-use Rattle.rete_net.proofs.Showing.{alone_shown, condition_shown, still_shown}
-use Rattle.rete_net.proofs.Siblings.{nothing_is}
 
 -- a step of a node with a gate of its own
 pub own_turn : (p : Program) (look : Look) (gone : List Fact) (come : Option Fact) (moment : Moment) (k : ℕ) (old new : NetNode) (left delta : Delta)

@@ -1,15 +1,10 @@
 -- The walk over the nodes of a network, where these forget.
 use Rattle.rete_net.proofs.Common.{◌≡◌, ◌∙◌, sym, ap, refl, [], ◌+◌, ◌<◌, ◌≤◌, arith, ℕ, true, false, List, Option, None, Some, length, slice_get, set, Named}
-use Rattle.rete_net.proofs.Common.{Row, has_name}
-use Rattle.rete_net.proofs.Common.{Program, Look, Answered, Index, NetNode, left_given, some_answer, IsAnswerPut, Fan, Fans, Seat, half_at, half_of, member_at}
-use Rattle.rete_net.proofs.Common.{member_of}
-use Rattle.rete_net.proofs.Common.{seat_at, showing, with_fans, AreFans, AreFanRowsTurned, IsHalf, IsLaidAs, IsLeft, IsOfSeat, Member, dropped_before}
-use Rattle.rete_net.proofs.Common.{HaveForgotten, TurnForgets, has_place, no_change, IsReplaced, IsWired, condition_of, are_none, AreWoken}
-use Rattle.candidate_source.specs.declared.source.Source.{Source}
-use Rattle.candidate_source.specs.declared.sources.Sources.{Sources}
-use Rattle.candidate_source.specs.Sources.{source_at}
-use Rattle.rete_net.specs.Lending.{IsSameFor}
-use Rattle.rete_net.proofs.Spared.{IsSparedBy, forgets_alike, idle_by, spared_alike, spared_by}
+use Rattle.rete_net.proofs.Common.{Row, has_name, Program, Look, Answered, Index, NetNode, left_given, some_answer, IsAnswerPut, Fan, Fans, Seat, half_at}
+use Rattle.rete_net.proofs.Common.{half_of, member_at, member_of, seat_at, showing, with_fans, AreFans, AreFanRowsTurned, IsHalf, IsLaidAs, IsLeft, IsOfSeat}
+use Rattle.rete_net.proofs.Common.{Member, dropped_before, HaveForgotten, TurnForgets, has_place, no_change, IsReplaced, IsWired, condition_of, are_none}
+use Rattle.rete_net.{proofs.{Common.{AreWoken}, Spared.{IsSparedBy, forgets_alike, idle_by, spared_alike, spared_by}}, specs.Lending.{IsSameFor}}
+use Rattle.candidate_source.specs.{declared.{source.Source.{Source}, sources.Sources.{Sources}}, Sources.{source_at}}
 use Rattle.rete_net.proofs.Fanwise as fanwise
 
 module _ (p : Program) (look : Look) (names : List Named) (before : List NetNode) (fans : Fans) (ends : List ℕ) (index : Index)

@@ -5,17 +5,10 @@ use Rattle.rete_net.proofs.Common.{true, false, zero, suc, set, slice_get_within
 use Rattle.rete_net.proofs.Common.{nat_cmp, Delta, Named, Row, Look, Pattern, row_key, Candidates, beside, made, AreBeside, IsMemberTurned, AreNamesTurned, Fan}
 use Rattle.rete_net.proofs.Common.{Fans, Seat, Span, NetNode, given_span, half_at, half_in, in_fan, member_of, AreFans, AreNamesTurnedAt, AreFanRowsTurned}
 use Rattle.rete_net.proofs.Common.{IsFanLike, IsHalf, IsInSpan, IsLaidAs, IsLeft, Member, Bool, BTreeMap, member_delta, IsReached, has_place, no_change, is_in}
-use Rattle.rete_net.proofs.Common.{is_some, nat_eq, cond, or-true, ◌||◌}
-use Rattle.fan_join.specs.Doors.{shared_key}
-use Rattle.std.proofs.lemmas.Bool.{false_from_ne_true}
-use Rattle.fan_join.specs.declared.fan.FanJoin.{FanJoin}
-use Rattle.std.specs.Map.{keys_of, lookup}
-use Rattle.fan_join.specs.Fans.{given_delta, AreRowsTurned as JoinTurned}
-use Rattle.rete_net.proofs.Fanning.{laid_same, laid_then}
-use Rattle.rete_net.proofs.Siblings.{half_none}
-use Rattle.rete_net.proofs.Walking.{equal_or_not}
-use Rattle.fx_base.proofs.Orders.{below_or_last}
-use Rattle.fx_base.proofs.Sequences.{get-below, get-set_other, get-set_same, one_value}
+use Rattle.rete_net.proofs.{Common.{is_some, nat_eq, cond, or-true, ◌||◌}, Fanning.{laid_same, laid_then}, Siblings.{half_none}, Walking.{equal_or_not}}
+use Rattle.fan_join.specs.{Doors.{shared_key}, declared.fan.FanJoin.{FanJoin}, Fans.{given_delta, AreRowsTurned as JoinTurned}}
+use Rattle.std.{proofs.lemmas.Bool.{false_from_ne_true}, specs.Map.{keys_of, lookup}}
+use Rattle.fx_base.proofs.{Orders.{below_or_last}, Sequences.{get-below, get-set_other, get-set_same, one_value}}
 
 module _ (list : List Fan) (f : ℕ) (old new : Fan) (at : slice_get list f ≡ Some old) where
   pub member_other : (seat : Seat) → (seat.fan ≡ f → ⊥) → member_of (set list f new) (Some seat) ≡ member_of list (Some seat)

@@ -2,14 +2,11 @@
 use Rattle.rete_net.proofs.Common.{◌≡◌, ◌∙◌, sym, ap, refl, subst, ℕ, ◌+◌, ◌<◌, ◌≤◌, arith, false, List, [], length, Option, Some, None, slice_get}
 use Rattle.rete_net.proofs.Common.{slice_index_or, set, slice_get_within, Row, Look, condition_of, Answered, Fans, Seat, Index, NetNode, left_given}
 use Rattle.rete_net.proofs.Common.{some_answer, IsAnswerPut, half_at, half_of, member_at, seat_at, showing, with_fans, AreFans, AreFanRowsTurned, IsHalf}
-use Rattle.rete_net.proofs.Common.{IsLaidAs, IsLeft, IsOfSeat, Member, Program, IsNetOf, IsIndexOf, has_place, no_change, IsReplaced, IsWired}
-use Rattle.rete_net.proofs.Common.{zero, suc, ◌-◌, ◌∷◌, true, inl, inr, are_none, Fan, member_of, AreWoken}
-use Rattle.rete_net.specs.Answers.{given as given_or}
+use Rattle.rete_net.proofs.Common.{IsLaidAs, IsLeft, IsOfSeat, Member, Program, IsNetOf, IsIndexOf, has_place, no_change, IsReplaced, IsWired, zero, suc, ◌-◌}
+use Rattle.rete_net.{proofs.Common.{◌∷◌, true, inl, inr, are_none, Fan, member_of, AreWoken}, specs.Answers.{given as given_or}}
 use Rattle.candidate_source.specs.declared.sources.Sources.{Sources}
 use Rattle.rete_net.proofs.Fanning as fanning
-use Rattle.rete_net.proofs.Fanned.{none_turned}
-use Rattle.rete_net.proofs.Fanning.{fans_again, laid_same, member_fits}
-use Rattle.rete_net.proofs.Frames.{index_again, net_again, wired_of}
+use Rattle.rete_net.proofs.{Fanned.{none_turned}, Fanning.{fans_again, laid_same, member_fits}, Frames.{index_again, net_again, wired_of}}
 use Rattle.rete_net.proofs.Showing.{parent_shown, replaced_back, replaced_shown, shown_at, shown_length}
 use Rattle.fx_base.proofs.Sequences.{get-below}
 use Rattle.std.proofs.lemmas.Bool.{false_from_ne_true}

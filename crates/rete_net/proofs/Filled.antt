@@ -5,12 +5,11 @@ use Rattle.rete_net.proofs.Common.{IsDifference, Condition, Pattern, Moment, Pro
 use Rattle.rete_net.proofs.Common.{Look, IsNameDifference, row_naming, has_name, no_names, no_rows, extra_for, empty_snapshot, HasAllOf, NameHeld}
 use Rattle.rete_net.proofs.Common.{candidates_of, StandsForArrivals, Arrival, rows_inside, PatternGate, arrival_of, arrivals, GateStands, has_good_window}
 use Rattle.rete_net.proofs.Common.{window_kind_of, IsOrderly, rising, Node, IsLoad, Laden, node_rows, condition_of, NodeStands, held_known, node_moves}
-use Rattle.rete_net.proofs.Common.{laden_line, found_in, NetNode, is_fact_of_type, IsNodeLoad, NodeLoad, IsFresh}
+use Rattle.rete_net.proofs.{Common.{laden_line, found_in, NetNode, is_fact_of_type, IsNodeLoad, NodeLoad, IsFresh}, Starting.{none_made}}
 use Rattle.std.specs.List.Sorted.{IsStrictlySortedBy}
 use Rattle.condition_rows.specs.Sets.{held}
 use Rattle.pattern_gate.proofs.Inside.{rows_named}
 use Rattle.condition_node.proofs.Lines.{node_laden, node_shown}
-use Rattle.rete_net.proofs.Starting.{none_made}
 
 -- ---- facts of one type
 

@@ -1,32 +1,19 @@
 -- A node of a source forgets, out of what both answer; and where nothing is handed to it, and no row before it goes, it stays as it is.
-use Rattle.rete_net.proofs.Common.{gathered_tallies}
-use Rattle.rete_net.proofs.Common.{◌≡◌, ◌∙◌, sym, ap, refl, subst, ℕ, ◌&&◌, not, Bool, true, false, List, [], Some, Named, Row, has, InOrder, Condition}
-use Rattle.rete_net.proofs.Common.{Program}
-use Rattle.rete_net.proofs.Common.{pattern_of, Snapshot, Look, Candidates, Memories, clean, cleaned, either, line, has_left, has_right, has_name, made}
-use Rattle.rete_net.proofs.Common.{joins, held, GateStands, PatternGate, Node, condition_of, NodeStands, node_moves, NetNode, IsForgetting, StandsIn}
-use Rattle.rete_net.proofs.Common.{TurnForgets, AreOld, Value, blocker_tallies}
+use Rattle.rete_net.proofs.Common.{gathered_tallies, ◌≡◌, ◌∙◌, sym, ap, refl, subst, ℕ, ◌&&◌, not, Bool, true, false, List, [], Some, Named, Row, has, InOrder}
+use Rattle.rete_net.proofs.Common.{Condition, Program, pattern_of, Snapshot, Look, Candidates, Memories, clean, cleaned, either, line, has_left, has_right}
+use Rattle.rete_net.proofs.Common.{has_name, made, joins, held, GateStands, PatternGate, Node, condition_of, NodeStands, node_moves, NetNode, IsForgetting}
+use Rattle.rete_net.proofs.Common.{StandsIn, TurnForgets, AreOld, Value, blocker_tallies}
 use Rattle.std.specs.List.Sorted.{IsStrictlySortedBy}
 use Rattle.fx_base.proofs.Tests.{and_not_self}
-use Rattle.join_tests.specs.Kept.{row_value}
-use Rattle.join_tests.specs.NameKeys.{name_key}
-use Rattle.pair_memory.proofs.Handed.{forgone_handed, handed_joined, keeps_shared, moved_none}
-use Rattle.pair_memory.proofs.Joining.{joined_alike}
-use Rattle.pair_memory.specs.Handed.{moved}
-use Rattle.pair_memory.specs.Memories.{KeepsMemories}
-use Rattle.pair_memory.specs.Shared.{sharing, ForgoesOld}
-use Rattle.candidate_source.specs.declared.source.Source.{Source}
-use Rattle.candidate_source.specs.Doors.{source_candidates, source_gate, source_pattern, is_reached}
-use Rattle.candidate_source.specs.Sources.{HaveLeftAt}
+use Rattle.join_tests.specs.{Kept.{row_value}, NameKeys.{name_key}}
+use Rattle.pair_memory.{proofs.{Handed.{forgone_handed, handed_joined, keeps_shared, moved_none}, Joining.{joined_alike}}, specs.Handed.{moved}}
+use Rattle.pair_memory.specs.{Memories.{KeepsMemories}, Shared.{sharing, ForgoesOld}}
+use Rattle.candidate_source.specs.{declared.source.Source.{Source}, Doors.{source_candidates, source_gate, source_pattern, is_reached}, Sources.{HaveLeftAt}}
 use Rattle.condition_node.proofs.Lending.{ForgetsFrom, exists_forgets_from, fold_forgets_from, join_forgets_from, not_forgets_from}
-use Rattle.condition_node.specs.Forgetting.{ForgetsIn}
-use Rattle.condition_node.specs.Lending.{with_candidates, NodeForgoes}
+use Rattle.condition_node.specs.{Forgetting.{ForgetsIn}, Lending.{with_candidates, NodeForgoes}}
 use Rattle.condition_node.specs.declared.node.Node.TheVariants as node
-use Rattle.rete_net.specs.Lending.{ForgetsAt, IsFoundAnew}
-use Rattle.rete_net.proofs.Cleaning.{cleaned_either}
-use Rattle.rete_net.proofs.Forgets.{exactly, known_still}
-use Rattle.rete_net.proofs.Lent.{condition_lent, lent_alike, lent_kept, lent_last, node_forgoes, value_before}
-use Rattle.rete_net.proofs.Reached.{found_still}
-use Rattle.rete_net.proofs.Turning.{held_has}
+use Rattle.rete_net.{specs.Lending.{ForgetsAt, IsFoundAnew}, proofs.{Cleaning.{cleaned_either}, Forgets.{exactly, known_still}, Lent.{condition_lent}}}
+use Rattle.rete_net.proofs.{Lent.{lent_alike, lent_kept, lent_last, node_forgoes, value_before}, Reached.{found_still}, Turning.{held_has}}
 
 -- ---- nothing goes
 

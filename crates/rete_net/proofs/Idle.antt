@@ -1,17 +1,14 @@
 -- A member for which what its rows change is nothing, and that nothing else reaches, takes its turn without a look at it.
-use Rattle.rete_net.proofs.Common.{◌≡◌, ◌∙◌, sym, ap, refl, subst, ◌&&◌, not, Bool, true, false, List, [], Option, Some, Fact, Delta, Named, Row, has}
-use Rattle.rete_net.proofs.Common.{Plain, Pattern, Moment, Program, pattern_of, Snapshot, Look, Candidates, beside, has_left, has_right, candidates_of, NetNode}
+use Rattle.rete_net.proofs.Common.{◌≡◌, ◌∙◌, sym, ap, refl, subst, ◌&&◌, not, Bool, true, false, List, [], Option, Some, Fact, Delta, Named, Row, has, Plain}
+use Rattle.rete_net.proofs.Common.{Pattern, Moment, Program, pattern_of, Snapshot, Look, Candidates, beside, has_left, has_right, candidates_of, NetNode}
 use Rattle.rete_net.proofs.Common.{HasNoOld, NodeForgets, Fan, Seat, member_of, showing, IsHalf, IsHalfTurned, IsOfSeat, Member, no_change, NodeStep}
 use Rattle.rete_net.proofs.Common.{condition_of, is_negated, node_moves}
 use Rattle.std.proofs.Math.Bool.{or-false}
-use Rattle.pair_memory.specs.declared.left_rows.LeftRows.{LeftRows}
-use Rattle.pair_memory.specs.Memories.{KeepsMemories}
+use Rattle.pair_memory.specs.{declared.left_rows.LeftRows.{LeftRows}, Memories.{KeepsMemories}}
 use Rattle.condition_node.specs.Forgetting.{ForgetsIn}
 use Rattle.condition_node.specs.declared.node.Node.TheVariants as node
 use Rattle.condition_node.proofs.Forgetting.{join_forgot}
-use Rattle.rete_net.proofs.Forgets.{node_forgets}
-use Rattle.rete_net.proofs.Lone.{alone_gate, IsAlone}
-use Rattle.rete_net.proofs.Siblings.{as_node, own_join, shown_is, still_steps, whole_half}
+use Rattle.rete_net.proofs.{Forgets.{node_forgets}, Lone.{alone_gate, IsAlone}, Siblings.{as_node, own_join, shown_is, still_steps, whole_half}}
 use Rattle.rete_net.proofs.Sparing.{none_old}
 use Rattle.fx_base.proofs.Tests.{and_not_excluded}
 

@@ -1,17 +1,11 @@
 -- Sources that are put for nodes, one node behind another.
-use Rattle.rete_net.proofs.Common.{◌≡◌, ◌∙◌, sym, ap, refl, subst, inl, inr, ℕ, ◌+◌, arith, List, [], ◌∷◌, ◌++◌, length, Option, Some, None, slice_get, Condition, Plain, Pattern, NetNode, condition_of, pattern_of}
-use Rattle.rete_net.proofs.Common.{seat_at, Fans, Seat}
-use Rattle.candidate_source.specs.declared.source.Source.{Source}
-use Rattle.candidate_source.specs.declared.sources.Sources.{Sources}
-use Rattle.candidate_source.specs.Doors.{listed_source, node_count, source_pattern}
-use Rattle.candidate_source.specs.Sources.{source_at, AreApart, IsNewSource}
-use Rattle.candidate_source.proofs.Growing.{lead_at, of_listed, one_more, put_at}
-use Rattle.candidate_source.proofs.Moving.{place_within}
+use Rattle.rete_net.proofs.Common.{◌≡◌, ◌∙◌, sym, ap, refl, subst, inl, inr, ℕ, ◌+◌, arith, List, [], ◌∷◌, ◌++◌, length, Option, Some, None, slice_get}
+use Rattle.rete_net.proofs.Common.{Condition, Plain, Pattern, NetNode, condition_of, pattern_of, seat_at, Fans, Seat}
+use Rattle.rete_net.specs.{declared.alike.SourceKey.{SourceKey}, Sources.{AreSources}, Sourcing.{bare, AreAlike, AreSourcesBelow, IsKeyOf, IsNodePut}}
+use Rattle.candidate_source.specs.{declared.{source.Source.{Source}, sources.Sources.{Sources}}, Doors.{listed_source, node_count, source_pattern}}
+use Rattle.candidate_source.{specs.Sources.{source_at, AreApart, IsNewSource}, proofs.{Growing.{lead_at, of_listed, one_more, put_at}, Moving.{place_within}}}
 use Rattle.fx_base.proofs.Sequences.{one_value}
 use Rattle.join_tests.specs.NameKeys.{name_key}
-use Rattle.rete_net.specs.declared.alike.SourceKey.{SourceKey}
-use Rattle.rete_net.specs.Sources.{AreSources}
-use Rattle.rete_net.specs.Sourcing.{bare, AreAlike, AreSourcesBelow, IsKeyOf, IsNodePut}
 
 plain_of : (p q : Pattern) → Plain p ≡ Plain q → p ≡ q
 plain_of p q e = cc

@@ -3,16 +3,12 @@ use Rattle.rete_net.proofs.Common.{◌≡◌, ◌∙◌, sym, ap, refl, subst, �
 use Rattle.rete_net.proofs.Common.{Fact, Delta, Extra, Row, has, InOrder, Moment, Program, Look, condition_of, Answered, Owner, Fans, Seat, Index, NetNode}
 use Rattle.rete_net.proofs.Common.{left_given, some_answer, IsAnswerPut, half_at, half_of, member_at, seat_at, showing, with_fans, AreFans, AreFanRowsTurned}
 use Rattle.rete_net.proofs.Common.{IsHalf, IsLaidAs, IsLeft, IsOfSeat, Member, is_extra_under, AreLoaded, IsStuck, no_change, IsReplaced, IsWired}
-use Rattle.candidate_source.specs.declared.sources.Sources.{Sources}
-use Rattle.candidate_source.specs.Sources.{source_at}
-use Rattle.rete_net.specs.Lending.{IsSameFor}
-use Rattle.rete_net.specs.Loads.{TurnLoads}
+use Rattle.rete_net.specs.{Lending.{IsSameFor}, Loads.{TurnLoads}}
+use Rattle.candidate_source.specs.{declared.sources.Sources.{Sources}, Sources.{source_at}}
 use Rattle.rete_net.proofs.Fanning as fanning
-use Rattle.rete_net.proofs.Fanning.{member_fits}
-use Rattle.rete_net.proofs.Fanwise.{wired_again}
+use Rattle.rete_net.proofs.{Fanning.{member_fits}, Fanwise.{wired_again}}
 use Rattle.rete_net.proofs.Filling as filling
-use Rattle.rete_net.proofs.Showing.{parent_shown, replaced_shown, shown_at, shown_length}
-use Rattle.rete_net.proofs.Stocked.{loads_alike}
+use Rattle.rete_net.proofs.{Showing.{parent_shown, replaced_shown, shown_at, shown_length}, Stocked.{loads_alike}}
 
 module _ (p : Program) (look : Look) (kept : List Fact) (extras : List Extra) (moment : Moment) (first : Delta) (before : List NetNode) (fans : Fans) (owners : List Owner) (ends : List ℕ)
     (index : Index) (sources : Sources) (wired : IsWired sources before ends index) where

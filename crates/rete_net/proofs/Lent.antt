@@ -1,15 +1,12 @@
 -- A node stands by the rows and the candidates that it keeps, each where it is looked up; so a source knows where to find it.
-use Rattle.rete_net.proofs.Common.{gathered_tallies}
-use Rattle.rete_net.proofs.Common.{◌≡◌, ◌∙◌, sym, ap, refl, subst, ℕ, true, Bool, List, Named, Row, Look, Program, Snapshot, Memories, Candidates, Pattern}
-use Rattle.rete_net.proofs.Common.{StandsFor, has_left, cleaned, Node, condition_of, pattern_of, NodeStands, has_name, blocker_tallies, Value}
+use Rattle.rete_net.proofs.Common.{gathered_tallies, ◌≡◌, ◌∙◌, sym, ap, refl, subst, ℕ, true, Bool, List, Named, Row, Look, Program, Snapshot, Memories}
+use Rattle.rete_net.proofs.Common.{Candidates, Pattern, StandsFor, has_left, cleaned, Node, condition_of, pattern_of, NodeStands, has_name, blocker_tallies}
+use Rattle.rete_net.proofs.Common.{Value}
 use Rattle.fx_base.specs.SameValues.{equal_values}
-use Rattle.join_tests.specs.Kept.{row_value}
-use Rattle.join_tests.specs.NameKeys.{name_key}
+use Rattle.join_tests.specs.{Kept.{row_value}, NameKeys.{name_key}}
 use Rattle.not_node.specs.Doors.{with_tallies}
 use Rattle.pair_memory.specs.Shared.{sharing, TakesOver, ForgoesOld}
-use Rattle.candidate_source.specs.declared.source.Source.{Source}
-use Rattle.candidate_source.specs.Doors.{source_candidates, source_pattern, is_reached}
-use Rattle.candidate_source.specs.Sources.{HasTurnedAt, HaveLeftAt}
+use Rattle.candidate_source.specs.{declared.source.Source.{Source}, Doors.{source_candidates, source_pattern, is_reached}, Sources.{HasTurnedAt, HaveLeftAt}}
 use Rattle.candidate_source.proofs.Sharing.{turn_at_law, forget_at_law}
 use Rattle.condition_node.specs.Lending.{candidates_in, with_candidates, stands_under, node_keeps_under, node_value, NodeTakes, NodeForgoes}
 use Rattle.condition_node.specs.declared.node.Node.TheVariants as node

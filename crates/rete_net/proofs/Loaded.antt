@@ -3,17 +3,12 @@ use Rattle.rete_net.proofs.Common.{◌≡◌, ◌∙◌, sym, ap, refl, subst, �
 use Rattle.rete_net.proofs.Common.{take, Option, Some, None, slice_get, fun_ext, filter, eq_by_cmp, nat_tests, length-take-le, Fact, Delta, Extra, Row, has}
 use Rattle.rete_net.proofs.Common.{row_cmp, InOrder, Condition, Moment, Program, Rule, Snapshot, of_filter, Look, extra_for, empty_row, is_empty_row}
 use Rattle.rete_net.proofs.Common.{condition_of, IsFirstWith, extra_at, laden_line, laden_with, Answered, Owner, NetNode, answer_in, left_given, IsLoadable}
-use Rattle.rete_net.proofs.Common.{is_extra_under, AreLoaded, IsNodeLoad, IsOwned, before, IsNetOf, IsFresh, empty_row_comes}
-use Rattle.rete_net.proofs.Common.{taking, has_good_window, pattern_of}
+use Rattle.rete_net.proofs.Common.{is_extra_under, AreLoaded, IsNodeLoad, IsOwned, before, IsNetOf, IsFresh, empty_row_comes, taking, has_good_window}
+use Rattle.rete_net.{proofs.{Common.{pattern_of}, Counting.{longer}, Growing.{parted}, Searched.{extra_of_owner}}, specs.Owners.{AreNodeOwners as HaveOwners}}
+use Rattle.rete_net.proofs.{Searched.{rows_in_order}, Stillness.{condition_taking}}
 use Rattle.candidate_source.specs.declared.source.Source.{Source}
 use Rattle.std.specs.List.Sorted.{IsStrictlySortedBy}
-use Rattle.laden_rows.specs.Laden.{AreOwners, laden}
-use Rattle.laden_rows.proofs.Naming.{laden_named}
-use Rattle.rete_net.specs.Owners.{AreNodeOwners as HaveOwners}
-use Rattle.rete_net.proofs.Counting.{longer}
-use Rattle.rete_net.proofs.Growing.{parted}
-use Rattle.rete_net.proofs.Searched.{extra_of_owner, rows_in_order}
-use Rattle.rete_net.proofs.Stillness.{condition_taking}
+use Rattle.laden_rows.{specs.Laden.{AreOwners, laden}, proofs.Naming.{laden_named}}
 use Rattle.fx_base.proofs.Sequences.{get-below}
 
 -- rules that are the first ones with the same first conditions are the same

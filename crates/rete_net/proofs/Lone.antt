@@ -1,14 +1,12 @@
 -- A node that a step does not reach stays as it is, and nothing changes in the rows of its condition.
 use Rattle.rete_net.proofs.Common.{◌≡◌, ◌∙◌, sym, ap, refl, subst, ◌||◌, not, Bool, true, false, ℤ, List, map, Option, None, Fact, Delta, Row, has}
-use Rattle.rete_net.proofs.Common.{changes_nothing}
-use Rattle.rete_net.proofs.Common.{Program, Moment, IsAt, snapshot_at, pattern_of, Snapshot, floor, is_whole, Pattern, WindowTag, Whole, Time, Length, Look}
-use Rattle.rete_net.proofs.Common.{KeepsWindow, window_kept, window_of, Arrival, rows_inside, named_of, single, Kept, inside_whole, arrivals, window_kind_of}
-use Rattle.rete_net.proofs.Common.{is_one_meant, PatternGate, same_arrivals, stands_still, same_candidates, Node, condition_of, is_negated, Stays, TellsNothing}
-use Rattle.rete_net.proofs.Common.{join_still, join_tells_nothing, exists_still, exists_tells_nothing, fold_still, fold_tells_nothing, not_still}
-use Rattle.rete_net.proofs.Common.{not_tells_nothing, NetNode, is_changed_by_clock, IsGateStill, IsStillAt, no_change, NodeStep}
-use Rattle.rete_net.proofs.Common.{blocking_pattern, Gate}
-use Rattle.not_node.specs.Doors.{awaited_entry}
-use Rattle.not_node.specs.declared.node.NotNode.{NotNode}
+use Rattle.rete_net.proofs.Common.{changes_nothing, Program, Moment, IsAt, snapshot_at, pattern_of, Snapshot, floor, is_whole, Pattern, WindowTag, Whole, Time}
+use Rattle.rete_net.proofs.Common.{Length, Look, KeepsWindow, window_kept, window_of, Arrival, rows_inside, named_of, single, Kept, inside_whole, arrivals}
+use Rattle.rete_net.proofs.Common.{window_kind_of, is_one_meant, PatternGate, same_arrivals, stands_still, same_candidates, Node, condition_of, is_negated}
+use Rattle.rete_net.proofs.Common.{Stays, TellsNothing, join_still, join_tells_nothing, exists_still, exists_tells_nothing, fold_still, fold_tells_nothing}
+use Rattle.rete_net.proofs.Common.{not_still, not_tells_nothing, NetNode, is_changed_by_clock, IsGateStill, IsStillAt, no_change, NodeStep, blocking_pattern}
+use Rattle.rete_net.proofs.Common.{Gate}
+use Rattle.not_node.specs.{Doors.{awaited_entry}, declared.node.NotNode.{NotNode}}
 use Rattle.window_gate.specs.declared.change.WindowKind.{WindowKind}
 use Rattle.window_gate.specs.declared.gate.Kept.TheVariants as kept
 use Rattle.condition_node.specs.declared.node.Node.TheVariants as node

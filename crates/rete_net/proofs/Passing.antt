@@ -1,25 +1,16 @@
 -- A node of a source that is passed over: nothing has changed before it, nothing is handed to it, and no row of it becomes mature.
 use Rattle.rete_net.proofs.Common.{◌≡◌, sym, refl, subst, ℕ, ℤ, Bool, true, false, List, [], Option, Some, Fact, Delta, Row, IsDifference, changes_nothing}
-use Rattle.rete_net.proofs.Common.{fun_ext}
-use Rattle.rete_net.proofs.Common.{Condition, Moment, Program, IsAt, pattern_of, Snapshot, snapshot_at, floor, Look, Candidates, cleaned, line, Node}
-use Rattle.rete_net.proofs.Common.{condition_of}
-use Rattle.rete_net.proofs.Common.{NodeStands, IsConditionTurn, NetNode, IsStillAt, no_change, Value, blocking_pattern, TurnStep}
+use Rattle.rete_net.proofs.Common.{fun_ext, Condition, Moment, Program, IsAt, pattern_of, Snapshot, snapshot_at, floor, Look, Candidates, cleaned, line, Node}
+use Rattle.rete_net.proofs.Common.{condition_of, NodeStands, IsConditionTurn, NetNode, IsStillAt, no_change, Value, blocking_pattern, TurnStep}
 use Rattle.join_tests.specs.NameKeys.{name_key}
-use Rattle.not_node.specs.Doors.{awaited_entry}
-use Rattle.not_node.specs.declared.node.NotNode.{NotNode}
+use Rattle.not_node.specs.{Doors.{awaited_entry}, declared.node.NotNode.{NotNode}}
 use Rattle.pattern_gate.specs.Alike.{TakesAlike}
-use Rattle.candidate_source.specs.declared.source.Source.{Source}
-use Rattle.candidate_source.specs.Doors.{source_candidates, source_pattern, is_reached}
-use Rattle.condition_node.proofs.Lending.{exists_with, fold_with, join_with, not_with}
-use Rattle.condition_node.proofs.Turning.{floor_told}
-use Rattle.condition_node.proofs.Untouched.{StaysUntouched, TellsUntouched, exists_tells_untouched, exists_untouched, fold_tells_untouched, fold_untouched}
-use Rattle.condition_node.proofs.Untouched.{join_tells_untouched, join_untouched, not_tells_untouched, not_untouched}
-use Rattle.condition_node.specs.Lending.{with_candidates}
+use Rattle.candidate_source.specs.{declared.source.Source.{Source}, Doors.{source_candidates, source_pattern, is_reached}}
+use Rattle.condition_node.proofs.{Lending.{exists_with, fold_with, join_with, not_with}, Turning.{floor_told}, Untouched.{StaysUntouched, TellsUntouched}}
+use Rattle.condition_node.proofs.Untouched.{exists_tells_untouched, exists_untouched, fold_tells_untouched, fold_untouched, join_tells_untouched}
+use Rattle.condition_node.{proofs.Untouched.{join_untouched, not_tells_untouched, not_untouched}, specs.Lending.{with_candidates}}
 use Rattle.condition_node.specs.declared.node.Node.TheVariants as node
-use Rattle.rete_net.specs.Lending.{IsFoundAnew, TurnsAt}
-use Rattle.rete_net.proofs.Fanned.{none_of}
-use Rattle.rete_net.proofs.Lending.{turn_step}
-use Rattle.rete_net.proofs.Lent.{condition_lent, lent_last}
+use Rattle.rete_net.{specs.Lending.{IsFoundAnew, TurnsAt}, proofs.{Fanned.{none_of}, Lending.{turn_step}, Lent.{condition_lent, lent_last}}}
 use Rattle.rete_net.proofs.Skipping.{no_difference}
 
 -- where no row came, and nothing has changed, a node is found as it was

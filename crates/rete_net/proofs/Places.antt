@@ -2,13 +2,9 @@
 use Rattle.rete_net.proofs.Common.{◌≡◌, ◌∙◌, sym, ap, refl, subst, ℕ, ◌+◌, ◌<◌, ◌≤◌, ◌==◌, ◌||◌, Bool, true, false, cond, List, [], ◌∷◌, take, length, get_or}
 use Rattle.rete_net.proofs.Common.{arith, nat_eq, slice_get, list_any, nat_cmp, eq_by_cmp, is_gt, or-true, nat_tests, Decides-eqb, Index, AreDue, is_in}
 use Rattle.rete_net.proofs.Common.{is_listed, items_of, has_place}
-use Rattle.std.proofs.Math.Bool.{or_assoc}
-use Rattle.std.specs.Prelude.{IfSome}
-use Rattle.std.specs.declared.ops.Bound.TheVariants.{Included, Unbounded}
-use Rattle.std.specs.BTreeSet.{BTreeSet, IsKeyRangeOf}
+use Rattle.std.{proofs.Math.Bool.{or_assoc}, specs.{Prelude.{IfSome}, declared.ops.Bound.TheVariants.{Included, Unbounded}, BTreeSet.{BTreeSet, IsKeyRangeOf}}}
 use Rattle.std.proofs.lemmas.List.Folds.{list_any_more}
-use Rattle.fx_base.proofs.Orders.{eq_by_nat_cmp-turned}
-use Rattle.fx_base.proofs.Tests.{cond_true_first}
+use Rattle.fx_base.proofs.{Orders.{eq_by_nat_cmp-turned}, Tests.{cond_true_first}}
 
 pub put_more : (k : ℕ) (places : List ℕ) (i : ℕ) (old mid now : Bool) → i < length places → mid ≡ (old || list_any (nat_eq k) (take i places))
     → now ≡ cond (eq_by_cmp nat_cmp (get_or places i 0) k) true mid → now ≡ (old || list_any (nat_eq k) (take (i + 1) places))

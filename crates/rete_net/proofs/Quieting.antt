@@ -1,15 +1,10 @@
 -- How long the nodes of a network are quiet, and the network with them.
 use Rattle.rete_net.proofs.Common.{◌≡◌, ◌∙◌, sym, ap, refl, subst, ℕ, zero, suc, ℤ, pos, ◌<◌, ◌≤ℤ◌, ◌<ℤ◌, ◌^◌, arith, Bool, List, length, get_or, Option, Some}
-use Rattle.rete_net.proofs.Common.{None, slice_get, fun_ext, ≤ℤ_refl, slice_get_within, slice_get-get_or, Named, Row, Condition}
-use Rattle.rete_net.proofs.Common.{Program, pattern_of, Snapshot, cleaned, line, rows_of, IsOrderly}
-use Rattle.rete_net.proofs.Common.{at_clock, condition_of, IsBefore, shown_nodes, Rete, NetNode, HaveSameFronts, NodesStand, NetStands}
-use Rattle.rete_net.proofs.Common.{StaysAt, AreQuiet, before}
+use Rattle.rete_net.proofs.Common.{None, slice_get, fun_ext, ≤ℤ_refl, slice_get_within, slice_get-get_or, Named, Row, Condition, Program, pattern_of, Snapshot}
+use Rattle.rete_net.proofs.Common.{cleaned, line, rows_of, IsOrderly, at_clock, condition_of, IsBefore, shown_nodes, Rete, NetNode, HaveSameFronts, NodesStand}
+use Rattle.rete_net.proofs.{Common.{NetStands, StaysAt, AreQuiet, before}, Advancing.{same_first, rows_made}, Chaining.{AreMade}, Cleaning.{line_cleaned}}
+use Rattle.rete_net.proofs.{Stillness.{stays_taking}, Turning.{rising}}
 use Rattle.candidate_source.specs.Sources.{source_at}
-use Rattle.rete_net.proofs.Advancing.{same_first, rows_made}
-use Rattle.rete_net.proofs.Chaining.{AreMade}
-use Rattle.rete_net.proofs.Cleaning.{line_cleaned}
-use Rattle.rete_net.proofs.Stillness.{stays_taking}
-use Rattle.rete_net.proofs.Turning.{rising}
 
 -- ---- all nodes
 

@@ -1,23 +1,13 @@
 -- Ranges of fields: what passes tests is within them, and what they find is found where more is put.
-use Rattle.rete_net.proofs.Common.{◌≡◌, ◌∙◌, sym, ap, subst, refl, ℕ, ℤ, ◌+◌, ◌<◌, ◌≤ℤ◌, ◌==◌, ◌&&◌, ◌||◌, Bool, true, false, List, ◌∷◌, Option, Some, None, FitsSigned, w64}
-use Rattle.rete_net.proofs.Common.{arith, ints, nat_tests, nat_eq, slice_get, set, Fact, is_in, is_listed, take, get_or, unbound, length, tests_hold, Lists, Pattern, is_meant, inl, inr}
-use Rattle.rete_net.proofs.Common.{and_parts, Value, Int, is_found, compare_holds, compares_hold, AreWithin, IsInRange, FieldRanges}
-use Rattle.std.specs.Int.{int_max, int_min}
-use Rattle.std.specs.Prelude.{int_le}
-use Rattle.std.proofs.lemmas.List.Folds.{list_all_more}
-use Rattle.fx_base.proofs.Sequences.{get-set_other, get-set_same}
-use Rattle.fx_base.specs.declared.value.Value.TheVariants.{Bool as Flag, Text}
-use Rattle.range_index.specs.Ranges.{has_number}
-use Rattle.range_index.specs.declared.placed.PlacedRange.{PlacedRange}
-use Rattle.rule_model.specs.Tests.{test_holds}
-use Rattle.rule_model.specs.declared.test.Compare.{Compare}
-use Rattle.rule_model.specs.declared.test.Test.{Test}
-use Rattle.rete_net.specs.Bounds.{HasValue, IsWithin}
-use Rattle.rete_net.specs.Indexes.{IsLookedUp}
-use Rattle.rete_net.specs.Selectors.{choices_hold}
-use Rattle.rete_net.specs.declared.alpha_index.AlphaIndex.{AlphaIndex}
-use Rattle.rete_net.specs.declared.bounds.FieldRange.{FieldRange}
-use Rattle.rete_net.specs.declared.ranges.Ranges.{Ranges}
+use Rattle.rete_net.proofs.Common.{◌≡◌, ◌∙◌, sym, ap, subst, refl, ℕ, ℤ, ◌+◌, ◌<◌, ◌≤ℤ◌, ◌==◌, ◌&&◌, ◌||◌, Bool, true, false, List, ◌∷◌, Option, Some, None}
+use Rattle.rete_net.proofs.Common.{FitsSigned, w64, arith, ints, nat_tests, nat_eq, slice_get, set, Fact, is_in, is_listed, take, get_or, unbound, length}
+use Rattle.rete_net.proofs.Common.{tests_hold, Lists, Pattern, is_meant, inl, inr, and_parts, Value, Int, is_found, compare_holds, compares_hold, AreWithin}
+use Rattle.rete_net.{proofs.Common.{IsInRange, FieldRanges}, specs.{Bounds.{HasValue, IsWithin}, Indexes.{IsLookedUp}, Selectors.{choices_hold}}}
+use Rattle.rete_net.specs.declared.{alpha_index.AlphaIndex.{AlphaIndex}, bounds.FieldRange.{FieldRange}, ranges.Ranges.{Ranges}}
+use Rattle.std.{specs.{Int.{int_max, int_min}, Prelude.{int_le}}, proofs.lemmas.List.Folds.{list_all_more}}
+use Rattle.fx_base.{proofs.Sequences.{get-set_other, get-set_same}, specs.declared.value.Value.TheVariants.{Bool as Flag, Text}}
+use Rattle.range_index.specs.{Ranges.{has_number}, declared.placed.PlacedRange.{PlacedRange}}
+use Rattle.rule_model.specs.{Tests.{test_holds}, declared.test.{Compare.{Compare}, Test.{Test}}}
 
 -- ---- what passes tests is within
 

@@ -7,30 +7,17 @@ use Rattle.rete_net.proofs.Common.{rising, IsLost, IsResumed, lost_partners, val
 use Rattle.rete_net.proofs.Common.{extra_at, laden, extra_values_of, extra_count, extra_values, AreFans, shown_nodes, Answered, Owner, Rete, NetNode}
 use Rattle.rete_net.proofs.Common.{left_given, IsLoadable, IsIndexOf, is_extra_under, AreLoaded, IsNodeLoad, NetStands, IsOwned, AreQuiet, AreScheduled, before}
 use Rattle.rete_net.proofs.Common.{IsNetOf, IsFresh, empty_row_comes, IsReplaced, AreSources, NodeStands, Row, Value, has, StandsIn, IsFound, answer_in, taking}
-use Rattle.candidate_source.specs.declared.source.Source.{Source}
-use Rattle.candidate_source.specs.Doors.{source_candidates, is_reached}
-use Rattle.candidate_source.specs.Sources.{is_other, source_at, AreLaidAs}
+use Rattle.candidate_source.specs.{declared.source.Source.{Source}, Doors.{source_candidates, is_reached}, Sources.{is_other, source_at, AreLaidAs}}
 use Rattle.candidate_source.proofs.Moving.{lead_alike}
 use Rattle.std.proofs.lemmas.Bool.{eqb-true}
 use Rattle.rule_model.specs.declared.condition.WindowTag.TheVariants as tag
 use Rattle.condition_rows.specs.Sets.{held}
 use Rattle.condition_node.proofs.Resuming.{resumes_law}
-use Rattle.laden_rows.specs.Laden.{AreOwners}
-use Rattle.laden_rows.proofs.Kept.{candidates_kept, known}
-use Rattle.laden_rows.proofs.Rows.{laden_rows}
-use Rattle.pattern_gate.specs.Fronts.{IsLetBe, HasInFront}
-use Rattle.pattern_gate.proofs.Fronts.{gate_of_all}
-use Rattle.rete_net.specs.Loading.{IsBehind}
-use Rattle.rete_net.specs.Loads.{IsFoundUnder, TurnLoads}
-use Rattle.rete_net.specs.Owners.{AreNodeOwners as HaveOwners}
-use Rattle.rete_net.proofs.Counted.{fronts_within}
-use Rattle.rete_net.proofs.Counting.{aside_of}
-use Rattle.rete_net.proofs.Frames.{index_again, net_again}
-use Rattle.rete_net.proofs.Lent.{lent_alike, lent_value}
-use Rattle.rete_net.proofs.Owning.{owned_again}
-use Rattle.rete_net.proofs.Quieting.{seen_now}
-use Rattle.rete_net.proofs.Stillness.{condition_taking}
-use Rattle.rete_net.proofs.Loaded.{answered, extras_at, load_at, owner_there, parts}
+use Rattle.laden_rows.{specs.Laden.{AreOwners}, proofs.{Kept.{candidates_kept, known}, Rows.{laden_rows}}}
+use Rattle.pattern_gate.{specs.Fronts.{IsLetBe, HasInFront}, proofs.Fronts.{gate_of_all}}
+use Rattle.rete_net.{specs.{Loading.{IsBehind}, Loads.{IsFoundUnder, TurnLoads}, Owners.{AreNodeOwners as HaveOwners}}, proofs.Counted.{fronts_within}}
+use Rattle.rete_net.proofs.{Counting.{aside_of}, Frames.{index_again, net_again}, Lent.{lent_alike, lent_value}, Owning.{owned_again}, Quieting.{seen_now}}
+use Rattle.rete_net.proofs.{Stillness.{condition_taking}, Loaded.{answered, extras_at, load_at, owner_there, parts}}
 use Rattle.fx_base.proofs.Sequences.{get-below, one_value}
 
 -- ---- owners

@@ -5,12 +5,9 @@ use Rattle.rete_net.proofs.Common.{Plain, Pattern, Program, pattern_of, Candidat
 use Rattle.rete_net.proofs.Common.{empty_snapshot, held, GateStands, has_good_window, Node, condition_of, NodeStands, no_candidates, Fan, Fans, Seat, Span}
 use Rattle.rete_net.proofs.Common.{NetNode, AreBuilt, IsBehindParent, IsParentNode, given_seat, in_fan, member_at, member_of, seat_at, showing, with_fans}
 use Rattle.rete_net.proofs.Common.{AreEmpty, AreFans, IsSeat, Member, AreGrowing, GrowsTo, IsFanPut, IsNewFan, IsFresh, IsReached, AreLoneFound, AreFansBelow}
+use Rattle.rete_net.proofs.{Showing.{condition_shown, parent_shown, shown_from, shown_length}, Siblings.{shows_join}, Walking.{equal_or_not}}
 use Rattle.join_tests.specs.declared.row_key.RowKey.{RowKey}
-use Rattle.fan_join.proofs.Places.{seam_or_before}
-use Rattle.fan_join.proofs.Whole.{empty_law}
-use Rattle.rete_net.proofs.Showing.{condition_shown, parent_shown, shown_from, shown_length}
-use Rattle.rete_net.proofs.Siblings.{shows_join}
-use Rattle.rete_net.proofs.Walking.{equal_or_not}
+use Rattle.fan_join.proofs.{Places.{seam_or_before}, Whole.{empty_law}}
 use Rattle.fx_base.proofs.Sequences.{get-append_left, get-last, get-none, get-set_other, get-set_same, one_value}
 
 -- ---- no fans

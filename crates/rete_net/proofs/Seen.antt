@@ -3,19 +3,13 @@ use Rattle.rete_net.proofs.Common.{◌≡◌, ◌∙◌, sym, ap, refl, subst, �
 use Rattle.rete_net.proofs.Common.{slice_get, SFits, w64, ≤ℤ_refl, ints, slice_get_within, Fact, Named, Row, has, Condition, Program, Rule, rows, Snapshot}
 use Rattle.rete_net.proofs.Common.{floor, Look, cleaned, no_names, HasAllOf, rows_of, IsRunnable, IsOrderly, MovesSnapshot, at_clock, condition_of, IsBefore}
 use Rattle.rete_net.proofs.Common.{AreFans, shown_nodes, RuleChange, Rete, NetNode, AreNotNeeded, IsIndexOf, AreNodeOwners, HaveSameFronts, NodesStand}
-use Rattle.rete_net.proofs.Common.{AreSources}
-use Rattle.rete_net.proofs.Common.{NetStands, clean_rows, AreBetween, AreQuiet, no_change, NetStep, AreScheduled, before, IsRuleFront, Moment, IsAt, floor_on}
+use Rattle.rete_net.proofs.Common.{AreSources, NetStands, clean_rows, AreBetween, AreQuiet, no_change, NetStep, AreScheduled, before, IsRuleFront, Moment, IsAt}
+use Rattle.rete_net.proofs.{Common.{floor_on}, Advancing.{rows_made, same_first, first_stays, stands_now, between_now}, Answering.{few_ends}}
+use Rattle.rete_net.proofs.{Beside.{both_held, both_known, both_known_now, stays_beside}, Chaining.{AreMade, IsGiven, AreStanding, StaysBeside}}
+use Rattle.rete_net.proofs.{Cleaning.{has_clean}, Quieting.{seen_now}, Turning.{rising}}
 use Rattle.condition_rows.specs.Sets.{held}
-use Rattle.rete_net.proofs.Advancing.{rows_made, same_first, first_stays, stands_now, between_now}
-use Rattle.rete_net.proofs.Answering.{few_ends}
-use Rattle.rete_net.proofs.Beside.{both_held, both_known, both_known_now, stays_beside}
-use Rattle.rete_net.proofs.Chaining.{AreMade, IsGiven, AreStanding, StaysBeside}
-use Rattle.rete_net.proofs.Cleaning.{has_clean}
 use Rattle.candidate_source.specs.Sources.{source_at}
-use Rattle.rete_net.proofs.Quieting.{seen_now}
-use Rattle.rete_net.proofs.Turning.{rising}
-use Rattle.fx_base.proofs.Orders.{≤ℤ_trans}
-use Rattle.fx_base.proofs.Sequences.{get-below}
+use Rattle.fx_base.proofs.{Orders.{≤ℤ_trans}, Sequences.{get-below}}
 
 -- a clock of 64 bits
 pub fits_low : (clock : ℤ) → SFits w64 clock → clock <ℤ pos (2 ^ 63)

@@ -4,17 +4,13 @@ use Rattle.rete_net.proofs.Common.{[], ◌∷◌, ◌++◌, length, length-appen
 use Rattle.rete_net.proofs.Common.{get_or-append_seam, nat_tests, get_or_append_left, take_all, slice_get_within, In, Fact, Delta, Extra, Row, has, are_none}
 use Rattle.rete_net.proofs.Common.{changes_nothing, Condition, Moment, Program, Rule, Snapshot, Look, IsFirstWith, Answered, Owner, RuleChange, NetNode}
 use Rattle.rete_net.proofs.Common.{answer_in, AreRuled, coming, AreLadenRows, IsLoadable, IsThere, AreLoaded, IsStuck, change_of, IsOwned, IsNetOf, IsFresh}
-use Rattle.rete_net.proofs.Common.{changes_from, delta_at, empty_row_comes, no_change, taking}
+use Rattle.rete_net.{proofs.Common.{changes_from, delta_at, empty_row_comes, no_change, taking}, specs.Owners.{AreNodeOwners as HaveOwners}}
+use Rattle.rete_net.proofs.{Answering.{found_change, few_ends, in_order as changes_in_order, past_change}, Counted.{fronts_within}, Loaded.{answered, come_to}}
+use Rattle.rete_net.proofs.Loaded.{in_order, none_gone, one_first, owner_place, parts}
 use Rattle.candidate_source.specs.declared.source.Source.{Source}
-use Rattle.std.proofs.lemmas.Bool.{and_parts}
-use Rattle.std.specs.Prelude.{map}
+use Rattle.std.{proofs.lemmas.Bool.{and_parts}, specs.Prelude.{map}}
 use Rattle.laden_rows.specs.Laden.{AreOwners}
-use Rattle.rete_net.specs.Owners.{AreNodeOwners as HaveOwners}
-use Rattle.rete_net.proofs.Answering.{found_change, few_ends, in_order as changes_in_order, past_change}
-use Rattle.rete_net.proofs.Counted.{fronts_within}
-use Rattle.rete_net.proofs.Loaded.{answered, come_to, in_order, none_gone, one_first, owner_place, parts}
-use Rattle.fx_base.proofs.Orders.{below_or_last}
-use Rattle.fx_base.proofs.Sequences.{get-below, one_value}
+use Rattle.fx_base.proofs.{Orders.{below_or_last}, Sequences.{get-below, one_value}}
 
 -- ---- answers in a list
 

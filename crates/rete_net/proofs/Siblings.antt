@@ -7,20 +7,11 @@ use Rattle.rete_net.proofs.Common.{made, no_names, row_decides, name_decides, Be
 use Rattle.rete_net.proofs.Common.{nothing_differs, IsOrderly, MovesSnapshot, PatternGate, Node, condition_of, node_moves, NetNode, NodeForgets, Fan, Fans}
 use Rattle.rete_net.proofs.Common.{Seat, half_at, half_of, member_at, member_of, seat_at, showing, with_member, AreNamesTurnedAt, IsHalf, IsHalfTurned, IsLeft}
 use Rattle.rete_net.proofs.Common.{IsOfSeat, Member, type_of, is_fact_of_type, NodeLoad, no_change, NodeStep, joined_pattern, tallied_pattern, blocking_pattern}
-use Rattle.std.proofs.Math.Bool.{or-false}
-use Rattle.std.specs.Option.{IfSome}
-use Rattle.std.specs.List.Sorted.{IsStrictlySortedBy}
-use Rattle.pair_memory.specs.declared.left_rows.LeftRows.{LeftRows}
-use Rattle.pair_memory.specs.Memories.{KeepsMemories}
-use Rattle.pair_memory.proofs.Turning.{keeps_then}
+use Rattle.std.{proofs.Math.Bool.{or-false}, specs.{Option.{IfSome}, List.Sorted.{IsStrictlySortedBy}}}
+use Rattle.pair_memory.{specs.{declared.left_rows.LeftRows.{LeftRows}, Memories.{KeepsMemories}}, proofs.Turning.{keeps_then}}
 use Rattle.condition_node.specs.declared.node.Node.TheVariants as node
-use Rattle.condition_node.proofs.Forgetting.{join_forgot}
-use Rattle.condition_node.proofs.Loading.{join_loads}
-use Rattle.condition_node.proofs.Telling.{join_turns, join_tells}
-use Rattle.rete_net.proofs.Filled.{loads_node}
-use Rattle.rete_net.proofs.Forgets.{node_forgets}
-use Rattle.rete_net.proofs.Skipping.{no_difference}
-use Rattle.rete_net.proofs.Turning.{node_step}
+use Rattle.condition_node.proofs.{Forgetting.{join_forgot}, Loading.{join_loads}, Telling.{join_turns, join_tells}}
+use Rattle.rete_net.proofs.{Filled.{loads_node}, Forgets.{node_forgets}, Skipping.{no_difference}, Turning.{node_step}}
 
 -- ---- a node of a pattern that binds a fact
 

@@ -1,9 +1,8 @@
 -- A step in which nothing reaches a node: it stays as it is, and nothing changes in the rows of its condition.
 use Rattle.rete_net.proofs.Common.{◌≡◌, sym, refl, subst, ℤ, Bool, true, List, Option, fun_ext, Fact, Delta, Named, Row, IsDifference, changes_nothing, Pattern}
 use Rattle.rete_net.proofs.Common.{Program, pattern_of, Snapshot, Look, cleaned, line, candidates_of, GateStands, MovesSnapshot, nothing_differs, PatternGate}
-use Rattle.rete_net.proofs.Common.{condition_of, node_moves, Stays, TellsNothing, NetNode, no_change, NodeStep, Moment}
+use Rattle.rete_net.proofs.{Common.{condition_of, node_moves, Stays, TellsNothing, NetNode, no_change, NodeStep, Moment}, Turning.{node_step}}
 use Rattle.std.specs.List.Sorted.{IsStrictlySortedBy}
-use Rattle.rete_net.proofs.Turning.{node_step}
 use Rattle.fx_base.proofs.Tests.{and_not_self}
 
 -- nothing changes in a set that stays

@@ -1,39 +1,21 @@
 -- Nodes that a forgetting walk passes over, and turns as they are told by sources that change for others.
-use Rattle.rete_net.proofs.Common.{gathered_tallies}
-use Rattle.rete_net.proofs.Common.{◌≡◌, ◌∙◌, sym, ap, refl, subst, ℕ, ◌<◌, ◌&&◌, not, Bool, true, false, List, [], Option, Some, None, Named, Row, has_name}
-use Rattle.rete_net.proofs.Common.{Pattern, Program, Snapshot, HaveDistinctTags}
-use Rattle.rete_net.proofs.Common.{pattern_of, Look, Candidates, Memories, either, StandsFor, HasAllOf, NameHeld, held, candidates_of, Node, condition_of}
-use Rattle.rete_net.proofs.Common.{NodeStands}
-use Rattle.rete_net.proofs.Common.{node_moves, NetNode, Fan, Fans, Seat, member_of, showing, IsHalf, IsOfSeat, Member, no_change, HasNoOld, TurnForgets}
-use Rattle.rete_net.proofs.Common.{NetNodeStands, StandsIn}
-use Rattle.rete_net.proofs.Common.{blocker_tallies, type_of, AreSources, IsWired, Index, slice_get, has_place, IsNodeFound}
-use Rattle.join_tests.proofs.Naming.{kept_alike}
-use Rattle.join_tests.specs.NameKeys.{name_key}
-use Rattle.pair_memory.specs.Apart.{has_candidate}
-use Rattle.pair_memory.specs.Memories.{has_right}
-use Rattle.pair_memory.specs.Shared.{sharing, KeepsNames}
-use Rattle.candidate_source.specs.declared.source.Source.{Source}
-use Rattle.candidate_source.specs.declared.sources.Sources.{Sources}
-use Rattle.candidate_source.specs.Doors.{source_candidates, source_pattern}
-use Rattle.candidate_source.specs.Reached.{is_under}
+use Rattle.rete_net.proofs.Common.{gathered_tallies, ◌≡◌, ◌∙◌, sym, ap, refl, subst, ℕ, ◌<◌, ◌&&◌, not, Bool, true, false, List, [], Option, Some, None, Named}
+use Rattle.rete_net.proofs.Common.{Row, has_name, Pattern, Program, Snapshot, HaveDistinctTags, pattern_of, Look, Candidates, Memories, either, StandsFor}
+use Rattle.rete_net.proofs.Common.{HasAllOf, NameHeld, held, candidates_of, Node, condition_of, NodeStands, node_moves, NetNode, Fan, Fans, Seat, member_of}
+use Rattle.rete_net.proofs.Common.{showing, IsHalf, IsOfSeat, Member, no_change, HasNoOld, TurnForgets, NetNodeStands, StandsIn, blocker_tallies, type_of}
+use Rattle.rete_net.proofs.Common.{AreSources, IsWired, Index, slice_get, has_place, IsNodeFound}
+use Rattle.join_tests.{proofs.Naming.{kept_alike}, specs.NameKeys.{name_key}}
+use Rattle.pair_memory.specs.{Apart.{has_candidate}, Memories.{has_right}, Shared.{sharing, KeepsNames}}
+use Rattle.candidate_source.specs.{declared.{source.Source.{Source}, sources.Sources.{Sources}}, Doors.{source_candidates, source_pattern}, Reached.{is_under}}
 use Rattle.candidate_source.specs.Sources.{handed_gone, is_led, lead_of, source_at, AreApart, AreLaidAs, AreReachedAs, HaveLeftAt, IsPassedOver}
-use Rattle.candidate_source.specs.Sources.{HaveForgotten as SourcesForgot}
-use Rattle.candidate_source.proofs.Moving.{place_within}
-use Rattle.candidate_source.proofs.Resting.{has_lead, lead_is}
+use Rattle.candidate_source.{specs.Sources.{HaveForgotten as SourcesForgot}, proofs.{Moving.{place_within}, Resting.{has_lead, lead_is}}}
 use Rattle.fx_base.proofs.Sequences.{get-below}
 use Rattle.std.proofs.lemmas.Bool.{false_from_ne_true}
 use Rattle.condition_node.specs.Lending.{with_candidates}
 use Rattle.condition_node.specs.declared.node.Node.TheVariants as node
-use Rattle.rete_net.specs.Lending.{ForgetsAt, IsSameFor, IsSameIn, MayForget, MayForgetIn}
-use Rattle.rete_net.specs.Sources.{IsSourced}
-use Rattle.rete_net.proofs.Alone.{own_forgets, same_taking}
-use Rattle.rete_net.proofs.Forgone.{passed_forgetting}
-use Rattle.rete_net.proofs.Idle.{idle_forgets}
-use Rattle.rete_net.proofs.Showing.{condition_shown}
-use Rattle.rete_net.proofs.Sparing.{none_old, spared}
-use Rattle.rete_net.proofs.Sourced.{by_both}
-use Rattle.rete_net.proofs.Turned.{follows_none, leads_not}
-use Rattle.rete_net.proofs.Turning.{held_has}
+use Rattle.rete_net.{specs.{Lending.{ForgetsAt, IsSameFor, IsSameIn, MayForget, MayForgetIn}, Sources.{IsSourced}}, proofs.Alone.{own_forgets, same_taking}}
+use Rattle.rete_net.proofs.{Forgone.{passed_forgetting}, Idle.{idle_forgets}, Showing.{condition_shown}, Sparing.{none_old, spared}, Sourced.{by_both}}
+use Rattle.rete_net.proofs.{Turned.{follows_none, leads_not}, Turning.{held_has}}
 
 pub old_shown : (look : Look) (old : Named → Bool) (o : Option Member) (n : NetNode) → HasNoOld look old n → HasNoOld look old (showing o n)
 old_shown look old o n none who f is found same = none who f is found (sym (ap (λ c. (pattern_of c).ty.0) (condition_shown o n)) ∙ same)

@@ -1,28 +1,18 @@
 -- The first step of a network, over no facts: the empty row comes.
-use Rattle.rete_net.proofs.Common.{◌≡◌, ◌∙◌, sym, ap, refl, subst, inl, inr, ℕ, ℤ, pos, ◌<◌, arith, ◌&&◌, not, Bool, true, false, List, [], ◌∷◌, ◌++◌}
-use Rattle.rete_net.proofs.Common.{length, take, get_or, Option, Some, None, slice_get, fun_ext, In, ≤ℤ_refl, get_or-take, length-take, slice_get_within}
+use Rattle.rete_net.proofs.Common.{◌≡◌, ◌∙◌, sym, ap, refl, subst, inl, inr, ℕ, ℤ, pos, ◌<◌, arith, ◌&&◌, not, Bool, true, false, List, [], ◌∷◌, ◌++◌, length}
+use Rattle.rete_net.proofs.Common.{take, get_or, Option, Some, None, slice_get, fun_ext, In, ≤ℤ_refl, get_or-take, length-take, slice_get_within}
 use Rattle.rete_net.proofs.Common.{get_or_from_slice_get, slice_get-get_or, Named, Row, has, LeadsRows, Condition, Plain, Negated, Existing, Folded, Pattern}
 use Rattle.rete_net.proofs.Common.{Program, Rule, rows, Snapshot, floor, Look, joins, splits, unjoined, clean, cleaned, no_rows, no_names, splits_value}
 use Rattle.rete_net.proofs.Common.{unvalued, rows_of, empty_row, line, gives, empty_snapshot, HasAllOf, has_in, rows_named, IsOrderly, condition_of, IsRunnable}
 use Rattle.rete_net.proofs.Common.{AreFans, shown_nodes, RuleChange, Rete, NetNode, IsIndexOf, NodesStand, NetStands, AreBetween, CountsNone, AreNodeOwners}
 use Rattle.rete_net.proofs.Common.{AreOwnedSoFar, AreQuiet, AreScheduled, before, EndsRule, IsRuleFront, IsNetOf, StandOnce, empty_row_comes, NetStep}
-use Rattle.rete_net.proofs.Common.{IsParentNode, AreBuilt, HaveEnds, AreFronts, AreDistinctFronts, IsAt, Moment}
-use Rattle.rete_net.proofs.Common.{AreSources, member_at}
-use Rattle.candidate_source.specs.declared.source.Source.{Source}
-use Rattle.candidate_source.specs.Doors.{source_pattern}
-use Rattle.candidate_source.specs.Sources.{source_at, IsNewSource}
-use Rattle.std.proofs.lemmas.Bool.{and_parts}
-use Rattle.std.specs.List.Sorted.{IsStrictlySortedBy}
-use Rattle.pair_memory.specs.Joined.{joined}
-use Rattle.pair_memory.specs.Valued.{valued}
+use Rattle.rete_net.proofs.{Common.{IsParentNode, AreBuilt, HaveEnds, AreFronts, AreDistinctFronts, IsAt, Moment, AreSources, member_at}, Advancing.{first_row}}
+use Rattle.rete_net.proofs.{Advancing.{shape_now, stands_now, between_now}, Answering.{few_ends}, Beside.{stay_of}, Chaining.{AreMade, IsGiven, AreStanding}}
+use Rattle.rete_net.proofs.{Chaining.{StaysBeside}, Cleaning.{all_clean}, Fresh.{fresh_standing, no_candidate}, Quieting.{seen_now}}
+use Rattle.candidate_source.specs.{declared.source.Source.{Source}, Doors.{source_pattern}, Sources.{source_at, IsNewSource}}
+use Rattle.std.{proofs.lemmas.Bool.{and_parts}, specs.List.Sorted.{IsStrictlySortedBy}}
+use Rattle.pair_memory.specs.{Joined.{joined}, Valued.{valued}}
 use Rattle.condition_rows.specs.Sets.{held, candidates_of}
-use Rattle.rete_net.proofs.Advancing.{first_row, shape_now, stands_now, between_now}
-use Rattle.rete_net.proofs.Answering.{few_ends}
-use Rattle.rete_net.proofs.Beside.{stay_of}
-use Rattle.rete_net.proofs.Chaining.{AreMade, IsGiven, AreStanding, StaysBeside}
-use Rattle.rete_net.proofs.Cleaning.{all_clean}
-use Rattle.rete_net.proofs.Fresh.{fresh_standing, no_candidate}
-use Rattle.rete_net.proofs.Quieting.{seen_now}
 use Rattle.fx_base.proofs.Sequences.{get-below}
 
 -- ---- conditions make nothing of no rows

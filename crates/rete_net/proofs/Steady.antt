@@ -1,15 +1,10 @@
 -- The walk over the nodes of a network, by the steps of nodes.
 use Rattle.rete_net.proofs.Common.{◌≡◌, ◌∙◌, sym, refl, [], ◌+◌, ◌<◌, ◌≤◌, arith, ℕ, true, false, List, Option, None, Some, length, slice_get, set, Fact, Delta}
-use Rattle.rete_net.proofs.Common.{Program}
-use Rattle.rete_net.proofs.Common.{Moment, Look, Index, NetNode, Answered, left_given, some_answer, IsAnswerPut, Fans, Seat, half_at, half_of, member_at}
-use Rattle.rete_net.proofs.Common.{seat_at, showing, with_fans, AreFans, AreFanRowsTurned, IsHalf, IsLaidAs, IsLeft, IsOfSeat, Member, Fan, member_of}
-use Rattle.rete_net.proofs.Common.{has_place, Row, no_change, left_delta, TurnStep, HasAnswered, IsReplaced, IsWired, condition_of, are_none}
-use Rattle.rete_net.proofs.Common.{AreWoken}
-use Rattle.candidate_source.specs.declared.source.Source.{Source}
-use Rattle.candidate_source.specs.declared.sources.Sources.{Sources}
-use Rattle.candidate_source.specs.Sources.{source_at}
-use Rattle.rete_net.specs.Lending.{IsSameFor}
-use Rattle.rete_net.proofs.Alone.{IsAloneBy, alone_alike, begun_by, rests_by, stays_by, told_alike}
+use Rattle.rete_net.proofs.Common.{Program, Moment, Look, Index, NetNode, Answered, left_given, some_answer, IsAnswerPut, Fans, Seat, half_at, half_of}
+use Rattle.rete_net.proofs.Common.{member_at, seat_at, showing, with_fans, AreFans, AreFanRowsTurned, IsHalf, IsLaidAs, IsLeft, IsOfSeat, Member, Fan}
+use Rattle.rete_net.proofs.Common.{member_of, has_place, Row, no_change, left_delta, TurnStep, HasAnswered, IsReplaced, IsWired, condition_of, are_none}
+use Rattle.rete_net.{proofs.{Common.{AreWoken}, Alone.{IsAloneBy, alone_alike, begun_by, rests_by, stays_by, told_alike}}, specs.Lending.{IsSameFor}}
+use Rattle.candidate_source.specs.{declared.{source.Source.{Source}, sources.Sources.{Sources}}, Sources.{source_at}}
 use Rattle.rete_net.proofs.Fanwise as fanwise
 
 module _ (p : Program) (look : Look) (gone : List Fact) (come : Option Fact) (moment : Moment) (first : Delta) (before : List NetNode) (fans : Fans) (ends : List ℕ) (index : Index)

@@ -1,33 +1,22 @@
 -- Nodes and gates that time leaves as they are, and sources that a step leaves so.
-use Rattle.rete_net.proofs.Common.{◌≡◌, ◌∙◌, sym, ap, refl, subst, ℕ, ℤ, ◌<◌, ◌≤ℤ◌, ◌<ℤ◌, ◌||◌, Bool, true, false, not, List, [], ◌∷◌, ◌++◌, length, filter, Option, Some, None, IfSome}
-use Rattle.rete_net.proofs.Common.{≤ℤ_refl, fun_ext, list_any, slice_get, Fact, Delta, Named, Row, Condition, Pattern, Program, Moment, pattern_of, Snapshot, floor_on, held, candidates_of}
-use Rattle.rete_net.proofs.Common.{GateStands, arrivals, IsOrderly, MovesSnapshot, at_clock, shares_tag, cleaned, line, condition_of, is_negated, IsBefore, IsQuiet, NetNode, StaysAt}
-use Rattle.rete_net.proofs.Common.{IsNodeQuiet, AreQuiet, is_whole, PatternGate, Node, arrivals_still, same_candidates, join_quiet, exists_quiet, fold_quiet, is_changed_by_clock}
-use Rattle.rete_net.proofs.Common.{AreScheduled, IsGateStill, IsLeftAlone, IsSet, Schedule, Member, showing, shown, with_member, is_meant, is_one_meant, has_place, Fans}
+use Rattle.rete_net.proofs.Common.{◌≡◌, ◌∙◌, sym, ap, refl, subst, ℕ, ℤ, ◌<◌, ◌≤ℤ◌, ◌<ℤ◌, ◌||◌, Bool, true, false, not, List, [], ◌∷◌, ◌++◌, length, filter}
+use Rattle.rete_net.proofs.Common.{Option, Some, None, IfSome, ≤ℤ_refl, fun_ext, list_any, slice_get, Fact, Delta, Named, Row, Condition, Pattern, Program}
+use Rattle.rete_net.proofs.Common.{Moment, pattern_of, Snapshot, floor_on, held, candidates_of, GateStands, arrivals, IsOrderly, MovesSnapshot, at_clock}
+use Rattle.rete_net.proofs.Common.{shares_tag, cleaned, line, condition_of, is_negated, IsBefore, IsQuiet, NetNode, StaysAt, IsNodeQuiet, AreQuiet, is_whole}
+use Rattle.rete_net.proofs.Common.{PatternGate, Node, arrivals_still, same_candidates, join_quiet, exists_quiet, fold_quiet, is_changed_by_clock, AreScheduled}
+use Rattle.rete_net.proofs.Common.{IsGateStill, IsLeftAlone, IsSet, Schedule, Member, showing, shown, with_member, is_meant, is_one_meant, has_place, Fans}
 use Rattle.condition_node.specs.declared.node.Node.TheVariants as node
-use Rattle.fx_base.proofs.Sequences.{get-below}
-use Rattle.fx_base.proofs.Tests.{or_first_false}
+use Rattle.fx_base.proofs.{Sequences.{get-below}, Tests.{or_first_false}}
 use Rattle.rule_model.specs.declared.condition.WindowTag.{WindowTag}
 use Rattle.pair_memory.specs.declared.candidates.Candidates.{Candidates}
-use Rattle.pattern_gate.specs.Alike.{TakesAlike}
-use Rattle.pattern_gate.specs.Turns.{is_given_meant}
-use Rattle.pattern_gate.proofs.Alike.{same_meant}
-use Rattle.candidate_source.specs.declared.source.Source.{Source}
-use Rattle.candidate_source.specs.declared.sources.Sources.{Sources}
-use Rattle.candidate_source.specs.Doors.{source_candidates, source_gate, source_pattern}
+use Rattle.pattern_gate.{specs.{Alike.{TakesAlike}, Turns.{is_given_meant}}, proofs.Alike.{same_meant}}
+use Rattle.candidate_source.specs.{declared.{source.Source.{Source}, sources.Sources.{Sources}}, Doors.{source_candidates, source_gate, source_pattern}}
 use Rattle.candidate_source.specs.Sources.{is_follower, is_lead, is_other, is_this, lead_of, source_at, AreOthersAtRest, IsAtRest}
-use Rattle.candidate_source.proofs.Moving.{place_within}
-use Rattle.candidate_source.proofs.Resting.{has_lead, lead_is}
+use Rattle.candidate_source.proofs.{Moving.{place_within}, Resting.{has_lead, lead_is}}
 use Rattle.std.specs.Option.{option_map}
 use Rattle.condition_node.specs.Lending.{lent_to, with_candidates}
-use Rattle.rete_net.specs.Schedules.{gate_told, timed_gate}
-use Rattle.rete_net.specs.Sources.{AreSources}
-use Rattle.rete_net.specs.Standing.{taking}
-use Rattle.rete_net.proofs.Lent.{condition_lent}
-use Rattle.rete_net.proofs.Lone.{gate_stays, inside_still, neither_right}
-use Rattle.rete_net.proofs.Scheduling.{quiet_sooner}
-use Rattle.rete_net.proofs.Showing.{condition_shown, shown_from}
-use Rattle.rete_net.proofs.Turning.{held_has, rising}
+use Rattle.rete_net.{specs.{Schedules.{gate_told, timed_gate}, Sources.{AreSources}, Standing.{taking}}, proofs.{Lent.{condition_lent}, Lone.{gate_stays}}}
+use Rattle.rete_net.proofs.{Lone.{inside_still, neither_right}, Scheduling.{quiet_sooner}, Showing.{condition_shown, shown_from}, Turning.{held_has, rising}}
 
 pub if_before : (until : Option ℤ) (clock : ℤ) → IsBefore until clock → IfSome until (λ at. clock <ℤ at)
 if_before None clock h = tt

@@ -1,25 +1,19 @@
 -- A load of a node to which a source lends its candidates, out of what both answer.
-use Rattle.rete_net.proofs.Common.{gathered_tallies}
-use Rattle.rete_net.proofs.Common.{◌≡◌, ◌∙◌, sym, ap, refl, subst, ℕ, ℤ, Bool, List, Option, Some, None, filter, Fact, Delta, Extra, Named, Row, IsDifference}
-use Rattle.rete_net.proofs.Common.{Condition, Pattern, Moment, Program, IsAt, pattern_of, Snapshot, Look, Candidates, Memories}
-use Rattle.rete_net.proofs.Common.{has_name, no_names, no_rows, extra_for, empty_snapshot, PatternGate, GateStands, Node, IsLoad, Laden}
-use Rattle.rete_net.proofs.Common.{slice_get, Vec, Bor, grouped_facts_at, given_facts, IsSourced, node_rows, condition_of, NodeStands, blocker_tallies, NetNode, is_fact_of_type, NodeLoad, taking}
+use Rattle.rete_net.proofs.Common.{gathered_tallies, ◌≡◌, ◌∙◌, sym, ap, refl, subst, ℕ, ℤ, Bool, List, Option, Some, None, filter, Fact, Delta, Extra, Named}
+use Rattle.rete_net.proofs.Common.{Row, IsDifference, Condition, Pattern, Moment, Program, IsAt, pattern_of, Snapshot, Look, Candidates, Memories, has_name}
+use Rattle.rete_net.proofs.Common.{no_names, no_rows, extra_for, empty_snapshot, PatternGate, GateStands, Node, IsLoad, Laden, slice_get, Vec, Bor}
+use Rattle.rete_net.proofs.Common.{grouped_facts_at, given_facts, IsSourced, node_rows, condition_of, NodeStands, blocker_tallies, NetNode, is_fact_of_type}
+use Rattle.rete_net.proofs.Common.{NodeLoad, taking}
 use Rattle.join_tests.specs.NameKeys.{name_key}
 use Rattle.fx_base.specs.declared.ids.TypeId.{TypeId}
 use Rattle.pattern_gate.proofs.Alike.{same_candidates, same_gate, same_window}
-use Rattle.pair_memory.specs.Apart.{has_candidate}
-use Rattle.pair_memory.specs.Shared.{sharing, NamesAgree}
-use Rattle.candidate_source.specs.declared.source.Source.{Source}
-use Rattle.candidate_source.proofs.Sharing.{agree_alike, there as has_lent}
-use Rattle.candidate_source.specs.Doors.{source_candidates, source_gate, source_pattern}
-use Rattle.candidate_source.specs.Sources.{facts_in, facts_of_type, IsLoadedWith}
+use Rattle.pair_memory.specs.{Apart.{has_candidate}, Shared.{sharing, NamesAgree}}
+use Rattle.candidate_source.{specs.{declared.source.Source.{Source}, Doors.{source_candidates, source_gate}}, proofs.Sharing.{agree_alike, there as has_lent}}
+use Rattle.candidate_source.specs.{Doors.{source_pattern}, Sources.{facts_in, facts_of_type, IsLoadedWith}}
 use Rattle.condition_node.specs.Lending.{with_candidates, HasCandidates, NodeHas}
 use Rattle.condition_node.specs.declared.node.Node.TheVariants as node
-use Rattle.rete_net.specs.Lending.{IsFoundAnew, IsSameFor, IsSameIn}
-use Rattle.rete_net.specs.Loads.{HasLoaded, MayLoad, TurnLoads}
-use Rattle.rete_net.proofs.Alone.{same_taking}
-use Rattle.rete_net.proofs.Filled.{loads_with}
-use Rattle.rete_net.proofs.Lent.{condition_lent}
+use Rattle.rete_net.{specs.{Lending.{IsFoundAnew, IsSameFor, IsSameIn}, Loads.{HasLoaded, MayLoad, TurnLoads}}, proofs.Alone.{same_taking}}
+use Rattle.rete_net.proofs.{Filled.{loads_with}, Lent.{condition_lent}}
 
 -- ---- candidates that a source has for a node
 

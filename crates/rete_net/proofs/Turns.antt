@@ -2,8 +2,7 @@
 use Rattle.rete_net.proofs.Common.{◌≡◌, ◌∙◌, sym, ap, subst, ℕ, ◌<◌, ◌^◌, List, length, Option, Some, slice_get, Fact, Delta, Program, Look, RuleChange}
 use Rattle.rete_net.proofs.Common.{NetNode, Index, Answered, given, some_answer, answer_in, AreRuled, no_change, delta_at, changes_from, NetStep, HasAnswered}
 use Rattle.rete_net.proofs.Common.{IsWired, Moment}
-use Rattle.candidate_source.specs.declared.source.Source.{Source}
-use Rattle.candidate_source.specs.declared.sources.Sources.{Sources}
+use Rattle.candidate_source.specs.declared.{source.Source.{Source}, sources.Sources.{Sources}}
 
 -- ---- the step of a network, out of that of its nodes
 

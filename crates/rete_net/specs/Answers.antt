@@ -1,10 +1,6 @@
 -- What the nodes of a network answer in a walk, and which rules are left out.
-use Rattle.std.specs.Prelude.{◌≡◌, ℕ, true, false, List, Option, Some, None, slice_get}
-use Rattle.std.specs.BTreeMap.{get}
-use Rattle.std.specs.Ordering.{nat_cmp}
-use Rattle.rete_net.specs.declared.answered.Answered.{Answered}
-use Rattle.rete_net.specs.declared.index.Index.{Index}
-use Rattle.rete_net.specs.Indexes.{is_listed}
+use Rattle.std.specs.{Prelude.{◌≡◌, ℕ, true, false, List, Option, Some, None, slice_get}, BTreeMap.{get}, Ordering.{nat_cmp}}
+use Rattle.rete_net.specs.{declared.{answered.Answered.{Answered}, index.Index.{Index}}, Indexes.{is_listed}}
 use Rattle.fan_join.specs.Reaching.{has_place}
 
 -- what is kept of a node, or this without it

@@ -1,9 +1,6 @@
 -- By which ranges of whole numbers the nodes of a type are told apart.
-use Rattle.std.specs.Prelude.{◌≡◌, ◌≤ℤ◌, Bool, true, Option, Some, None, slice_get, FitsSigned}
-use Rattle.std.specs.Int.{w64}
-use Rattle.fx_base.specs.declared.fact.Fact.{Fact}
-use Rattle.fx_base.specs.declared.value.Value.{Value}
-use Rattle.fx_base.specs.declared.value.Value.TheVariants.{Int, Bool as Flag, Text}
+use Rattle.std.specs.{Prelude.{◌≡◌, ◌≤ℤ◌, Bool, true, Option, Some, None, slice_get, FitsSigned}, Int.{w64}}
+use Rattle.fx_base.specs.declared.{fact.Fact.{Fact}, value.Value.{Value, TheVariants.{Int, Bool as Flag, Text}}}
 use Rattle.rete_net.specs.declared.bounds.FieldRange.{FieldRange}
 
 -- a whole number which, as one of 64 bits, is within the range

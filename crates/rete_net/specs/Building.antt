@@ -1,15 +1,9 @@
 -- Networks that are being built: which conditions their nodes have, and which node is the last one of each rule.
 use Rattle.std.specs.Prelude.{◌≡◌, ◌<◌, ◌∷◌, ◌++◌, true, ℕ, List, [], length, take, Option, Some, None, slice_get}
-use Rattle.rule_model.specs.declared.condition.Condition.{Condition}
-use Rattle.rule_model.specs.declared.program.Program.{Program}
-use Rattle.rule_model.specs.declared.program.Rule.{Rule}
-use Rattle.rule_model.specs.Rows.{pattern_of}
+use Rattle.rule_model.specs.{declared.{condition.Condition.{Condition}, program.{Program.{Program}, Rule.{Rule}}}, Rows.{pattern_of}}
 use Rattle.pattern_gate.specs.Gates.{has_good_window}
 use Rattle.condition_node.specs.Nodes.{condition_of}
-use Rattle.rete_net.specs.declared.node.NetNode.{NetNode}
-use Rattle.rete_net.specs.declared.build.Origin.{Origin}
-use Rattle.rete_net.specs.Standing.{IsFresh}
-use Rattle.rete_net.specs.Shapes.{IsRuleFront}
+use Rattle.rete_net.specs.{declared.{node.NetNode.{NetNode}, build.Origin.{Origin}}, Standing.{IsFresh}, Shapes.{IsRuleFront}}
 
 -- a parent, of nodes with these conditions, is the node of those conditions; without one there is no condition
 abbrev pub IsParentNode : List (List Condition) → Option ℕ → List Condition → Type 0

@@ -1,8 +1,7 @@
 -- What a network is to other crates, which look no further into it.
 use Rattle.std.specs.Prelude.{ℕ, ℤ, length, Option}
 use Rattle.rule_model.specs.declared.program.Program.{Program}
-use Rattle.rete_net.specs.declared.net.Rete.{Rete}
-use Rattle.rete_net.specs.Shapes.{IsNetOf}
+use Rattle.rete_net.specs.{declared.net.Rete.{Rete}, Shapes.{IsNetOf}}
 
 -- it is the network of a program, whatever it stands for
 abbrev pub IsNetwork : Program → Rete → Type 0

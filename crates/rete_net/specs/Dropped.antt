@@ -1,27 +1,15 @@
 -- What is dropped where facts are forgotten.
 use Rattle.std.specs.Prelude.{◌≡◌, ◌<◌, ◌==◌, ◌&&◌, not, ℕ, Bool, true, cond, List, [], ◌∷◌, ◌++◌, length, take, Option, Some, None, slice_get, slice_index_or}
-use Rattle.row_delta.specs.declared.row.Named.{Named}
-use Rattle.row_delta.specs.declared.row.Row.{Row}
-use Rattle.row_delta.specs.Rows.{has, InOrder}
-use Rattle.rule_model.specs.declared.program.Program.{Program}
-use Rattle.rule_model.specs.declared.program.Rule.{Rule}
-use Rattle.rule_model.specs.Distinct.{HaveDistinctTags}
-use Rattle.rule_model.specs.Snapshots.{Snapshot}
+use Rattle.row_delta.specs.{declared.row.{Named.{Named}, Row.{Row}}, Rows.{has, InOrder}}
+use Rattle.rule_model.specs.{declared.program.{Program.{Program}, Rule.{Rule}}, Distinct.{HaveDistinctTags}, Snapshots.{Snapshot}}
 use Rattle.join_tests.specs.Joins.{Look}
 use Rattle.pair_memory.specs.Standing.{clean, cleaned, either}
-use Rattle.condition_rows.specs.Lines.{line}
-use Rattle.condition_rows.specs.Looks.{HasAllOf, NameHeld}
-use Rattle.condition_rows.specs.Sets.{rows_of}
+use Rattle.condition_rows.specs.{Lines.{line}, Looks.{HasAllOf, NameHeld}, Sets.{rows_of}}
 use Rattle.condition_node.specs.Nodes.{condition_of}
-use Rattle.rete_net.specs.declared.forgetting.RuleRows.{RuleRows}
-use Rattle.rete_net.specs.declared.node.NetNode.{NetNode}
+use Rattle.rete_net.specs.declared.{forgetting.RuleRows.{RuleRows}, node.NetNode.{NetNode}, answered.Answered.{Answered}, index.Index.{Index}}
+use Rattle.rete_net.specs.{Answers.{given, some_answer, AreRuled}, Indexes.{is_listed, type_of}, Standing.{NetNodeStands, StandsIn}}
 use Rattle.fx_base.specs.declared.fact.Fact.{Fact}
-use Rattle.rete_net.specs.declared.answered.Answered.{Answered}
-use Rattle.rete_net.specs.declared.index.Index.{Index}
-use Rattle.rete_net.specs.Answers.{given, some_answer, AreRuled}
-use Rattle.rete_net.specs.Indexes.{is_listed, type_of}
 use Rattle.candidate_source.specs.declared.source.Source.{Source}
-use Rattle.rete_net.specs.Standing.{NetNodeStands, StandsIn}
 use Rattle.fan_join.specs.Reaching.{has_place}
 
 -- these rows, in order, are those of a set that name an old fact

@@ -1,35 +1,19 @@
 -- Nodes that share the rows before them with siblings: which they are, and what they keep as if each had memories of its own.
-use Rattle.std.specs.Prelude.{◌≡◌, ◌<◌, ◌≤◌, ◌&&◌, ◌||◌, not, ℕ, suc, true, false, List, [], ◌∷◌, length, Option, Some, None, slice_get}
-use Rattle.std.specs.BTreeMap.{get, BTreeMap}
-use Rattle.std.specs.Option.{option_map}
-use Rattle.std.specs.Ordering.{nat_cmp}
-use Rattle.row_delta.specs.declared.delta.Delta.{Delta}
-use Rattle.row_delta.specs.declared.row.Named.{Named}
-use Rattle.row_delta.specs.declared.row.Row.{Row}
-use Rattle.row_delta.specs.Rows.{has}
+use Rattle.std.specs.{Prelude.{◌≡◌, ◌<◌, ◌≤◌, ◌&&◌, ◌||◌, not, ℕ, suc, true, false, List, [], ◌∷◌, length, Option, Some, None, slice_get}, BTreeMap.{get}}
+use Rattle.std.specs.{BTreeMap.{BTreeMap}, Option.{option_map}, Ordering.{nat_cmp}}
+use Rattle.row_delta.specs.{declared.{delta.Delta.{Delta}, row.{Named.{Named}, Row.{Row}}}, Rows.{has}}
 use Rattle.row_change.specs.Changes.{are_none, IsDifference}
 use Rattle.rule_model.specs.declared.condition.Condition.TheVariants.{Plain}
 use Rattle.join_tests.specs.Joins.{Look}
-use Rattle.pair_memory.specs.declared.candidates.Candidates.{Candidates}
-use Rattle.pair_memory.specs.declared.left_rows.LeftRows.{LeftRows}
-use Rattle.pair_memory.specs.Apart.{beside}
-use Rattle.pair_memory.specs.Memories.{has_left, has_right, made, KeepsMemories}
-use Rattle.fan_join.specs.Fans.{member_delta, AreBeside, IsEmpty, IsReached}
-use Rattle.fan_join.specs.Turns.{AreNamesTurned}
+use Rattle.pair_memory.specs.{declared.{candidates.Candidates.{Candidates}, left_rows.LeftRows.{LeftRows}}, Apart.{beside}, Memories.{has_left, has_right}}
+use Rattle.pair_memory.specs.Memories.{made, KeepsMemories}
+use Rattle.fan_join.specs.{Fans.{member_delta, AreBeside, IsEmpty, IsReached}, Turns.{AreNamesTurned}}
 use Rattle.condition_node.specs.declared.node.Node.{Node}
 use Rattle.condition_node.specs.declared.node.Node.TheVariants as node
 use Rattle.condition_node.specs.Nodes.{condition_of}
-use Rattle.rete_net.specs.declared.fans.Fan.{Fan}
-use Rattle.rete_net.specs.declared.fans.Fans.{Fans}
-use Rattle.rete_net.specs.declared.fans.Seat.{Seat}
-use Rattle.rete_net.specs.declared.fans.Span.{Span}
-use Rattle.rete_net.specs.declared.lists.Lists.{Lists}
-use Rattle.rete_net.specs.declared.net.Rete.{Rete}
-use Rattle.rete_net.specs.declared.node.NetNode.{NetNode}
-use Rattle.rete_net.specs.Indexes.{is_listed}
-use Rattle.fan_join.specs.Reaching.{has_place}
-use Rattle.fan_join.specs.Doors.{shared_key}
-use Rattle.rete_net.specs.Steps.{no_change}
+use Rattle.rete_net.specs.declared.{fans.{Fan.{Fan}, Fans.{Fans}, Seat.{Seat}, Span.{Span}}, lists.Lists.{Lists}, net.Rete.{Rete}, node.NetNode.{NetNode}}
+use Rattle.rete_net.specs.{Indexes.{is_listed}, Steps.{no_change}}
+use Rattle.fan_join.specs.{Reaching.{has_place}, Doors.{shared_key}}
 use Rattle.beta_join.specs.Doors.{joined_pattern}
 
 -- ---- what a node keeps

@@ -1,19 +1,9 @@
 -- What a step asks of facts that have been forgotten, and which of them may go from a snapshot.
-use Rattle.std.specs.Prelude.{◌≡◌, ◌==◌, ◌&&◌, not, ℕ, ℤ, Bool, true, false, List, take, Option, Some, None, slice_get}
-use Rattle.std.specs.List.{filter}
-use Rattle.fx_base.specs.Lists.{In}
-use Rattle.fx_base.specs.declared.fact.Fact.{Fact}
-use Rattle.row_delta.specs.declared.row.Named.{Named}
-use Rattle.row_delta.specs.declared.row.Row.{Row}
-use Rattle.rule_model.specs.declared.condition.Condition.{Condition}
-use Rattle.rule_model.specs.declared.condition.Condition.TheVariants.{Plain}
-use Rattle.rule_model.specs.declared.condition.WindowTag.TheVariants.{Time}
-use Rattle.rule_model.specs.declared.program.Program.{Program}
-use Rattle.rule_model.specs.declared.program.Rule.{Rule}
-use Rattle.rule_model.specs.Rows.{pattern_of}
-use Rattle.rule_model.specs.Simple.{is_observed_in}
-use Rattle.rule_model.specs.Snapshots.{Snapshot}
-use Rattle.rule_model.specs.Tuples.{name_of}
+use Rattle.std.specs.{Prelude.{◌≡◌, ◌==◌, ◌&&◌, not, ℕ, ℤ, Bool, true, false, List, take, Option, Some, None, slice_get}, List.{filter}}
+use Rattle.fx_base.specs.{Lists.{In}, declared.fact.Fact.{Fact}}
+use Rattle.row_delta.specs.declared.row.{Named.{Named}, Row.{Row}}
+use Rattle.rule_model.specs.declared.{condition.{Condition.{Condition, TheVariants.{Plain}}, WindowTag.TheVariants.{Time}}, program.Program.{Program}}
+use Rattle.rule_model.specs.{declared.program.Rule.{Rule}, Rows.{pattern_of}, Simple.{is_observed_in}, Snapshots.{Snapshot}, Tuples.{name_of}}
 use Rattle.rule_model.specs.Types.{expiry_of}
 use Rattle.join_tests.specs.Joins.{joins}
 use Rattle.condition_rows.specs.Sets.{held, candidates_of, rows_of}

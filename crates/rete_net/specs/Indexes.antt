@@ -1,28 +1,16 @@
 -- By what the nodes and the rules of a network are found.
-use Rattle.std.specs.Prelude.{◌≡◌, ◌⊎◌, ◌||◌, not, ℕ, ℤ, Bool, true, false, List, [], Option, Some, None, nat_eq, slice_get, FitsSigned}
-use Rattle.std.specs.Int.{w64}
-use Rattle.std.specs.List.{list_any}
-use Rattle.std.specs.Global.{Vec}
-use Rattle.fx_base.specs.declared.fact.Fact.{Fact}
-use Rattle.fx_base.specs.declared.value.Value.{Value}
-use Rattle.fx_base.specs.declared.value.Value.TheVariants.{Int}
+use Rattle.std.specs.{Prelude.{◌≡◌, ◌⊎◌, ◌||◌, not, ℕ, ℤ, Bool, true, false, List, [], Option, Some, None, nat_eq, slice_get, FitsSigned}, Int.{w64}}
+use Rattle.std.specs.{List.{list_any}, Global.{Vec}}
+use Rattle.fx_base.specs.declared.{fact.Fact.{Fact}, value.Value.{Value, TheVariants.{Int}}}
 use Rattle.range_index.specs.Ranges.{is_found}
 use Rattle.row_delta.specs.declared.delta.Delta.{Delta}
 use Rattle.row_change.specs.Changes.{changes_nothing}
-use Rattle.rule_model.specs.declared.condition.Pattern.{Pattern}
-use Rattle.rule_model.specs.Rows.{pattern_of}
-use Rattle.rule_model.specs.Simple.{is_whole}
+use Rattle.rule_model.specs.{declared.condition.Pattern.{Pattern}, Rows.{pattern_of}, Simple.{is_whole}}
 use Rattle.pattern_gate.specs.Turns.{is_meant, is_one_meant}
 use Rattle.condition_node.specs.Nodes.{condition_of, is_negated}
-use Rattle.rete_net.specs.declared.alpha_index.AlphaIndex.{AlphaIndex}
-use Rattle.rete_net.specs.declared.index.Index.{Index}
-use Rattle.rete_net.specs.declared.lists.Lists.{Lists}
-use Rattle.rete_net.specs.declared.node.NetNode.{NetNode}
-use Rattle.rete_net.specs.declared.ranges.FieldRanges.{FieldRanges}
-use Rattle.rete_net.specs.declared.ranges.Ranges.{Ranges}
-use Rattle.candidate_source.specs.declared.sources.Sources.{Sources}
-use Rattle.candidate_source.specs.Sources.{is_follower}
-use Rattle.rete_net.specs.Selectors.{list_slot_of}
+use Rattle.rete_net.specs.declared.{alpha_index.AlphaIndex.{AlphaIndex}, index.Index.{Index}, lists.Lists.{Lists}, node.NetNode.{NetNode}}
+use Rattle.rete_net.specs.{declared.ranges.{FieldRanges.{FieldRanges}, Ranges.{Ranges}}, Selectors.{list_slot_of}}
+use Rattle.candidate_source.specs.{declared.sources.Sources.{Sources}, Sources.{is_follower}}
 
 -- ---- lists of places
 

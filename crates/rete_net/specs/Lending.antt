@@ -1,26 +1,16 @@
 -- What a source gives and takes in a turn of one of its nodes.
 use Rattle.std.specs.Prelude.{◌≡◌, ℕ, ℤ, Bool, true, List, Option, Some, None}
-use Rattle.fx_base.specs.declared.fact.Fact.{Fact}
-use Rattle.fx_base.specs.declared.value.Value.{Value}
-use Rattle.row_delta.specs.declared.row.Named.{Named}
-use Rattle.row_delta.specs.declared.row.Row.{Row}
-use Rattle.row_delta.specs.Rows.{has}
-use Rattle.rule_model.specs.declared.program.Program.{Program}
-use Rattle.rule_model.specs.Distinct.{HaveDistinctTags}
-use Rattle.rule_model.specs.Snapshots.{Snapshot}
+use Rattle.fx_base.specs.declared.{fact.Fact.{Fact}, value.Value.{Value}}
+use Rattle.row_delta.specs.{declared.row.{Named.{Named}, Row.{Row}}, Rows.{has}}
+use Rattle.rule_model.specs.{declared.program.Program.{Program}, Distinct.{HaveDistinctTags}, Snapshots.{Snapshot}}
 use Rattle.join_tests.specs.Joins.{Look}
 use Rattle.condition_rows.specs.Looks.{HasAllOf, NameHeld}
-use Rattle.pattern_gate.specs.Gates.{GateStands, has_good_window}
-use Rattle.pattern_gate.specs.Moves.{MovesSnapshot}
-use Rattle.candidate_source.specs.declared.source.Source.{Source}
-use Rattle.candidate_source.specs.Doors.{source_candidates, source_gate, source_pattern, is_reached}
-use Rattle.candidate_source.specs.declared.sources.Sources.{Sources}
-use Rattle.candidate_source.specs.Sources.{handed_come, handed_gone, source_at, AreApart, AreLaidAs, HasTurnedAt, HaveLeftAt}
-use Rattle.condition_node.specs.declared.node.Node.{Node}
-use Rattle.condition_node.specs.Lending.{node_keeps_under, node_value}
-use Rattle.rete_net.specs.declared.node.NetNode.{NetNode}
-use Rattle.rete_net.specs.Sources.{IsSourced}
-use Rattle.rete_net.specs.Standing.{StandsIn}
+use Rattle.pattern_gate.specs.{Gates.{GateStands, has_good_window}, Moves.{MovesSnapshot}}
+use Rattle.candidate_source.specs.{declared.source.Source.{Source}, Doors.{source_candidates, source_gate, source_pattern, is_reached}}
+use Rattle.candidate_source.specs.{declared.sources.Sources.{Sources}, Sources.{handed_come, handed_gone, source_at, AreApart, AreLaidAs, HasTurnedAt}}
+use Rattle.candidate_source.specs.Sources.{HaveLeftAt}
+use Rattle.condition_node.specs.{declared.node.Node.{Node}, Lending.{node_keeps_under, node_value}}
+use Rattle.rete_net.specs.{declared.node.NetNode.{NetNode}, Sources.{IsSourced}, Standing.{StandsIn}}
 
 -- the source has turned for the node in a place, by what the clock and these facts change, and this is handed to it
 abbrev pub TurnsAt : Program → List Fact → Option Fact → ℤ → Look → Source → Source → ℕ → List Named → List Named → Type 0

@@ -1,34 +1,18 @@
 -- What a network is loaded with, and what it answers then.
-use Rattle.std.specs.Prelude.{◌≡◌, ◌≤ℤ◌, pos, ℕ, ℤ, Bool, true, false, List, [], map, length, Option, Some, None, slice_get}
-use Rattle.std.specs.List.Sorted.{IsStrictlySortedBy}
+use Rattle.std.specs.{Prelude.{◌≡◌, ◌≤ℤ◌, pos, ℕ, ℤ, Bool, true, false, List, [], map, length, Option, Some, None, slice_get}, List.Sorted.{IsStrictlySortedBy}}
 use Rattle.std.specs.Ordering.{nat_cmp}
-use Rattle.fx_base.specs.Lists.{In}
-use Rattle.fx_base.specs.declared.fact.Fact.{Fact}
-use Rattle.row_delta.specs.declared.delta.Delta.{Delta}
-use Rattle.row_delta.specs.declared.extra.Extra.{Extra}
-use Rattle.row_delta.specs.declared.row.Named.{Named}
-use Rattle.row_delta.specs.declared.row.Row.{Row}
-use Rattle.row_delta.specs.Rows.{has}
-use Rattle.rule_model.specs.declared.condition.Condition.{Condition}
-use Rattle.rule_model.specs.declared.condition.WindowTag.TheVariants.{Time}
-use Rattle.rule_model.specs.declared.moment.Moment.{Moment}
-use Rattle.rule_model.specs.declared.program.Program.{Program}
-use Rattle.rule_model.specs.declared.program.Rule.{Rule}
-use Rattle.rule_model.specs.Candidates.{is_candidate}
-use Rattle.rule_model.specs.Moments.{IsAt}
-use Rattle.rule_model.specs.Rows.{pattern_of}
-use Rattle.rule_model.specs.Snapshots.{Snapshot, floor}
+use Rattle.fx_base.specs.{Lists.{In}, declared.fact.Fact.{Fact}}
+use Rattle.row_delta.specs.{declared.{delta.Delta.{Delta}, extra.Extra.{Extra}, row.{Named.{Named}, Row.{Row}}}, Rows.{has}}
+use Rattle.rule_model.specs.declared.{condition.{Condition.{Condition}, WindowTag.TheVariants.{Time}}, moment.Moment.{Moment}, program.Program.{Program}}
+use Rattle.rule_model.specs.{declared.program.Rule.{Rule}, Candidates.{is_candidate}, Moments.{IsAt}, Rows.{pattern_of}, Snapshots.{Snapshot, floor}}
 use Rattle.rule_model.specs.Tuples.{name_of}
 use Rattle.rule_world.specs.Programs.{IsRunnable}
 use Rattle.join_tests.specs.Joins.{Look}
 use Rattle.pair_memory.specs.Standing.{no_names}
 use Rattle.condition_rows.specs.Looks.{empty_snapshot, HasAllOf}
 use Rattle.pattern_gate.specs.Moves.{IsOrderly}
-use Rattle.laden_rows.specs.Extras.{AreExtras, extra_cmp}
-use Rattle.laden_rows.specs.Laden.{IsKeptOf, laden}
-use Rattle.laden_rows.specs.Placed.{IsPlaced}
-use Rattle.rete_net.specs.declared.changes.RuleChange.{RuleChange}
-use Rattle.rete_net.specs.Nets.{change_of}
+use Rattle.laden_rows.specs.{Extras.{AreExtras, extra_cmp}, Laden.{IsKeptOf, laden}, Placed.{IsPlaced}}
+use Rattle.rete_net.specs.{declared.changes.RuleChange.{RuleChange}, Nets.{change_of}}
 
 -- A network of a program may be loaded with these facts, which are a snapshot's at a moment and which the store has, and with these extras,
 -- which have their places and their order.

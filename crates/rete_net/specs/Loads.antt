@@ -1,45 +1,20 @@
 -- How nodes are loaded, each behind its parent.
 use Rattle.std.specs.Prelude.{◌≡◌, ◌==◌, ◌<◌, ◌≤◌, ◌≤ℤ◌, ◌&&◌, ◌||◌, nat_lt, ℕ, ℤ, Bool, true, false, List, Option, [], Some, None, length, slice_get}
-use Rattle.std.specs.Borrow.{Bor}
-use Rattle.std.specs.Global.{Vec}
-use Rattle.std.specs.List.{filter}
-use Rattle.fx_base.specs.Lists.{In}
-use Rattle.fx_base.specs.declared.fact.Fact.{Fact}
-use Rattle.row_delta.specs.declared.delta.Delta.{Delta}
-use Rattle.row_delta.specs.declared.extra.Extra.{Extra}
-use Rattle.row_delta.specs.declared.row.Named.{Named}
-use Rattle.row_delta.specs.declared.row.Row.{Row}
-use Rattle.row_delta.specs.Rows.{has, InOrder}
-use Rattle.rule_model.specs.declared.condition.Pattern.{Pattern}
-use Rattle.rule_model.specs.declared.moment.Moment.{Moment}
-use Rattle.rule_model.specs.declared.program.Program.{Program}
-use Rattle.rule_model.specs.Lent.{lent}
-use Rattle.rule_model.specs.Moments.{IsAt}
-use Rattle.rule_model.specs.Rows.{pattern_of}
-use Rattle.rule_model.specs.Snapshots.{Snapshot, floor}
-use Rattle.join_tests.specs.Joins.{Look}
-use Rattle.join_tests.specs.NameKeys.{name_key}
-use Rattle.pair_memory.specs.Apart.{has_candidate}
-use Rattle.pair_memory.specs.Joined.{has_name}
-use Rattle.pair_memory.specs.Shared.{NamesAgree}
-use Rattle.pair_memory.specs.Standing.{no_names}
+use Rattle.std.specs.{Borrow.{Bor}, Global.{Vec}, List.{filter}}
+use Rattle.fx_base.specs.{Lists.{In}, declared.fact.Fact.{Fact}}
+use Rattle.row_delta.specs.{declared.{delta.Delta.{Delta}, extra.Extra.{Extra}, row.{Named.{Named}, Row.{Row}}}, Rows.{has, InOrder}}
+use Rattle.rule_model.specs.{declared.{condition.Pattern.{Pattern}, moment.Moment.{Moment}, program.Program.{Program}}, Lent.{lent}, Moments.{IsAt}}
+use Rattle.rule_model.specs.{Rows.{pattern_of}, Snapshots.{Snapshot, floor}}
+use Rattle.join_tests.specs.{Joins.{Look}, NameKeys.{name_key}}
+use Rattle.pair_memory.specs.{Apart.{has_candidate}, Joined.{has_name}, Shared.{NamesAgree}, Standing.{no_names}}
 use Rattle.tally_node.specs.Extras.{extra_for, rows_of_extras}
-use Rattle.condition_rows.specs.Looks.{empty_snapshot, HasAllOf, NameHeld}
-use Rattle.condition_rows.specs.Sets.{candidates_of}
-use Rattle.pattern_gate.specs.Gates.{GateStands, has_good_window}
-use Rattle.pattern_gate.specs.Moves.{IsOrderly}
-use Rattle.condition_node.specs.Lending.{node_value}
-use Rattle.condition_node.specs.Loading.{Laden}
-use Rattle.condition_node.specs.Nodes.{condition_of}
+use Rattle.condition_rows.specs.{Looks.{empty_snapshot, HasAllOf, NameHeld}, Sets.{candidates_of}}
+use Rattle.pattern_gate.specs.{Gates.{GateStands, has_good_window}, Moves.{IsOrderly}}
+use Rattle.condition_node.specs.{Lending.{node_value}, Loading.{Laden}, Nodes.{condition_of}}
 use Rattle.laden_rows.specs.Laden.{laden_line}
-use Rattle.rete_net.specs.declared.answered.Answered.{Answered}
-use Rattle.rete_net.specs.declared.build.Owner.{Owner}
-use Rattle.rete_net.specs.declared.node.NetNode.{NetNode}
-use Rattle.rete_net.specs.Answers.{answer_in, left_given, some_answer, AreRuled}
-use Rattle.candidate_source.specs.declared.source.Source.{Source}
-use Rattle.candidate_source.specs.Doors.{source_candidates, source_gate, source_pattern, is_reached}
-use Rattle.rete_net.specs.Standing.{taking, IsFresh}
-use Rattle.rete_net.specs.Steps.{no_change}
+use Rattle.rete_net.specs.{declared.{answered.Answered.{Answered}, build.Owner.{Owner}, node.NetNode.{NetNode}}, Answers.{answer_in, left_given, some_answer}}
+use Rattle.rete_net.specs.{Answers.{AreRuled}, Standing.{taking, IsFresh}, Steps.{no_change}}
+use Rattle.candidate_source.specs.{declared.source.Source.{Source}, Doors.{source_candidates, source_gate, source_pattern, is_reached}}
 
 -- a fact is of the type in a place
 abbrev pub is_fact_of_type : ℕ → Fact → Bool

@@ -1,35 +1,18 @@
 -- For which snapshot a network stands, where some facts have been forgotten, and what it answers.
 use Rattle.std.specs.Prelude.{◌≡◌, ◌==◌, ◌≤ℤ◌, ◌<ℤ◌, ◌^◌, pos, ℕ, ℤ, Bool, false, cond, List, [], ◌∷◌, map, length, Option, Some, None, slice_get}
-use Rattle.std.specs.List.{filter}
-use Rattle.std.specs.List.Sorted.{IsStrictlySortedBy}
-use Rattle.std.specs.Ordering.{nat_cmp}
-use Rattle.row_delta.specs.declared.delta.Delta.{Delta}
-use Rattle.row_delta.specs.declared.row.Named.{Named}
-use Rattle.row_delta.specs.declared.row.Row.{Row}
-use Rattle.row_delta.specs.Differences.{IsBetween}
-use Rattle.row_delta.specs.Rows.{has}
+use Rattle.std.specs.{List.{filter, Sorted.{IsStrictlySortedBy}}, Ordering.{nat_cmp}}
+use Rattle.row_delta.specs.{declared.{delta.Delta.{Delta}, row.{Named.{Named}, Row.{Row}}}, Differences.{IsBetween}, Rows.{has}}
 use Rattle.row_change.specs.Changes.{changes_nothing}
-use Rattle.rule_model.specs.declared.condition.Condition.{Condition}
-use Rattle.rule_model.specs.declared.program.Program.{Program}
-use Rattle.rule_model.specs.declared.program.Rule.{Rule}
-use Rattle.rule_model.specs.Rows.{pattern_of, rows}
+use Rattle.rule_model.specs.{declared.{condition.Condition.{Condition}, program.{Program.{Program}, Rule.{Rule}}}, Rows.{pattern_of, rows}}
 use Rattle.rule_model.specs.Snapshots.{Snapshot}
 use Rattle.pair_memory.specs.Standing.{clean, cleaned}
 use Rattle.condition_rows.specs.Sets.{candidates_of, rows_of}
 use Rattle.pattern_gate.specs.Moves.{IsOrderly, at_clock}
 use Rattle.candidate_source.specs.Sources.{source_at}
-use Rattle.condition_node.specs.Nodes.{condition_of}
-use Rattle.condition_node.specs.Quiet.{IsBefore}
-use Rattle.rete_net.specs.declared.changes.RuleChange.{RuleChange}
-use Rattle.rete_net.specs.declared.node.NetNode.{NetNode}
-use Rattle.rete_net.specs.declared.net.Rete.{Rete}
-use Rattle.rete_net.specs.Fans.{AreFans, shown_nodes}
-use Rattle.rete_net.specs.Indexes.{IsIndexOf}
-use Rattle.rete_net.specs.Owners.{AreNodeOwners}
-use Rattle.rete_net.specs.Schedules.{AreScheduled}
-use Rattle.rete_net.specs.Sources.{AreSources}
-use Rattle.rete_net.specs.Standing.{StandsIn}
-use Rattle.rete_net.specs.Shapes.{before, IsNetOf}
+use Rattle.condition_node.specs.{Nodes.{condition_of}, Quiet.{IsBefore}}
+use Rattle.rete_net.specs.{declared.{changes.RuleChange.{RuleChange}, node.NetNode.{NetNode}, net.Rete.{Rete}}, Fans.{AreFans, shown_nodes}}
+use Rattle.rete_net.specs.{Indexes.{IsIndexOf}, Owners.{AreNodeOwners}, Schedules.{AreScheduled}, Sources.{AreSources}, Standing.{StandsIn}, Shapes.{before}}
+use Rattle.rete_net.specs.Shapes.{IsNetOf}
 
 -- The nodes of a program's network, which its index and its schedule find, stand for a snapshot: each, with what it keeps of its own, in a
 -- fan or in a source, for the rows of the conditions before it.

@@ -1,12 +1,8 @@
 -- Under which rule, and at which of its conditions, what a node counts beyond its candidates is told.
-use Rattle.std.specs.Prelude.{◌≡◌, ◌<◌, ◌≤◌, ◌⊎◌, ◌∷◌, ◌++◌, ℕ, suc, List, [], length, take, Some, slice_get}
-use Rattle.std.specs.declared.cmp.Ordering.{Ordering}
-use Rattle.std.specs.List.Sorted.{IsStrictlySortedBy}
-use Rattle.std.specs.Ordering.{nat_cmp, ordering_then}
+use Rattle.std.specs.{Prelude.{◌≡◌, ◌<◌, ◌≤◌, ◌⊎◌, ◌∷◌, ◌++◌, ℕ, suc, List, [], length, take, Some, slice_get}, declared.cmp.Ordering.{Ordering}}
+use Rattle.std.specs.{List.Sorted.{IsStrictlySortedBy}, Ordering.{nat_cmp, ordering_then}}
 use Rattle.fx_base.specs.Lists.{In}
-use Rattle.rule_model.specs.declared.condition.Condition.{Condition}
-use Rattle.rule_model.specs.declared.program.Program.{Program}
-use Rattle.rule_model.specs.declared.program.Rule.{Rule}
+use Rattle.rule_model.specs.declared.{condition.Condition.{Condition}, program.{Program.{Program}, Rule.{Rule}}}
 use Rattle.laden_rows.specs.Extras.{IsFirstWith}
 use Rattle.rete_net.specs.declared.build.Owner.{Owner}
 

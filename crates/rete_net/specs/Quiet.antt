@@ -1,21 +1,13 @@
 -- How long a move of the clock alone changes nothing in the nodes of a network.
 use Rattle.std.specs.Prelude.{◌≡◌, ◌≤ℤ◌, ◌<ℤ◌, ◌^◌, pos, ℕ, ℤ, Bool, List, Option, Some, slice_get}
-use Rattle.row_delta.specs.declared.row.Named.{Named}
-use Rattle.row_delta.specs.declared.row.Row.{Row}
-use Rattle.rule_model.specs.declared.program.Program.{Program}
-use Rattle.rule_model.specs.Rows.{pattern_of}
-use Rattle.rule_model.specs.Snapshots.{Snapshot}
+use Rattle.row_delta.specs.declared.row.{Named.{Named}, Row.{Row}}
+use Rattle.rule_model.specs.{declared.program.Program.{Program}, Rows.{pattern_of}, Snapshots.{Snapshot}}
 use Rattle.pair_memory.specs.Standing.{cleaned}
-use Rattle.condition_rows.specs.Lines.{line}
-use Rattle.condition_rows.specs.Looks.{NameHeld}
-use Rattle.condition_rows.specs.Sets.{candidates_of}
+use Rattle.condition_rows.specs.{Lines.{line}, Looks.{NameHeld}, Sets.{candidates_of}}
 use Rattle.pattern_gate.specs.Moves.{IsOrderly, at_clock}
-use Rattle.candidate_source.specs.declared.sources.Sources.{Sources}
-use Rattle.candidate_source.specs.Sources.{source_at}
-use Rattle.condition_node.specs.Nodes.{condition_of}
-use Rattle.condition_node.specs.Quiet.{IsBefore}
-use Rattle.rete_net.specs.declared.node.NetNode.{NetNode}
-use Rattle.rete_net.specs.Standing.{taking, NetNodeStands}
+use Rattle.candidate_source.specs.{declared.sources.Sources.{Sources}, Sources.{source_at}}
+use Rattle.condition_node.specs.{Nodes.{condition_of}, Quiet.{IsBefore}}
+use Rattle.rete_net.specs.{declared.node.NetNode.{NetNode}, Standing.{taking, NetNodeStands}}
 
 -- the clock alone changes nothing in the candidates of a node, nor in what its condition makes of rows before it, of what is not forgotten
 pub record StaysAt (p : Program) (n : NetNode) (s : Snapshot) (rows : Row → Bool) (forgotten : Named → Bool) (clock : ℤ) : Type 0 where

@@ -1,36 +1,18 @@
 -- Until when the nodes that time alone may change stay as they are.
 use Rattle.std.specs.Prelude.{◌≡◌, ℕ, ℤ, Bool, true, false, List, Option, Some, None, IfSome, slice_get}
 use Rattle.fx_base.specs.declared.fact.Fact.{Fact}
-use Rattle.row_delta.specs.declared.delta.Delta.{Delta}
-use Rattle.row_delta.specs.declared.row.Named.{Named}
-use Rattle.rule_model.specs.declared.condition.Pattern.{Pattern}
-use Rattle.rule_model.specs.declared.program.Program.{Program}
-use Rattle.rule_model.specs.declared.moment.Moment.{Moment}
-use Rattle.rule_model.specs.Moments.{snapshot_at}
-use Rattle.rule_model.specs.Rows.{pattern_of}
-use Rattle.rule_model.specs.Snapshots.{Snapshot, floor}
+use Rattle.row_delta.specs.declared.{delta.Delta.{Delta}, row.Named.{Named}}
+use Rattle.rule_model.specs.{declared.{condition.Pattern.{Pattern}, program.Program.{Program}, moment.Moment.{Moment}}, Moments.{snapshot_at}}
+use Rattle.rule_model.specs.{Rows.{pattern_of}, Snapshots.{Snapshot, floor}}
 use Rattle.condition_rows.specs.Sets.{candidates_of}
-use Rattle.not_node.specs.Waiting.{NoneDue}
-use Rattle.not_node.specs.Doors.{waiting_rows}
-use Rattle.pattern_gate.specs.declared.gate.PatternGate.{PatternGate}
-use Rattle.pattern_gate.specs.Gates.{GateStands}
-use Rattle.pattern_gate.specs.Moves.{MovesSnapshot}
-use Rattle.pattern_gate.specs.Turns.{is_one_meant}
+use Rattle.not_node.specs.{Waiting.{NoneDue}, Doors.{waiting_rows}}
+use Rattle.pattern_gate.specs.{declared.gate.PatternGate.{PatternGate}, Gates.{GateStands}, Moves.{MovesSnapshot}, Turns.{is_one_meant}}
 use Rattle.pair_memory.specs.declared.candidates.Candidates.{Candidates}
 use Rattle.row_change.specs.Changes.{changes_nothing}
-use Rattle.candidate_source.specs.declared.source.Source.{Source}
-use Rattle.candidate_source.specs.declared.sources.Sources.{Sources}
-use Rattle.candidate_source.specs.Doors.{source_gate}
-use Rattle.candidate_source.specs.Sources.{source_at, is_follower, is_lead}
-use Rattle.condition_node.specs.Lending.{with_candidates}
-use Rattle.condition_node.specs.Nodes.{condition_of}
-use Rattle.condition_node.specs.Quiet.{IsBefore, IsQuiet}
-use Rattle.condition_node.specs.declared.node.Node.{Node}
+use Rattle.candidate_source.specs.{declared.{source.Source.{Source}, sources.Sources.{Sources}}, Doors.{source_gate}, Sources.{source_at, is_follower, is_lead}}
+use Rattle.condition_node.specs.{Lending.{with_candidates}, Nodes.{condition_of}, Quiet.{IsBefore, IsQuiet}, declared.node.Node.{Node}}
 use Rattle.condition_node.specs.declared.node.Node.TheVariants as node
-use Rattle.rete_net.specs.declared.node.NetNode.{NetNode}
-use Rattle.rete_net.specs.declared.schedule.EntryTimers.{EntryTimers}
-use Rattle.rete_net.specs.declared.schedule.Schedule.{Schedule}
-use Rattle.rete_net.specs.Indexes.{is_changed_by_clock}
+use Rattle.rete_net.specs.{declared.{node.NetNode.{NetNode}, schedule.{EntryTimers.{EntryTimers}, Schedule.{Schedule}}}, Indexes.{is_changed_by_clock}}
 use Rattle.rete_net.specs.Timers.{IsFrom, IsSet}
 
 -- the place of the entry point of a node's candidates

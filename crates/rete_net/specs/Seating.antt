@@ -3,13 +3,8 @@ use Rattle.std.specs.Prelude.{◌≡◌, ◌<◌, ◌≤◌, ◌∷◌, ◌++◌
 use Rattle.rule_model.specs.declared.condition.Pattern.{Pattern}
 use Rattle.join_tests.specs.declared.row_key.RowKey.{RowKey}
 use Rattle.pair_memory.specs.declared.candidates.Candidates.{Candidates}
-use Rattle.fan_join.specs.Fans.{AreBeside, IsEmpty, IsReached}
-use Rattle.fan_join.specs.Doors.{shared_key}
-use Rattle.rete_net.specs.declared.fans.Fan.{Fan}
-use Rattle.rete_net.specs.declared.fans.Fans.{Fans}
-use Rattle.rete_net.specs.declared.fans.Span.{Span}
-use Rattle.rete_net.specs.declared.node.NetNode.{NetNode}
-use Rattle.rete_net.specs.Fans.{AreEmpty, AreFansBelow, IsInSpan}
+use Rattle.fan_join.specs.{Fans.{AreBeside, IsEmpty, IsReached}, Doors.{shared_key}}
+use Rattle.rete_net.specs.{declared.{fans.{Fan.{Fan}, Fans.{Fans}, Span.{Span}}, node.NetNode.{NetNode}}, Fans.{AreEmpty, AreFansBelow, IsInSpan}}
 
 -- The fans of the first parents have their spans, one for each; those from a place on are of the next parent. They keep nothing.
 pub record AreGrowing (nodes : List NetNode) (fans : Fans) (from : ℕ) : Type 0 where

@@ -3,11 +3,8 @@ use Rattle.std.specs.Prelude.{◌≡◌, ℕ, Bool, true, List, Some, fold, slic
 use Rattle.std.specs.Hash as fed
 use Rattle.std.specs.Hash.FoldHasher as hasher
 use Rattle.std.specs.List.{list_any}
-use Rattle.fx_base.specs.declared.fact.Fact.{Fact}
-use Rattle.fx_base.specs.declared.value.Value.{Value}
-use Rattle.rule_model.specs.declared.test.Compare.{Compare}
-use Rattle.rule_model.specs.Tests.{compares_hold}
-use Rattle.rule_model.specs.Tuples.{unbound}
+use Rattle.fx_base.specs.declared.{fact.Fact.{Fact}, value.Value.{Value}}
+use Rattle.rule_model.specs.{declared.test.Compare.{Compare}, Tests.{compares_hold}, Tuples.{unbound}}
 use Rattle.join_tests.specs.Keys.{writes}
 
 -- a fact that passes this test has this value in the field

@@ -3,14 +3,10 @@ use Rattle.std.specs.Prelude.{◌≡◌, ℕ, List, length, Some, None, slice_ge
 use Rattle.rule_model.specs.Rows.{pattern_of}
 use Rattle.join_tests.specs.NameKeys.{name_key}
 use Rattle.pattern_gate.specs.Alike.{TakesAlike}
-use Rattle.candidate_source.specs.declared.source.Source.{Source}
-use Rattle.candidate_source.specs.declared.sources.Sources.{Sources}
-use Rattle.candidate_source.specs.Doors.{source_pattern, node_count}
-use Rattle.candidate_source.specs.Sources.{source_at, AreApart}
+use Rattle.candidate_source.specs.{declared.{source.Source.{Source}, sources.Sources.{Sources}}, Doors.{source_pattern, node_count}, Sources.{source_at}}
+use Rattle.candidate_source.specs.Sources.{AreApart}
 use Rattle.condition_node.specs.Nodes.{condition_of}
-use Rattle.rete_net.specs.declared.fans.Fans.{Fans}
-use Rattle.rete_net.specs.declared.node.NetNode.{NetNode}
-use Rattle.rete_net.specs.Fans.{seat_at}
+use Rattle.rete_net.specs.{declared.{fans.Fans.{Fans}, node.NetNode.{NetNode}}, Fans.{seat_at}}
 
 -- the node takes and keeps alike with the source
 pub record IsSourced (s : Source) (n : NetNode) : Type 0 where

@@ -1,19 +1,12 @@
 -- Sources that are put for nodes, one node behind another.
 use Rattle.std.specs.Prelude.{◌≡◌, ◌⊎◌, ◌+◌, ℕ, List, [], Option, Some, None, slice_get}
-use Rattle.rule_model.specs.declared.condition.Condition.TheVariants.{Plain}
-use Rattle.rule_model.specs.declared.condition.Pattern.{Pattern}
-use Rattle.rule_model.specs.Rows.{pattern_of}
+use Rattle.rule_model.specs.{declared.condition.{Condition.TheVariants.{Plain}, Pattern.{Pattern}}, Rows.{pattern_of}}
 use Rattle.join_tests.specs.NameKeys.{name_key}
 use Rattle.pattern_gate.specs.Alike.{TakesAlike}
-use Rattle.candidate_source.specs.declared.source.Source.{Source}
-use Rattle.candidate_source.specs.declared.sources.Sources.{Sources}
-use Rattle.candidate_source.specs.Doors.{node_count, source_pattern}
-use Rattle.candidate_source.specs.Sources.{source_at, AreApart, IsNewSource}
+use Rattle.candidate_source.specs.{declared.{source.Source.{Source}, sources.Sources.{Sources}}, Doors.{node_count, source_pattern}, Sources.{source_at}}
+use Rattle.candidate_source.specs.Sources.{AreApart, IsNewSource}
 use Rattle.condition_node.specs.Nodes.{condition_of}
-use Rattle.rete_net.specs.declared.alike.SourceKey.{SourceKey}
-use Rattle.rete_net.specs.declared.fans.Seat.{Seat}
-use Rattle.rete_net.specs.declared.node.NetNode.{NetNode}
-use Rattle.rete_net.specs.Fans.{seat_at}
+use Rattle.rete_net.specs.{declared.{alike.SourceKey.{SourceKey}, fans.Seat.{Seat}, node.NetNode.{NetNode}}, Fans.{seat_at}}
 
 -- what a pattern asks of a fact alone
 abbrev pub bare : Pattern → Pattern

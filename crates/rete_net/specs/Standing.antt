@@ -1,19 +1,13 @@
 -- For which snapshot a node of a network stands, alone and in its place, and which one is new.
 use Rattle.std.specs.Prelude.{◌≡◌, ℕ, Bool, true, Option, Some, None}
-use Rattle.row_delta.specs.declared.row.Named.{Named}
-use Rattle.row_delta.specs.declared.row.Row.{Row}
-use Rattle.rule_model.specs.declared.program.Program.{Program}
-use Rattle.rule_model.specs.Rows.{pattern_of}
-use Rattle.rule_model.specs.Snapshots.{Snapshot}
+use Rattle.row_delta.specs.declared.row.{Named.{Named}, Row.{Row}}
+use Rattle.rule_model.specs.{declared.program.Program.{Program}, Rows.{pattern_of}, Snapshots.{Snapshot}}
 use Rattle.join_tests.specs.Kept.{row_value}
 use Rattle.pair_memory.specs.Standing.{cleaned, no_rows}
-use Rattle.condition_rows.specs.Looks.{empty_snapshot}
-use Rattle.condition_rows.specs.Sets.{held}
+use Rattle.condition_rows.specs.{Looks.{empty_snapshot}, Sets.{held}}
 use Rattle.pattern_gate.specs.Gates.{GateStands}
-use Rattle.candidate_source.specs.declared.source.Source.{Source}
-use Rattle.candidate_source.specs.Doors.{source_candidates, source_gate, is_reached}
-use Rattle.condition_node.specs.Lending.{with_candidates}
-use Rattle.condition_node.specs.Nodes.{condition_of, NodeStands}
+use Rattle.candidate_source.specs.{declared.source.Source.{Source}, Doors.{source_candidates, source_gate, is_reached}}
+use Rattle.condition_node.specs.{Lending.{with_candidates}, Nodes.{condition_of, NodeStands}}
 use Rattle.rete_net.specs.declared.node.NetNode.{NetNode}
 
 -- A node and its gate stand for the rows of the conditions before it, in a snapshot. The node has dropped what was forgotten; the gate

@@ -1,29 +1,17 @@
 -- A step of the nodes of a network, each behind the one that it names, which stands before it.
 use Rattle.std.specs.Prelude.{◌≡◌, ◌<◌, ◌+◌, ◌^◌, Bool, true, ℕ, cond, List, [], ◌∷◌, ◌++◌, Option, Some, None, slice_get, slice_index_or, length, take}
 use Rattle.fx_base.specs.declared.fact.Fact.{Fact}
-use Rattle.row_delta.specs.declared.delta.Delta.{Delta}
-use Rattle.row_delta.specs.declared.row.Named.{Named}
-use Rattle.row_delta.specs.declared.row.Row.{Row}
+use Rattle.row_delta.specs.declared.{delta.Delta.{Delta}, row.{Named.{Named}, Row.{Row}}}
 use Rattle.row_change.specs.Changes.{LeadsRows, IsDifference, changes_nothing}
-use Rattle.rule_model.specs.declared.condition.Condition.{Condition}
-use Rattle.rule_model.specs.declared.program.Program.{Program}
-use Rattle.rule_model.specs.Rows.{pattern_of}
-use Rattle.rule_model.specs.Snapshots.{Snapshot}
+use Rattle.rule_model.specs.{declared.{condition.Condition.{Condition}, program.Program.{Program}}, Rows.{pattern_of}, Snapshots.{Snapshot}, Moments.{IsAt}}
+use Rattle.rule_model.specs.declared.moment.Moment.{Moment}
 use Rattle.join_tests.specs.Joins.{Look}
 use Rattle.pair_memory.specs.Standing.{cleaned, no_names}
-use Rattle.condition_rows.specs.Lines.{line, empty_row}
-use Rattle.condition_rows.specs.Looks.{HasAllOf, NameHeld}
-use Rattle.condition_rows.specs.Sets.{candidates_of}
-use Rattle.pattern_gate.specs.Gates.{has_good_window}
-use Rattle.pattern_gate.specs.Moves.{MovesSnapshot}
-use Rattle.condition_node.specs.Nodes.{condition_of}
-use Rattle.condition_node.specs.Turns.{CountedStay}
-use Rattle.rete_net.specs.declared.changes.RuleChange.{RuleChange}
-use Rattle.rete_net.specs.declared.node.NetNode.{NetNode}
+use Rattle.condition_rows.specs.{Lines.{line, empty_row}, Looks.{HasAllOf, NameHeld}, Sets.{candidates_of}}
+use Rattle.pattern_gate.specs.{Gates.{has_good_window}, Moves.{MovesSnapshot}}
+use Rattle.condition_node.specs.{Nodes.{condition_of}, Turns.{CountedStay}}
+use Rattle.rete_net.specs.{declared.{changes.RuleChange.{RuleChange}, node.NetNode.{NetNode}}, Standing.{NetNodeStands, StandsIn}}
 use Rattle.candidate_source.specs.declared.source.Source.{Source}
-use Rattle.rete_net.specs.Standing.{NetNodeStands, StandsIn}
-use Rattle.rule_model.specs.Moments.{IsAt}
-use Rattle.rule_model.specs.declared.moment.Moment.{Moment}
 
 abbrev pub no_change : Delta
 no_change = record { gone = []; come = [] }

@@ -1,6 +1,5 @@
 -- Places that wait for moments.
-use Rattle.std.specs.Prelude.{◌≡◌, ◌≤ℤ◌, ℕ, ℤ, Option, Some, None}
-use Rattle.std.specs.Ordering.{nat_cmp}
+use Rattle.std.specs.{Prelude.{◌≡◌, ◌≤ℤ◌, ℕ, ℤ, Option, Some, None}, Ordering.{nat_cmp}}
 use Rattle.due_queue.specs.Moments.{found}
 use Rattle.rete_net.specs.declared.timers.Timers.{Timers}
 

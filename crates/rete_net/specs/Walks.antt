@@ -2,18 +2,12 @@
 use Rattle.std.specs.Prelude.{◌≡◌, ◌<◌, ℕ, List, Option, Some, slice_get, length}
 use Rattle.fx_base.specs.declared.fact.Fact.{Fact}
 use Rattle.row_delta.specs.declared.delta.Delta.{Delta}
-use Rattle.rule_model.specs.declared.program.Program.{Program}
-use Rattle.rule_model.specs.declared.moment.Moment.{Moment}
+use Rattle.rule_model.specs.declared.{program.Program.{Program}, moment.Moment.{Moment}}
 use Rattle.join_tests.specs.Joins.{Look}
-use Rattle.candidate_source.specs.declared.sources.Sources.{Sources}
-use Rattle.candidate_source.specs.declared.source.Source.{Source}
-use Rattle.rete_net.specs.declared.index.Index.{Index}
-use Rattle.rete_net.specs.declared.node.NetNode.{NetNode}
-use Rattle.rete_net.specs.declared.answered.Answered.{Answered}
-use Rattle.rete_net.specs.Answers.{given, some_answer, AreRuled}
-use Rattle.rete_net.specs.Indexes.{IsIndexOf}
+use Rattle.candidate_source.specs.declared.{sources.Sources.{Sources}, source.Source.{Source}}
+use Rattle.rete_net.specs.{declared.{index.Index.{Index}, node.NetNode.{NetNode}, answered.Answered.{Answered}}, Answers.{given, some_answer, AreRuled}}
+use Rattle.rete_net.specs.{Indexes.{IsIndexOf}, Steps.{no_change, delta_at, SteppedBelow}}
 use Rattle.condition_node.specs.Nodes.{condition_of}
-use Rattle.rete_net.specs.Steps.{no_change, delta_at, SteppedBelow}
 
 -- nodes in the places of others: as many, each with the parent and the condition of the one that was there
 pub record IsReplaced (old new : List NetNode) : Type 0 where

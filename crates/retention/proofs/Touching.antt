@@ -2,12 +2,9 @@
 use Rattle.retention.proofs.Common.{◌≡◌, ℕ, ℤ, ◌+◌, ◌<◌, ◌==◌, ◌&&◌, ◌||◌, Bool, true, false, cond, not, List, [], ◌∷◌, take, length, get_or, refl, sym, ◌∙◌}
 use Rattle.retention.proofs.Common.{ap, nat_eq, filter, map, Option, Some, None, list_any, nat_cmp, eq_by_cmp, and-false, or-true, or-false, Decides-eqb}
 use Rattle.retention.proofs.Common.{nat_cmp_total, list_any_more, Timers, is_tag_among}
-use Rattle.std.specs.Bool.{OnTrue, OnFalse}
-use Rattle.std.specs.Option.{is_some}
+use Rattle.std.specs.{Bool.{OnTrue, OnFalse}, Option.{is_some}}
 use Rattle.std.specs.FinMap as map
-use Rattle.fx_base.specs.declared.ids.Tag.{Tag}
-use Rattle.fx_base.proofs.Orders.{eq_by_nat_cmp-turned}
-use Rattle.fx_base.proofs.Tests.{cond_false_first}
+use Rattle.fx_base.{specs.declared.ids.Tag.{Tag}, proofs.{Orders.{eq_by_nat_cmp-turned}, Tests.{cond_false_first}}}
 
 at_one : {A : Type 0} (t : Bool) (q tag : ℕ) (f : ℕ → A) (y : A) → (q == tag) ≡ t → cond t (f tag) y ≡ cond t (f q) y
 at_one true q tag f y e = ap f (sym ((Decides-eqb q tag).0 e))

@@ -1,12 +1,10 @@
 -- What the calls of a retention do to the events that it covers and watches.
 use Rattle.std.specs.Prelude.{◌≡◌, ℕ, ℤ, ◌≤ℤ◌, ◌==◌, ◌&&◌, Bool, true, false, not, None}
 use Rattle.std.specs.FinMap as map
-use Rattle.rule_model.specs.declared.matched.Match.{Match}
-use Rattle.rule_model.specs.Matches.{has_match}
+use Rattle.rule_model.specs.{declared.matched.Match.{Match}, Matches.{has_match}}
 use Rattle.agenda.specs.Agendas.{Marks, names_tag}
-use Rattle.retention.specs.declared.retention.Retention.{Retention}
-use Rattle.retention.specs.Retentions.{lingers, is_named, PassesLives}
-use Rattle.retention.specs.Watching.{Ends, with_end, without, is_old, Covers, Watches}
+use Rattle.retention.specs.{declared.retention.Retention.{Retention}, Retentions.{lingers, is_named, PassesLives}, Watching.{Ends, with_end, without, is_old}}
+use Rattle.retention.specs.Watching.{Covers, Watches}
 
 -- a new retention watches no events
 abbrev pub NewLaw : Type 0

@@ -1,8 +1,7 @@
 -- Which held events are no longer needed: past their lives, and named by no pending match.
 use Rattle.std.specs.Prelude.{◌≡◌, ℕ, ℤ, ◌==◌, ◌&&◌, ◌||◌, Bool, cond, not, List}
 use Rattle.std.specs.FinMap as map
-use Rattle.std.specs.List.{list_any}
-use Rattle.std.specs.Ordering.{nat_cmp, eq_by_cmp}
+use Rattle.std.specs.{List.{list_any}, Ordering.{nat_cmp, eq_by_cmp}}
 use Rattle.fx_base.specs.declared.ids.Tag.{Tag}
 use Rattle.due_queue.specs.Timers.{is_due}
 use Rattle.agenda.specs.Agendas.{Marks, names_tag}

@@ -2,8 +2,7 @@
 use Rattle.std.specs.Prelude.{◌≡◌, ℕ, ℤ, ◌==◌, ◌&&◌, Bool, true, cond, not, Option, Some, None}
 use Rattle.std.specs.FinMap as map
 use Rattle.due_queue.specs.Timers.{has_come}
-use Rattle.retention.specs.declared.retention.Retention.{Retention}
-use Rattle.retention.specs.Retentions.{lingers}
+use Rattle.retention.specs.{declared.retention.Retention.{Retention}, Retentions.{lingers}}
 
 -- for each held event of finite life, by its tag, the first moment at which it is past its life
 abbrev pub Ends : Type 0

@@ -1,7 +1,6 @@
 -- Sets that answer alike change alike.
-use Rattle.row_change.proofs.Common.{◌≡◌, ◌∙◌, ap, List, Bool, ◌&&◌, not, Row}
+use Rattle.row_change.{proofs.Common.{◌≡◌, ◌∙◌, ap, List, Bool, ◌&&◌, not, Row}, specs.Changes.{LeadsRows, IsDifference}}
 use Rattle.row_delta.specs.declared.delta.Delta.{Delta}
-use Rattle.row_change.specs.Changes.{LeadsRows, IsDifference}
 
 -- the new set may be another that answers alike
 pub leads_alike : (old now too : Row → Bool) (gone come : List Row) → LeadsRows old now gone come → ((row : Row) → now row ≡ too row) → LeadsRows old too gone come

@@ -1,8 +1,6 @@
 -- What leads from one set of rows to another, where a set is a test of rows.
 use Rattle.std.specs.Prelude.{◌≡◌, ◌&&◌, ◌||◌, not, Bool, true, false, List, [], ◌∷◌}
-use Rattle.row_delta.specs.Rows.{has, InOrder}
-use Rattle.row_delta.specs.declared.row.Row.{Row}
-use Rattle.row_delta.specs.declared.delta.Delta.{Delta}
+use Rattle.row_delta.specs.{Rows.{has, InOrder}, declared.{row.Row.{Row}, delta.Delta.{Delta}}}
 
 -- the rows that went from the old ones are these, and those that came to them are those
 pub record LeadsRows (old now : Row → Bool) (gone come : List Row) : Type 0 where

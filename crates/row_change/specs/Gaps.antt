@@ -1,9 +1,7 @@
 -- Places in rows that are in order.
-use Rattle.std.specs.Prelude.{◌≡◌, ℕ, ◌<◌, ◌≤◌, List, length, slice_index_or}
-use Rattle.std.specs.declared.cmp.Ordering.TheVariants.{Less, Greater}
+use Rattle.std.specs.{Prelude.{◌≡◌, ℕ, ◌<◌, ◌≤◌, List, length, slice_index_or}, declared.cmp.Ordering.TheVariants.{Less, Greater}}
 use Rattle.std.specs.List.Sorted.{IsPartitionPoint}
-use Rattle.row_delta.specs.Rows.{row_cmp}
-use Rattle.row_delta.specs.declared.row.Row.{Row}
+use Rattle.row_delta.specs.{Rows.{row_cmp}, declared.row.Row.{Row}}
 
 -- the row would go here: those before it are less, and those from here on greater
 pub record IsGap (rows : List Row) (row : Row) (at : ℕ) : Type 0 where

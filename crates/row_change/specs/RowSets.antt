@@ -1,9 +1,7 @@
 -- A set of rows as a list or as a tree.
 use Rattle.std.specs.Prelude.{List}
-use Rattle.row_delta.specs.Rows.{InOrder}
-use Rattle.row_delta.specs.declared.row.Row.{Row}
-use Rattle.row_change.specs.declared.row_set.Form.{Form}
-use Rattle.row_change.specs.declared.row_set.Form.TheVariants.{Listed, Tree}
+use Rattle.row_delta.specs.{Rows.{InOrder}, declared.row.Row.{Row}}
+use Rattle.row_change.specs.declared.row_set.Form.{Form, TheVariants.{Listed, Tree}}
 
 -- the rows of a set, in order
 pub record Kept : Type 0 where

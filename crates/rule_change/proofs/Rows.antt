@@ -4,22 +4,15 @@ use Rattle.rule_change.proofs.Common.{inr, refl, sym, ◌∙◌, ap, ap₂, map-
 use Rattle.rule_change.proofs.Common.{Row, fun_ext, Program, is_within, fits, is_behind, count_behind, is_inside, is_candidate, candidates, passes, passing}
 use Rattle.rule_change.proofs.Common.{is_past, window_by_lists, start_window_at, argument, result_of, with_result, extended, tuples, Snapshot, floor_by}
 use Rattle.rule_change.proofs.Common.{tests_hold, results_hold, Tuple, bound_by, unbound, empty_tuple, with_fact, with_value, row_of, name_of, is_event}
-use Rattle.rule_change.proofs.Common.{lateness_of, moved_fact, moved_pattern, moved_condition, new_entry, HasPlaces}
+use Rattle.rule_change.proofs.{Common.{lateness_of, moved_fact, moved_pattern, moved_condition, new_entry, HasPlaces}, Places.{Moves, same_event, same_expiry}}
+use Rattle.rule_change.proofs.{Places.{same_point, same_lateness, same_types, same_entries}, Tests.{moved_tuple, tests_same, times_same, results_same}}
+use Rattle.rule_change.proofs.Tests.{bounds_same}
 use Rattle.fold_fn.specs.Results.{fold_result}
 use Rattle.temporal_ops.specs.declared.window.Window.{Window}
 use Rattle.row_delta.specs.declared.row.Named.{Named}
-use Rattle.rule_model.specs.declared.condition.Accumulate.{Accumulate}
-use Rattle.rule_model.specs.declared.condition.Condition.{Condition}
-use Rattle.rule_model.specs.declared.condition.Condition.TheVariants.{Plain, Negated, Existing, Folded}
-use Rattle.rule_model.specs.declared.condition.Pattern.{Pattern}
-use Rattle.rule_model.specs.declared.condition.WindowTag.{WindowTag}
-use Rattle.rule_model.specs.declared.condition.WindowTag.TheVariants.{Whole, Time, Length}
-use Rattle.rule_model.specs.Candidates.{is_present}
-use Rattle.rule_model.specs.Maturity.{is_mature}
-use Rattle.rule_model.specs.Rows.{rows}
-use Rattle.rule_model.specs.Snapshots.{floor}
-use Rattle.rule_change.proofs.Places.{Moves, same_event, same_expiry, same_point, same_lateness, same_types, same_entries}
-use Rattle.rule_change.proofs.Tests.{moved_tuple, tests_same, times_same, results_same, bounds_same}
+use Rattle.rule_model.specs.declared.condition.{Accumulate.{Accumulate}, Condition.{Condition, TheVariants.{Plain, Negated, Existing, Folded}}}
+use Rattle.rule_model.specs.{declared.condition.{Pattern.{Pattern}, WindowTag.{WindowTag, TheVariants.{Whole, Time, Length}}}, Candidates.{is_present}}
+use Rattle.rule_model.specs.{Maturity.{is_mature}, Rows.{rows}, Snapshots.{floor}}
 
 -- ---- lists
 

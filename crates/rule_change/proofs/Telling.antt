@@ -1,16 +1,11 @@
 -- What is told of the rules.
-use Rattle.rule_change.proofs.Common.{◌≡◌, ◌||◌, ◌+◌, ◌<◌, ◌++◌, ◌∙◌, ℕ, zero, suc, Bool, true, false, cond, List, [], ◌∷◌, Option, Some, None, inl, inr}
-use Rattle.rule_change.proofs.Common.{refl, sym, ap, ap₂, subst, arith, and_from, and_parts, eq-eqb, eqb-true, list_any, length, slice_get, slice_get_within}
-use Rattle.rule_change.proofs.Common.{In, EachOnce, In-append, in_left, in_right, Program, AreFrom, moved_rule, some_is}
-use Rattle.std.proofs.Common.{◌⊎◌}
-use Rattle.std.proofs.lemmas.Slice.Eq.{bytes_eq-Decides}
-use Rattle.std.specs.Str.{bytes_eq}
-use Rattle.rule_model.proofs.Firsts.{or_split}
-use Rattle.rule_model.specs.declared.program.Rule.{Rule}
-use Rattle.rule_change.specs.declared.code.RuleStatus.{RuleStatus}
-use Rattle.rule_change.specs.declared.code.RuleStatus.TheVariants.{Stays, New, Gone}
-use Rattle.rule_change.specs.Told.{ToldRule, status_of, new_told, places_from, is_place, gone_told, is_same_status, is_same_told, each_once, rules_told}
-use Rattle.rule_change.specs.Told.{IsTold, ToldIsExact, ToldOnce}
+use Rattle.rule_change.proofs.Common.{◌≡◌, ◌||◌, ◌+◌, ◌<◌, ◌++◌, ◌∙◌, ℕ, zero, suc, Bool, true, false, cond, List, [], ◌∷◌, Option, Some, None, inl, inr, refl}
+use Rattle.rule_change.proofs.Common.{sym, ap, ap₂, subst, arith, and_from, and_parts, eq-eqb, eqb-true, list_any, length, slice_get, slice_get_within, In}
+use Rattle.rule_change.proofs.Common.{EachOnce, In-append, in_left, in_right, Program, AreFrom, moved_rule, some_is}
+use Rattle.rule_change.specs.{declared.code.RuleStatus.{RuleStatus, TheVariants.{Stays, New, Gone}}, Told.{ToldRule, status_of, new_told, places_from}}
+use Rattle.rule_change.specs.Told.{is_place, gone_told, is_same_status, is_same_told, each_once, rules_told, IsTold, ToldIsExact, ToldOnce}
+use Rattle.std.{proofs.{Common.{◌⊎◌}, lemmas.Slice.Eq.{bytes_eq-Decides}}, specs.Str.{bytes_eq}}
+use Rattle.rule_model.{proofs.Firsts.{or_split}, specs.declared.program.Rule.{Rule}}
 
 -- ---- each once
 

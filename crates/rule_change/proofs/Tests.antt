@@ -4,11 +4,7 @@ use Rattle.rule_change.proofs.Common.{option_and_then, slice_get, Fact, Times, P
 use Rattle.rule_change.proofs.Common.{test_holds, tests_hold, time_holds_with, times_hold, results_hold, Tuple, bound_by, moved_fact, fun_ext}
 use Rattle.fx_base.specs.declared.value.Value.TheVariants.{Int}
 use Rattle.temporal_ops.specs.declared.edge.OpEdge.{OpEdge}
-use Rattle.rule_model.specs.declared.test.Side.{Side}
-use Rattle.rule_model.specs.declared.test.Side.TheVariants.{Lit, Own, Of, Result}
-use Rattle.rule_model.specs.declared.test.Compare.{Compare}
-use Rattle.rule_model.specs.declared.test.Test.{Test}
-use Rattle.rule_model.specs.declared.test.TimeTest.{TimeTest}
+use Rattle.rule_model.specs.declared.test.{Side.{Side, TheVariants.{Lit, Own, Of, Result}}, Compare.{Compare}, Test.{Test}, TimeTest.{TimeTest}}
 use Rattle.rule_model.specs.declared.test.ResultTest.{ResultTest}
 
 module _ (p q : Program) where

@@ -1,22 +1,11 @@
 -- What rules that stay have in a world and in one under other rules: the same matches, the same of them pending, step by step.
 use Rattle.std.specs.Prelude.{◌≡◌, ◌<◌, ℕ, map, length, Option, Some, None, slice_get}
 use Rattle.fx_base.specs.Lists.{In}
-use Rattle.rule_model.specs.declared.condition.Condition.{Condition}
-use Rattle.rule_model.specs.declared.matched.Match.{Match}
-use Rattle.rule_model.specs.declared.program.EntryInfo.{EntryInfo}
-use Rattle.rule_model.specs.declared.program.Program.{Program}
-use Rattle.rule_model.specs.declared.program.Rule.{Rule}
-use Rattle.rule_model.specs.declared.program.TypeInfo.{TypeInfo}
-use Rattle.rule_model.specs.declared.step.Step.{Step}
-use Rattle.rule_model.specs.declared.step.Step.TheVariants.{Insert, Modify, Retract, Advance, At, Promise, Begin}
-use Rattle.rule_model.specs.Matches.{has_match}
-use Rattle.rule_model.specs.Rows.{pattern_of}
-use Rattle.rule_model.specs.Types.{is_observed}
-use Rattle.rule_world.specs.Lawful.{IsLawful}
-use Rattle.rule_world.specs.Programs.{IsRunnable}
-use Rattle.rule_world.specs.Worlds.{World, pending, marked, stepped, step_fault}
-use Rattle.rule_change.specs.Changed.{AreFrom, changed, moved_fact, new_type, new_entry}
-use Rattle.rule_change.specs.Refused.{HaveTypes, HaveEntries}
+use Rattle.rule_model.specs.declared.{condition.Condition.{Condition}, matched.Match.{Match}, program.{EntryInfo.{EntryInfo}, Program.{Program}, Rule.{Rule}}}
+use Rattle.rule_model.specs.declared.{program.TypeInfo.{TypeInfo}, step.Step.{Step, TheVariants.{Insert, Modify, Retract, Advance, At, Promise, Begin}}}
+use Rattle.rule_model.specs.{Matches.{has_match}, Rows.{pattern_of}, Types.{is_observed}}
+use Rattle.rule_world.specs.{Lawful.{IsLawful}, Programs.{IsRunnable}, Worlds.{World, pending, marked, stepped, step_fault}}
+use Rattle.rule_change.specs.{Changed.{AreFrom, changed, moved_fact, new_type, new_entry}, Refused.{HaveTypes, HaveEntries}}
 
 -- a match of a new rule that stays, as one of the old rule in this place
 abbrev pub as_old : ℕ → Match → Match

@@ -1,23 +1,12 @@
 -- Other rules over a running world. `p` has the old ones and `q` the new ones; what a world has stands under the places of `p` before the change, and
 -- under those of `q` behind it.
-use Rattle.std.specs.Prelude.{◌≡◌, ◌⊎◌, ◌<◌, ℕ, ℤ, pos, Bool, true, List, [], ◌∷◌, map, Option, Some, None, option_map, slice_get}
-use Rattle.std.specs.List.{filter}
+use Rattle.std.specs.{Prelude.{◌≡◌, ◌⊎◌, ◌<◌, ℕ, ℤ, pos, Bool, true, List, [], ◌∷◌, map, Option, Some, None, option_map, slice_get}, List.{filter}}
 use Rattle.std.specs.Option.{option_and_then}
 use Rattle.fx_base.specs.declared.fact.Fact.{Fact}
-use Rattle.rule_model.specs.declared.action.Action.{Action}
-use Rattle.rule_model.specs.declared.action.Action.TheVariants.{Insert, Modify, Retract}
-use Rattle.rule_model.specs.declared.condition.Condition.{Condition}
-use Rattle.rule_model.specs.declared.condition.Condition.TheVariants.{Plain, Negated, Existing, Folded}
-use Rattle.rule_model.specs.declared.condition.Pattern.{Pattern}
-use Rattle.rule_model.specs.declared.life.Life.{Life}
-use Rattle.rule_model.specs.declared.life.LifeTable.{LifeTable}
-use Rattle.rule_model.specs.declared.matched.Match.{Match}
-use Rattle.rule_model.specs.declared.program.EntryInfo.{EntryInfo}
-use Rattle.rule_model.specs.declared.program.Program.{Program}
-use Rattle.rule_model.specs.declared.program.Rule.{Rule}
-use Rattle.rule_model.specs.declared.program.TypeInfo.{TypeInfo}
-use Rattle.rule_model.specs.Matches.{matches, has_match}
-use Rattle.rule_model.specs.Snapshots.{Reached}
+use Rattle.rule_model.specs.declared.{action.Action.{Action, TheVariants.{Insert, Modify, Retract}}, condition.Condition.{Condition, TheVariants.{Plain}}}
+use Rattle.rule_model.specs.declared.{condition.{Condition.TheVariants.{Negated, Existing, Folded}, Pattern.{Pattern}}, life.Life.{Life}}
+use Rattle.rule_model.specs.declared.{life.LifeTable.{LifeTable}, matched.Match.{Match}, program.{EntryInfo.{EntryInfo}, Program.{Program}, Rule.{Rule}}}
+use Rattle.rule_model.specs.{declared.program.TypeInfo.{TypeInfo}, Matches.{matches, has_match}, Snapshots.{Reached}}
 use Rattle.rule_world.specs.Worlds.{World, snapshot}
 use Rattle.change_read.specs.Changes.{type_named, entry_named}
 

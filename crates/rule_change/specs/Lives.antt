@@ -1,13 +1,9 @@
 -- The lives by which a world goes on under other rules.
 use Rattle.std.specs.Prelude.{ℕ, Option, None}
-use Rattle.rule_model.specs.declared.life.LifeTable.{LifeTable}
-use Rattle.rule_model.specs.declared.program.Program.{Program}
-use Rattle.rule_model.specs.Lives.{AreShort}
+use Rattle.rule_model.specs.{declared.{life.LifeTable.{LifeTable}, program.Program.{Program}}, Lives.{AreShort}}
 use Rattle.rule_world.specs.Worlds.{World}
 use Rattle.life_meaning.specs.Tables.{AreLives, IsSafeTable}
-use Rattle.rule_change.specs.Changed.{carried}
-use Rattle.rule_change.specs.Refused.{IsVerdict}
-use Rattle.rule_change.specs.Alike.{AreOver}
+use Rattle.rule_change.specs.{Changed.{carried}, Refused.{IsVerdict}, Alike.{AreOver}}
 
 -- what is not refused for its lives goes on by a safe table
 abbrev pub CarriedIsSafe : Type 0

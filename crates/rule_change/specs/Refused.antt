@@ -1,22 +1,11 @@
 -- When other rules are refused over a world, and why. `table` has the lives by which its events were forgotten, `own` those of the new rules.
-use Rattle.std.specs.Prelude.{◌≡◌, ◌<◌, ◌&&◌, ◌==◌, ℕ, ℤ, int_lt, Bool, true, false, Option, Some, None, slice_get}
-use Rattle.std.specs.List.{list_any}
-use Rattle.rule_model.specs.declared.condition.Condition.{Condition}
-use Rattle.rule_model.specs.declared.life.Life.{Life}
-use Rattle.rule_model.specs.declared.life.Life.TheVariants.{Finite, Infinite}
-use Rattle.rule_model.specs.declared.life.LifeTable.{LifeTable}
-use Rattle.rule_model.specs.declared.matched.Match.{Match}
-use Rattle.rule_model.specs.declared.program.EntryInfo.{EntryInfo}
-use Rattle.rule_model.specs.declared.program.Program.{Program}
-use Rattle.rule_model.specs.declared.program.Rule.{Rule}
-use Rattle.rule_model.specs.declared.program.TypeInfo.{TypeInfo}
-use Rattle.rule_model.specs.Matches.{has_match}
-use Rattle.rule_model.specs.Rows.{pattern_of}
-use Rattle.rule_model.specs.Simple.{observes}
+use Rattle.std.specs.{Prelude.{◌≡◌, ◌<◌, ◌&&◌, ◌==◌, ℕ, ℤ, int_lt, Bool, true, false, Option, Some, None, slice_get}, List.{list_any}}
+use Rattle.rule_model.specs.declared.{condition.Condition.{Condition}, life.{Life.{Life, TheVariants.{Finite, Infinite}}, LifeTable.{LifeTable}}}
+use Rattle.rule_model.specs.declared.{matched.Match.{Match}, program.{EntryInfo.{EntryInfo}, Program.{Program}, Rule.{Rule}, TypeInfo.{TypeInfo}}}
+use Rattle.rule_model.specs.{Matches.{has_match}, Rows.{pattern_of}, Simple.{observes}}
 use Rattle.rule_world.specs.Worlds.{World, pending}
-use Rattle.rule_change.specs.declared.code.ChangeCode.{ChangeCode}
-use Rattle.rule_change.specs.declared.code.ChangeCode.TheVariants.{OtherTypes, OtherEntries, Pending, Longer, Forgotten}
-use Rattle.rule_change.specs.Changed.{type_in, entry_in, carried}
+use Rattle.rule_change.specs.{declared.code.ChangeCode.{ChangeCode, TheVariants.{OtherTypes, OtherEntries, Pending, Longer, Forgotten}}, Changed.{type_in}}
+use Rattle.rule_change.specs.Changed.{entry_in, carried}
 
 -- ---- what has to be so
 

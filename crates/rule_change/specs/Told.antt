@@ -1,13 +1,9 @@
 -- What is told of the rules before the first line.
 use Rattle.std.specs.Prelude.{◌≡◌, ◌↔◌, ◌&&◌, ◌+◌, ◌==◌, ◌++◌, ℕ, Bool, true, false, List, [], ◌∷◌, Option, Some, None, if◌then◌else◌, slice_get}
-use Rattle.std.specs.List.{list_any}
-use Rattle.std.specs.Str.{bytes_eq}
+use Rattle.std.specs.{List.{list_any}, Str.{bytes_eq}}
 use Rattle.fx_base.specs.Lists.{EachOnce, In}
-use Rattle.rule_model.specs.declared.program.Program.{Program}
-use Rattle.rule_model.specs.declared.program.Rule.{Rule}
-use Rattle.rule_change.specs.declared.code.RuleStatus.{RuleStatus}
-use Rattle.rule_change.specs.declared.code.RuleStatus.TheVariants.{Stays, New, Gone}
-use Rattle.rule_change.specs.Changed.{AreFrom}
+use Rattle.rule_model.specs.declared.program.{Program.{Program}, Rule.{Rule}}
+use Rattle.rule_change.specs.{declared.code.RuleStatus.{RuleStatus, TheVariants.{Stays, New, Gone}}, Changed.{AreFrom}}
 
 -- a rule by its name, and what becomes of it
 abbrev pub ToldRule : Type 0

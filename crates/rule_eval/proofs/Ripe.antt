@@ -1,13 +1,9 @@
 -- Maturity, by the window of possible starts.
 use Rattle.rule_eval.proofs.Common.{◌≡◌, ◌||◌, not, ℤ, Bool, true, false, Option, Some, None, sym, ◌∙◌, ap, Program, bounds_of, is_event, is_point}
 use Rattle.rule_eval.proofs.Common.{window_by_lists, start_window_at, is_past, AreOperators, Bindings, Bounds, bounds_join}
-use Rattle.temporal_ops.specs.declared.window.Window.{Window}
-use Rattle.temporal_ops.specs.Possible.{ArePossibleTimes, IsStartWindow}
-use Rattle.temporal_ops.specs.Starts.{starts_window}
-use Rattle.temporal_ops.proofs.WindowOfEdges.{window_is_of_edges}
-use Rattle.temporal_ops.proofs.Windows.{one_window}
-use Rattle.rule_model.specs.declared.condition.Pattern.{Pattern}
-use Rattle.rule_model.specs.Maturity.{is_mature}
+use Rattle.temporal_ops.specs.{declared.window.Window.{Window}, Possible.{ArePossibleTimes, IsStartWindow}, Starts.{starts_window}}
+use Rattle.temporal_ops.proofs.{WindowOfEdges.{window_is_of_edges}, Windows.{one_window}}
+use Rattle.rule_model.specs.{declared.condition.Pattern.{Pattern}, Maturity.{is_mature}}
 
 module _ (p : Program) (q : Pattern) (bound : Bindings) (moment : ℤ) where
   -- a pattern of plain facts

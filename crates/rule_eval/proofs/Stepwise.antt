@@ -2,9 +2,7 @@
 use Rattle.rule_eval.proofs.Common.{◌≡◌, ℕ, ◌+◌, List, [], ◌∷◌, ◌++◌, drop, refl, sym, ◌∙◌, ap, subst, filter, flat_map, Fact, Program, candidates, passes}
 use Rattle.rule_eval.proofs.Common.{extended, pattern_of, HaveOperators, made_by, over, passing, tuples, Snapshot, Tuple, empty_tuple}
 use Rattle.std.proofs.lemmas.Grind.{flat_map-append}
-use Rattle.rule_model.specs.declared.condition.Condition.{Condition}
-use Rattle.rule_model.specs.declared.condition.Condition.TheVariants.{Plain, Negated, Existing, Folded}
-use Rattle.rule_model.specs.Snapshots.{floor}
+use Rattle.rule_model.specs.{declared.condition.Condition.{Condition, TheVariants.{Plain, Negated, Existing, Folded}}, Snapshots.{floor}}
 use Rattle.rule_model.specs.declared.moment.Moment.{Moment}
 
 -- functions that agree gather the same

@@ -1,15 +1,9 @@
 -- The tuples that a condition makes, by the candidates that pass.
 use Rattle.std.specs.Prelude.{◌==◌, ◌&&◌, List, [], ◌∷◌, map, length, if◌then◌else◌}
 use Rattle.fx_base.specs.declared.fact.Fact.{Fact}
-use Rattle.rule_model.specs.declared.condition.Condition.{Condition}
-use Rattle.rule_model.specs.declared.condition.Condition.TheVariants.{Plain, Negated, Existing, Folded}
-use Rattle.rule_model.specs.declared.program.Program.{Program}
-use Rattle.rule_model.specs.Maturity.{is_mature}
-use Rattle.rule_model.specs.Rows.{result_of, with_result}
-use Rattle.rule_model.specs.Tuples.{Tuple, with_fact, bound_by}
-use Rattle.rule_model.specs.declared.moment.Moment.{Moment}
-use Rattle.rule_model.specs.Moments.{snapshot_at}
-use Rattle.rule_model.specs.Snapshots.{floor}
+use Rattle.rule_model.specs.declared.{condition.Condition.{Condition, TheVariants.{Plain, Negated, Existing, Folded}}, program.Program.{Program}}
+use Rattle.rule_model.specs.{Maturity.{is_mature}, Rows.{result_of, with_result}, Tuples.{Tuple, with_fact, bound_by}, declared.moment.Moment.{Moment}}
+use Rattle.rule_model.specs.{Moments.{snapshot_at}, Snapshots.{floor}}
 
 -- the tuples that a condition makes of one, where these candidates pass
 abbrev pub made_by : Program → Moment → Condition → Tuple → List Fact → List Tuple

@@ -1,9 +1,7 @@
 -- Facts at a moment.
 use Rattle.std.specs.Prelude.{List}
 use Rattle.fx_base.specs.declared.fact.Fact.{Fact}
-use Rattle.rule_model.specs.declared.moment.Moment.{Moment}
-use Rattle.rule_model.specs.Moments.{reached_in}
-use Rattle.rule_model.specs.Snapshots.{Snapshot}
+use Rattle.rule_model.specs.{declared.moment.Moment.{Moment}, Moments.{reached_in}, Snapshots.{Snapshot}}
 
 -- the snapshot of these facts at this moment
 abbrev pub over : List Fact → Moment → Snapshot

@@ -1,10 +1,7 @@
 -- The lines of what is told of rules, each ended by a line end.
-use Rattle.std.specs.Prelude.{◌++◌, Bool, true, false, List, [], ◌∷◌, codes, ℕ}
-use Rattle.std.specs.List.{flat_map}
+use Rattle.std.specs.{Prelude.{◌++◌, Bool, true, false, List, [], ◌∷◌, codes, ℕ}, List.{flat_map}}
 use Rattle.answer_json.specs.Objects.{json_line, object_of}
-use Rattle.rule_change.specs.Told.{ToldRule}
-use Rattle.rule_change.specs.declared.code.RuleStatus.{RuleStatus}
-use Rattle.rule_change.specs.declared.code.RuleStatus.TheVariants.{Stays, New, Gone}
+use Rattle.rule_change.specs.{Told.{ToldRule}, declared.code.RuleStatus.{RuleStatus, TheVariants.{Stays, New, Gone}}}
 use Rattle.script_run.specs.Texts.{quoted_byte}
 use Rattle.serde_json.specs.Data.{Data, string}
 

@@ -2,12 +2,9 @@
 use Rattle.rule_lives.proofs.Common.{◌≡◌, ◌==◌, ℕ, suc, ◌+◌, ℤ, ◌+ℤ◌, ◌-ℤ◌, ◌≤ℤ◌, ◌<ℤ◌, Bool, true, false, cond, List, [], ◌∷◌, Some, refl, sym, ap, subst, ◌∙◌}
 use Rattle.rule_lives.proofs.Common.{arith, inl, inr, slice_get, take, ints, Fact, Times, Condition, Plain, Negated, Existing, Folded, Pattern, Program}
 use Rattle.rule_lives.proofs.Common.{IsPossible, pattern_of, Tuple, bound_by, is_event, is_reference, is_observed, bindings, binds, Placed, SolvesWith}
-use Rattle.rule_lives.proofs.Common.{occurrence_of}
-use Rattle.std.proofs.lemmas.Bool.{eq-eqb, ne_eqb}
-use Rattle.rule_lives.proofs.Flagged.{Steady}
-use Rattle.rule_lives.proofs.Still.{Settled, Still, old, steady}
-use Rattle.rule_lives.proofs.Shifts.{Aged, Calm, aged, fixed}
+use Rattle.rule_lives.proofs.{Common.{occurrence_of}, Flagged.{Steady}, Still.{Settled, Still, old, steady}, Shifts.{Aged, Calm, aged, fixed}}
 use Rattle.rule_lives.proofs.Transfers.{AllAged}
+use Rattle.std.proofs.lemmas.Bool.{eq-eqb, ne_eqb}
 use Rattle.life_meaning.proofs.Limits.{Limits, times_of, HasBound, solves_of}
 
 -- condition i has an event with the times z that is past its life of n at c

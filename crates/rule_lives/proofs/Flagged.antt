@@ -4,8 +4,7 @@ use Rattle.rule_lives.proofs.Common.{inl, inr, slice_get, In, Fact, Value, Condi
 use Rattle.rule_lives.proofs.Common.{Modify, Retract, Advance, At, Promise, Begin, pattern_of, is_event, is_reference, is_observed, in_place, EventObserved}
 use Rattle.rule_lives.proofs.Common.{ReferenceFixed, Absent, IsLawful, World, insert_fault, modify_fault, retract_fault, is_of_type, new_fact, IsFlagged}
 use Rattle.rule_lives.proofs.Common.{is_whole, EventFixed, is_window, has_window, has_windows, IsRunnable, inserted}
-use Rattle.rule_world.specs.Worlds.{moved, step_fault}
-use Rattle.rule_world.proofs.Acting.{all_of}
+use Rattle.rule_world.{specs.Worlds.{moved, step_fault}, proofs.Acting.{all_of}}
 use Rattle.fx_base.proofs.Sequences.{In-append}
 
 -- ---- programs

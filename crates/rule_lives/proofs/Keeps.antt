@@ -8,9 +8,7 @@ use Rattle.std.proofs.lemmas.Bool.{and_from, eq-eqb}
 use Rattle.rule_model.specs.declared.life.Life.TheVariants as lives
 use Rattle.rule_world.specs.Worlds.{moved}
 use Rattle.life_meaning.proofs.Safe.{plain_unlisted}
-use Rattle.rule_lives.proofs.Shifts.{of_counted}
-use Rattle.rule_lives.proofs.Moves.{clock_on}
-use Rattle.rule_lives.proofs.Laws.{of_rule, of_prefix}
+use Rattle.rule_lives.proofs.{Shifts.{of_counted}, Moves.{clock_on}, Laws.{of_rule, of_prefix}}
 use Rattle.fx_base.proofs.Sequences.{In-append}
 
 -- ---- the facts of a tuple

@@ -4,15 +4,10 @@ use Rattle.rule_lives.proofs.Common.{refl, sym, ◌∙◌, ap, subst, arith, inl
 use Rattle.rule_lives.proofs.Common.{Negated, Existing, Folded, Pattern, WindowTag, Whole, Time, Length, Program, Rule, is_inside, passing, IsPossible}
 use Rattle.rule_lives.proofs.Common.{pattern_of, Snapshot, Tuple, empty_tuple, bound_by, is_event, is_point, is_observed, in_place, snapshot, moved, bindings}
 use Rattle.rule_lives.proofs.Common.{binds, finite, infinite, Placed, scope, IsLife, Made, IsFlagged, list_any, observes, observes_type, occurrence, OfRule}
-use Rattle.rule_lives.proofs.Common.{OfPrefix}
+use Rattle.rule_lives.proofs.{Common.{OfPrefix}, Shifts.{of_counted, Timed, timed_in}, Transfers.{Turns, turned, transfer}, Anchors.{Anchor, aged_at, all_aged}}
+use Rattle.rule_lives.proofs.{Places.{Stands, stands_at, standing}, Flagged.{steady_of, quiet_of}, Moves.{turns_of}}
 use Rattle.std.proofs.lemmas.Bool.{and_from, eq-eqb}
-use Rattle.rule_lives.proofs.Shifts.{of_counted, Timed, timed_in}
-use Rattle.rule_lives.proofs.Transfers.{Turns, turned, transfer}
 use Rattle.life_meaning.proofs.Limits.{Limits, limits_of, lives_below, times_or, times_of, HasBound}
-use Rattle.rule_lives.proofs.Anchors.{Anchor, aged_at, all_aged}
-use Rattle.rule_lives.proofs.Places.{Stands, stands_at, standing}
-use Rattle.rule_lives.proofs.Flagged.{steady_of, quiet_of}
-use Rattle.rule_lives.proofs.Moves.{turns_of}
 use Rattle.fx_base.proofs.Orders.{int_lt-true}
 
 -- ---- observed types

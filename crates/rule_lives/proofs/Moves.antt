@@ -4,15 +4,11 @@ use Rattle.rule_lives.proofs.Common.{sym, ◌∙◌, ap, subst, arith, inl, inr,
 use Rattle.rule_lives.proofs.Common.{Retract, Advance, At, Promise, Begin, is_present, Snapshot, Tuple, is_event, is_reference, is_observed, lateness_of}
 use Rattle.rule_lives.proofs.Common.{EventObserved, ReferenceFixed, Absent, IsLawful, World, snapshot, insert_fault, modify_fault, retract_fault, is_of_type}
 use Rattle.rule_lives.proofs.Common.{new_fact, has_id, stays, KeepsTuple, found, revised, revised_in, event_by, point_by, IsStarted, started, modified_plain}
-use Rattle.rule_lives.proofs.Common.{moved_forward, fact_with, found_there}
-use Rattle.std.specs.Int.Signed.{≤ℤ_refl}
-use Rattle.std.proofs.lemmas.Bool.{and_parts, eqb-true, not-false}
+use Rattle.rule_lives.proofs.{Common.{moved_forward, fact_with, found_there}, Flagged.{modified_open, retracted_open, Quiet}, Shifts.{Loose, a_fact, gone}}
+use Rattle.rule_lives.proofs.{Shifts.{fresh, Timed, Shift, at_end, same, less, more}, Transfers.{Turns}}
+use Rattle.std.{specs.Int.Signed.{≤ℤ_refl}, proofs.lemmas.Bool.{and_parts, eqb-true, not-false}}
 use Rattle.rule_model.specs.Snapshots.{floor}
-use Rattle.rule_world.specs.Worlds.{moved, step_fault}
-use Rattle.rule_world.proofs.Faultless.{inserted as no_fault}
-use Rattle.rule_lives.proofs.Flagged.{modified_open, retracted_open, Quiet}
-use Rattle.rule_lives.proofs.Shifts.{Loose, a_fact, gone, fresh, Timed, Shift, at_end, same, less, more}
-use Rattle.rule_lives.proofs.Transfers.{Turns}
+use Rattle.rule_world.{specs.Worlds.{moved, step_fault}, proofs.Faultless.{inserted as no_fault}}
 
 abbrev AllTimed : Program → List Fact → Type 0
 AllTimed p xs = (f : Fact) → In f xs → Timed p f

@@ -1,9 +1,7 @@
 -- The facts of a tuple and the places of their patterns.
 use Rattle.rule_lives.proofs.Common.{◌≡◌, ◌⊎◌, ℕ, zero, suc, ◌+◌, true, List, [], ◌∷◌, ◌++◌, length, Option, Some, refl, sym, ◌∙◌, ap, subst, arith, inl, inr}
 use Rattle.rule_lives.proofs.Common.{slice_get, take, In, Fact, Condition, Plain, Negated, Existing, Folded, Pattern, Program, is_inside, Makes, Snapshot}
-use Rattle.rule_lives.proofs.Common.{times_hold, Tuple, empty_tuple, bound_by, bindings, Made, append_assoc}
-use Rattle.rule_lives.proofs.Basics.{Front, times_grow}
-use Rattle.rule_lives.proofs.Shifts.{of_counted}
+use Rattle.rule_lives.proofs.{Common.{times_hold, Tuple, empty_tuple, bound_by, bindings, Made, append_assoc}, Basics.{Front, times_grow}, Shifts.{of_counted}}
 use Rattle.rule_lives.proofs.Transfers.{front_of, longer, next_place}
 use Rattle.fx_base.proofs.Sequences.{In-append}
 

@@ -1,13 +1,10 @@
 -- What matches that come name is kept, and what is kept behind a step was kept before it.
 use Rattle.rule_lives.proofs.Common.{◌≡◌, not, ◌+ℤ◌, ◌≤ℤ◌, Bool, true, false, refl, sym, ◌∙◌, ap, Match, Program, Step, Insert, Modify, Retract, Advance, At}
 use Rattle.rule_lives.proofs.Common.{Promise, Begin, matches, has_match, World, snapshot, was_present, IsKept, plain, unexpired, endless, living, pending}
-use Rattle.rule_lives.proofs.Common.{settled, still_fired, named, MatchNamesKept, KeptBefore}
+use Rattle.rule_lives.proofs.{Common.{settled, still_fired, named, MatchNamesKept, KeptBefore}, Keeps.{tuple_names_kept}, Matched.{names_of, is_match}}
+use Rattle.rule_lives.proofs.{Matched.{own_fact}, Moves.{clock_on}}
 use Rattle.std.proofs.lemmas.Bool.{and_from, and_parts, false_from_ne_true, not-true}
-use Rattle.rule_world.specs.Worlds.{moved, stepped}
-use Rattle.rule_world.proofs.Pending.{has_pending, has_still}
-use Rattle.rule_lives.proofs.Keeps.{tuple_names_kept}
-use Rattle.rule_lives.proofs.Matched.{names_of, is_match, own_fact}
-use Rattle.rule_lives.proofs.Moves.{clock_on}
+use Rattle.rule_world.{specs.Worlds.{moved, stepped}, proofs.Pending.{has_pending, has_still}}
 use Rattle.fx_base.proofs.Orders.{≤ℤ_trans}
 
 pub match_names_kept : MatchNamesKept

@@ -1,12 +1,10 @@
 -- Two lists of facts that differ by loose facts alone: what passes for an old pattern is the same.
 use Rattle.rule_lives.proofs.Common.{◌≡◌, ◌⊎◌, ℕ, ℤ, ◌+ℤ◌, ◌≤ℤ◌, true, false, cond, List, [], ◌∷◌, refl, sym, ◌∙◌, subst, ap, arith, inl, inr, filter, ints, In}
 use Rattle.rule_lives.proofs.Common.{Fact, Times, IsEvent, Pattern, Program, is_candidate, passes, passing, IsPossible, Snapshot, Tuple, bound_by, is_event}
-use Rattle.rule_lives.proofs.Common.{is_point, is_reference, is_observed, lateness_of, passed, candidates, in_filter}
+use Rattle.rule_lives.proofs.{Common.{is_point, is_reference, is_observed, lateness_of, passed, candidates, in_filter}, Basics.{two_filters}, Flagged.{Steady}}
+use Rattle.rule_lives.proofs.Still.{Settled, Still, old, steady, counts, Counts, counts_parts, counts_join, stays, tail_of}
 use Rattle.std.proofs.lemmas.Bool.{and_from, false_from_ne_true}
 use Rattle.rule_model.proofs.Named.{of_filter}
-use Rattle.rule_lives.proofs.Basics.{two_filters}
-use Rattle.rule_lives.proofs.Flagged.{Steady}
-use Rattle.rule_lives.proofs.Still.{Settled, Still, old, steady, counts, Counts, counts_parts, counts_join, stays, tail_of}
 use Rattle.fx_base.proofs.Tests.{same_test}
 
 -- ---- members

@@ -2,13 +2,10 @@
 use Rattle.rule_lives.proofs.Common.{◌≡◌, ◌==◌, ℕ, ℤ, ◌+ℤ◌, ◌-ℤ◌, ◌≤ℤ◌, ◌<ℤ◌, Bool, true, false, not, ◌&&◌, ◌||◌, List, Option, Some, None, if◌then◌else◌, refl}
 use Rattle.rule_lives.proofs.Common.{subst, ap, ◌∙◌, arith, ints, clamps, Fact, Times, Pattern, WindowTag, Whole, Time, Length, Program, is_inside}
 use Rattle.rule_lives.proofs.Common.{is_candidate, passes, Snapshot, times_hold, Tuple, bound_by, is_event, lateness_of, finite, infinite, is_within, fits}
-use Rattle.rule_lives.proofs.Common.{tests_hold, unbound, expiry_of, plain_present, tail_by}
-use Rattle.std.proofs.lemmas.Bool.{and_from, and_parts, eq-eqb, eqb-true}
-use Rattle.std.proofs.Math.Bool.{or-true}
-use Rattle.std.specs.Int.{int_max}
+use Rattle.rule_lives.proofs.{Common.{tests_hold, unbound, expiry_of, plain_present, tail_by}, Flagged.{Steady}}
+use Rattle.std.{proofs.{lemmas.Bool.{and_from, and_parts, eq-eqb, eqb-true}, Math.Bool.{or-true}}, specs.Int.{int_max}}
 use Rattle.rule_model.specs.Candidates.{is_present}
 use Rattle.life_meaning.specs.Lifetimes.{tail}
-use Rattle.rule_lives.proofs.Flagged.{Steady}
 use Rattle.fx_base.proofs.Orders.{int_lt-true}
 
 -- ---- tails

@@ -2,11 +2,8 @@
 use Rattle.rule_lives.proofs.Common.{◌≡◌, ℕ, suc, ℤ, ◌-ℤ◌, ◌≤ℤ◌, List, [], ◌∷◌, ◌++◌, length, Some, sym, ◌∙◌, ap, subst, arith, slice_get, ints, In, Fact}
 use Rattle.rule_lives.proofs.Common.{Condition, Plain, Negated, Existing, Folded, Pattern, Program, Times, passing, IsPossible, Makes, Snapshot, Tuple}
 use Rattle.rule_lives.proofs.Common.{bound_by, lateness_of, in_place, length-append, IsMature, of_plain, of_none, of_unbounded, of_past, result_of, floor}
-use Rattle.rule_model.proofs.Grown.{makes_grow, begins}
-use Rattle.rule_lives.proofs.Basics.{Front, times_grow}
-use Rattle.rule_lives.proofs.Still.{Still, tail_of}
-use Rattle.rule_lives.proofs.Shifts.{Calm, aged, fixed, Shift, back, passing_same, own_stays}
-use Rattle.rule_model.proofs.Floors.{clock_below_floor}
+use Rattle.rule_lives.proofs.{Basics.{Front, times_grow}, Still.{Still, tail_of}, Shifts.{Calm, aged, fixed, Shift, back, passing_same, own_stays}}
+use Rattle.rule_model.proofs.{Grown.{makes_grow, begins}, Floors.{clock_below_floor}}
 use Rattle.fx_base.proofs.Sequences.{get-append_left, get-last}
 
 pub front_of : (p : Program) (s : Snapshot) (cs : List Condition) (t made : Tuple) → Makes p s cs t made → Front t made

@@ -1,20 +1,10 @@
 -- That what a step makes names only what is kept (Walzer, Breddin, Groch 2008; Drools Fusion 5 User Guide, memory management for events).
 use Rattle.std.specs.Prelude.{◌≡◌, ℕ, true, false, List, take, Some, None, slice_get}
-use Rattle.fx_base.specs.Lists.{In}
-use Rattle.fx_base.specs.declared.fact.Fact.{Fact}
-use Rattle.rule_model.specs.declared.condition.Condition.{Condition}
-use Rattle.rule_model.specs.declared.life.LifeTable.{LifeTable}
-use Rattle.rule_model.specs.declared.matched.Match.{Match}
-use Rattle.rule_model.specs.declared.program.Program.{Program}
-use Rattle.rule_model.specs.declared.program.Rule.{Rule}
-use Rattle.rule_model.specs.declared.step.Step.{Step}
-use Rattle.rule_model.specs.Candidates.{passing}
-use Rattle.rule_model.specs.Matches.{matches, has_match}
-use Rattle.rule_model.specs.Rows.{pattern_of, binds}
+use Rattle.fx_base.specs.{Lists.{In}, declared.fact.Fact.{Fact}}
+use Rattle.rule_model.specs.declared.{condition.Condition.{Condition}, life.LifeTable.{LifeTable}, matched.Match.{Match}, program.Program.{Program}}
+use Rattle.rule_model.specs.{declared.{program.Rule.{Rule}, step.Step.{Step}}, Candidates.{passing}, Matches.{matches, has_match}, Rows.{pattern_of, binds}}
 use Rattle.rule_model.specs.Tuples.{Tuple, name_of}
-use Rattle.rule_world.specs.Lawful.{IsLawful}
-use Rattle.rule_world.specs.Programs.{UseOperators}
-use Rattle.rule_world.specs.Worlds.{World, snapshot, moved, stepped, step_fault}
+use Rattle.rule_world.specs.{Lawful.{IsLawful}, Programs.{UseOperators}, Worlds.{World, snapshot, moved, stepped, step_fault}}
 use Rattle.rule_lives.specs.Law.{Made, IsFlagged}
 use Rattle.life_meaning.specs.Tables.{AreSafe, IsKept}
 

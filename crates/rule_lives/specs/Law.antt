@@ -1,24 +1,13 @@
 -- The law of changes: what comes or goes in a step names only events that are within their inferred lives (Walzer, Breddin, Groch 2008;
 -- Drools Fusion 5 User Guide, memory management for events, inferred expiration offset).
 use Rattle.std.specs.Prelude.{◌≡◌, ◌&&◌, ◌⊎◌, ℕ, ℤ, ◌+ℤ◌, ◌≤ℤ◌, true, false, List, take, Some, None, slice_get}
-use Rattle.fx_base.specs.Lists.{In}
-use Rattle.fx_base.specs.declared.fact.Fact.{Fact}
-use Rattle.rule_model.specs.declared.condition.Condition.{Condition}
-use Rattle.rule_model.specs.declared.condition.WindowTag.TheVariants.{Whole}
-use Rattle.rule_model.specs.declared.program.Program.{Program}
-use Rattle.rule_model.specs.declared.program.Rule.{Rule}
-use Rattle.rule_model.specs.declared.step.Step.{Step}
-use Rattle.rule_model.specs.declared.step.Step.TheVariants.{Insert, Modify, Retract, Advance, At, Promise, Begin}
-use Rattle.rule_model.specs.Candidates.{passing}
-use Rattle.rule_model.specs.Rows.{Makes, pattern_of, binds}
-use Rattle.rule_model.specs.Simple.{is_observed_in}
-use Rattle.rule_model.specs.Snapshots.{Snapshot}
-use Rattle.rule_model.specs.Tuples.{Tuple, empty_tuple}
-use Rattle.rule_model.specs.Types.{is_event, is_reference, is_observed}
-use Rattle.rule_world.specs.Worlds.{World, snapshot, moved, step_fault}
-use Rattle.rule_world.specs.Lawful.{IsLawful}
-use Rattle.life_meaning.specs.Reach.{finite}
-use Rattle.life_meaning.specs.Lifetimes.{IsLife}
+use Rattle.fx_base.specs.{Lists.{In}, declared.fact.Fact.{Fact}}
+use Rattle.rule_model.specs.declared.{condition.{Condition.{Condition}, WindowTag.TheVariants.{Whole}}, program.{Program.{Program}, Rule.{Rule}}}
+use Rattle.rule_model.specs.{declared.step.Step.{Step, TheVariants.{Insert, Modify, Retract, Advance, At, Promise, Begin}}, Candidates.{passing}, Rows.{Makes}}
+use Rattle.rule_model.specs.{Rows.{pattern_of, binds}, Simple.{is_observed_in}, Snapshots.{Snapshot}, Tuples.{Tuple, empty_tuple}, Types.{is_event}}
+use Rattle.rule_model.specs.Types.{is_reference, is_observed}
+use Rattle.rule_world.specs.{Worlds.{World, snapshot, moved, step_fault}, Lawful.{IsLawful}}
+use Rattle.life_meaning.specs.{Reach.{finite}, Lifetimes.{IsLife}}
 
 -- ---- what comes and goes
 

@@ -2,20 +2,11 @@
 use Rattle.rule_model.proofs.Common.{◌≡◌, ◌↔◌, ◌&&◌, ◌||◌, not, ℤ, ◌+ℤ◌, ◌≤ℤ◌, pos, Bool, true, false, List, [], ◌∷◌, Option, Some, None, option_map, refl, sym}
 use Rattle.rule_model.proofs.Common.{◌∙◌, ap, subst, arith, ints, Fact, Pattern, Program, AreOperators, IsPossible, IsMature, of_plain, of_none, of_unbounded}
 use Rattle.rule_model.proofs.Common.{of_past, bounds_of, window_by_lists, start_window_at, is_past, times_hold, time_holds_with, Bindings, All, is_event}
-use Rattle.rule_model.proofs.Common.{is_point, int_lt-true, lt-int_lt}
-use Rattle.rule_model.specs.Maturity.{is_mature}
-use Rattle.std.proofs.Math.Bool.{and-false}
-use Rattle.std.specs.Option.{option_and_then}
-use Rattle.std.proofs.lemmas.List.Elements.{All-nil, All-cons, All-head, All-tail}
+use Rattle.rule_model.{proofs.Common.{is_point, int_lt-true, lt-int_lt}, specs.{Maturity.{is_mature}, declared.test.TimeTest.{TimeTest}}}
+use Rattle.std.{proofs.{Math.Bool.{and-false}, lemmas.List.Elements.{All-nil, All-cons, All-head, All-tail}}, specs.Option.{option_and_then}}
 use Rattle.fx_base.specs.declared.times.Times.{Times}
-use Rattle.temporal_ops.specs.declared.edge.OpEdge.{OpEdge}
-use Rattle.temporal_ops.specs.declared.window.Window.{Window}
-use Rattle.temporal_ops.specs.declared.window.Window.TheVariants.{Never, UpTo, Unbounded}
-use Rattle.temporal_ops.specs.Edges.{edges_hold, IsOpEdge, Joins}
-use Rattle.temporal_ops.specs.Possible.{IsNone, AreStarts, all_hold}
-use Rattle.temporal_ops.specs.Starts.{starts_window}
-use Rattle.temporal_ops.proofs.WindowOfEdges.{window_is_of_edges}
-use Rattle.rule_model.specs.declared.test.TimeTest.{TimeTest}
+use Rattle.temporal_ops.specs.{declared.{edge.OpEdge.{OpEdge}, window.Window.{Window, TheVariants.{Never, UpTo, Unbounded}}}, Edges.{edges_hold, IsOpEdge}}
+use Rattle.temporal_ops.{specs.{Edges.{Joins}, Possible.{IsNone, AreStarts, all_hold}, Starts.{starts_window}}, proofs.WindowOfEdges.{window_is_of_edges}}
 use Rattle.temporal_ops.specs.Possible as possible
 
 abbrev pub Bounds : Type 0

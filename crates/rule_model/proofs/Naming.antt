@@ -1,8 +1,8 @@
 -- What stands at the tags that a row names.
 use Rattle.rule_model.proofs.Common.{◌≡◌, ◌&&◌, ℕ, ℤ, zero, suc, inl, inr, List, [], ◌∷◌, map, Option, Some, refl, sym, ◌∙◌, ap, subst, slice_get, In, Tag}
 use Rattle.rule_model.proofs.Common.{Fact, Row, Pattern, passes, bound_in, Holds, named_at, tests_hold, times_hold, Tuple, Bindings, name_of, row_of, bound_by}
-use mathlib.Core.Path.{fun_ext}
 use Rattle.rule_model.proofs.Named.{AllOf}
+use mathlib.Core.Path.{fun_ext}
 
 -- the facts at the tags that a row names are those of its tuple
 pub named_are : (facts_at : Tag → Option Fact) (facts : List Fact) → Holds facts_at facts → (k : ℕ) → named_at facts_at (map name_of facts) k ≡ slice_get facts k

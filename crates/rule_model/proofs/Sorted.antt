@@ -1,14 +1,8 @@
 -- Lists in a strict order: what stands in them stands once, and two with the same members are equal.
 use Rattle.rule_model.proofs.Common.{◌≡◌, ◌∙◌, inl, inr, List, [], ◌∷◌, map, refl, sym, ap, subst, Less, Equal, IsTotalOrder, AllByRecursion, tied_itself, In}
-use Rattle.rule_model.proofs.Common.{EachOnce, Ordering}
-use Rattle.rule_model.proofs.Listed.{of_map}
-use Rattle.rule_model.proofs.Order.{Same}
-use Rattle.std.specs.List.Sorted.{IsStrictlySortedBy}
-use Rattle.std.proofs.lemmas.Cmp.{nat_cmp_total, on_total}
-use Rattle.std.specs.Ordering.{nat_cmp}
-use Rattle.fx_base.specs.declared.fact.Fact.{Fact}
-use Rattle.fx_base.specs.declared.ids.Tag.{Tag}
-use Rattle.rule_model.specs.Distinct.{tag_cmp}
+use Rattle.rule_model.{proofs.{Common.{EachOnce, Ordering}, Listed.{of_map}, Order.{Same}}, specs.Distinct.{tag_cmp}}
+use Rattle.std.{specs.{List.Sorted.{IsStrictlySortedBy}, Ordering.{nat_cmp}}, proofs.lemmas.Cmp.{nat_cmp_total, on_total}}
+use Rattle.fx_base.specs.declared.{fact.Fact.{Fact}, ids.Tag.{Tag}}
 
 module _ {A : Type 0} (c : A → A → Ordering) (total : IsTotalOrder c) where
   irreflexive : (x : A) → c x x ≡ Less → ⊥

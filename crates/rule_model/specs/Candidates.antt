@@ -1,15 +1,8 @@
 -- The candidates of a pattern, and those of them that pass for what earlier conditions bound.
-use Rattle.std.specs.Prelude.{ℕ, ◌==◌, ◌&&◌, ◌||◌, not, Bool, true, ℤ, ◌-ℤ◌, int_lt, nat_lt, List, length, Option, Some, None}
-use Rattle.std.specs.List.{filter}
+use Rattle.std.specs.{Prelude.{ℕ, ◌==◌, ◌&&◌, ◌||◌, not, Bool, true, ℤ, ◌-ℤ◌, int_lt, nat_lt, List, length, Option, Some, None}, List.{filter}}
 use Rattle.fx_base.specs.declared.fact.Fact.{Fact}
-use Rattle.rule_model.specs.declared.condition.Pattern.{Pattern}
-use Rattle.rule_model.specs.declared.condition.WindowTag.{WindowTag}
-use Rattle.rule_model.specs.declared.condition.WindowTag.TheVariants.{Whole, Time, Length}
-use Rattle.rule_model.specs.declared.program.Program.{Program}
-use Rattle.rule_model.specs.Snapshots.{Snapshot}
-use Rattle.rule_model.specs.Tests.{tests_hold, times_hold}
-use Rattle.rule_model.specs.Tuples.{Tuple, unbound, bound_by}
-use Rattle.rule_model.specs.Types.{is_event, expiry_of}
+use Rattle.rule_model.specs.declared.{condition.{Pattern.{Pattern}, WindowTag.{WindowTag, TheVariants.{Whole, Time, Length}}}, program.Program.{Program}}
+use Rattle.rule_model.specs.{Snapshots.{Snapshot}, Tests.{tests_hold, times_hold}, Tuples.{Tuple, unbound, bound_by}, Types.{is_event, expiry_of}}
 
 -- an age that an expiry lets be present; without an expiry every age is
 abbrev pub is_within : Option ℤ → ℤ → Bool

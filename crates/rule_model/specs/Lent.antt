@@ -1,11 +1,7 @@
 -- Facts behind references and behind tags.
-use Rattle.std.specs.Prelude.{◌≡◌, ℕ, ℤ, List, [], ◌∷◌, map, Option, Some, slice_get}
-use Rattle.std.specs.Borrow.{Bor}
-use Rattle.std.specs.Option.{option_and_then}
-use Rattle.fx_base.specs.declared.ids.Tag.{Tag}
-use Rattle.fx_base.specs.declared.fact.Fact.{Fact}
-use Rattle.row_delta.specs.declared.row.Named.{Named}
-use Rattle.row_delta.specs.declared.row.Row.{Row}
+use Rattle.std.specs.{Prelude.{◌≡◌, ℕ, ℤ, List, [], ◌∷◌, map, Option, Some, slice_get}, Borrow.{Bor}, Option.{option_and_then}}
+use Rattle.fx_base.specs.declared.{ids.Tag.{Tag}, fact.Fact.{Fact}}
+use Rattle.row_delta.specs.declared.row.{Named.{Named}, Row.{Row}}
 use Rattle.rule_model.specs.Tuples.{Tuple, Bindings}
 
 -- a map gives these facts at their tags

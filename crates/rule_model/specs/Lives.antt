@@ -1,9 +1,6 @@
 -- Tables of lives: the bound on finite lives, and the table that has none.
 use Rattle.std.specs.Prelude.{◌≡◌, ◌^◌, ◌≤ℤ◌, Bool, true, false, ℕ, ℤ, pos, map, Option, Some, None, slice_get}
-use Rattle.rule_model.specs.declared.life.Life.{Life}
-use Rattle.rule_model.specs.declared.life.Life.TheVariants.{Plain, Explicit, Finite, Infinite}
-use Rattle.rule_model.specs.declared.life.LifeTable.{LifeTable}
-use Rattle.rule_model.specs.declared.program.Program.{Program}
+use Rattle.rule_model.specs.declared.{life.{Life.{Life, TheVariants.{Plain, Explicit, Finite, Infinite}}, LifeTable.{LifeTable}}, program.Program.{Program}}
 use Rattle.rule_model.specs.declared.program.TypeInfo.{TypeInfo}
 
 -- a finite life is from 0 to 2^62 ms, so that its end behind an event has a number of 64 bits

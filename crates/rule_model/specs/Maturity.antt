@@ -1,19 +1,9 @@
 -- When a negative pattern waits no longer (Drools Fusion 5 User Guide, negative patterns with temporal constraints).
-use Rattle.std.specs.Prelude.{◌≡◌, ℤ, ◌<ℤ◌, int_lt, ◌||◌, not, Bool, true, false, List, [], ◌∷◌, Option, Some, None, option_map}
-use Rattle.std.specs.Option.{option_and_then}
-use Rattle.fx_base.specs.declared.fact.Fact.{Fact}
-use Rattle.fx_base.specs.declared.times.Times.{Times}
-use Rattle.temporal_ops.specs.declared.edge.OpEdge.{OpEdge}
-use Rattle.temporal_ops.specs.declared.window.Window.{Window}
-use Rattle.temporal_ops.specs.declared.window.Window.TheVariants.{Never, UpTo, Unbounded}
-use Rattle.temporal_ops.specs.Edges.{IsOp}
-use Rattle.temporal_ops.specs.Possible.{IsEvent, IsNone, IsLatest, AreStartsUnbounded}
-use Rattle.temporal_ops.specs.Starts.{starts_window}
-use Rattle.rule_model.specs.declared.condition.Pattern.{Pattern}
-use Rattle.rule_model.specs.declared.program.Program.{Program}
-use Rattle.rule_model.specs.declared.test.TimeTest.{TimeTest}
-use Rattle.rule_model.specs.Tests.{times_hold}
-use Rattle.rule_model.specs.Tuples.{Bindings}
+use Rattle.std.specs.{Prelude.{◌≡◌, ℤ, ◌<ℤ◌, int_lt, ◌||◌, not, Bool, true, false, List, [], ◌∷◌, Option, Some, None, option_map}, Option.{option_and_then}}
+use Rattle.fx_base.specs.declared.{fact.Fact.{Fact}, times.Times.{Times}}
+use Rattle.temporal_ops.specs.{declared.{edge.OpEdge.{OpEdge}, window.Window.{Window, TheVariants.{Never, UpTo, Unbounded}}}, Edges.{IsOp}, Possible.{IsEvent}}
+use Rattle.temporal_ops.specs.{Possible.{IsNone, IsLatest, AreStartsUnbounded}, Starts.{starts_window}}
+use Rattle.rule_model.specs.{declared.{condition.Pattern.{Pattern}, program.Program.{Program}, test.TimeTest.{TimeTest}}, Tests.{times_hold}, Tuples.{Bindings}}
 use Rattle.rule_model.specs.Types.{is_event, is_point}
 
 -- the times of an event of the pattern's type that pass its temporal tests; they range over all pairs of whole numbers

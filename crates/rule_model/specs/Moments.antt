@@ -1,7 +1,6 @@
 -- Moments of a run, at which conditions are looked at.
 use Rattle.std.specs.Prelude.{◌≡◌, ℕ, ℤ, pos, List, [], slice_index_or}
-use Rattle.rule_model.specs.declared.moment.Moment.{Moment}
-use Rattle.rule_model.specs.Snapshots.{Reached, Snapshot}
+use Rattle.rule_model.specs.{declared.moment.Moment.{Moment}, Snapshots.{Reached, Snapshot}}
 
 -- what stands at the place of an entry point; 0 beyond the end
 abbrev pub moment_in : List ℤ → ℕ → ℤ

@@ -1,12 +1,7 @@
 -- Which conditions observe the facts of their pattern.
-use Rattle.std.specs.Prelude.{ℕ, ◌==◌, ◌&&◌, Bool, true, false, List}
-use Rattle.std.specs.List.{list_any}
-use Rattle.rule_model.specs.declared.condition.Condition.{Condition}
-use Rattle.rule_model.specs.declared.condition.Condition.TheVariants.{Plain, Negated, Existing, Folded}
-use Rattle.rule_model.specs.declared.condition.WindowTag.{WindowTag}
-use Rattle.rule_model.specs.declared.condition.WindowTag.TheVariants.{Whole, Time, Length}
-use Rattle.rule_model.specs.declared.program.Rule.{Rule}
-use Rattle.rule_model.specs.Rows.{pattern_of}
+use Rattle.std.specs.{Prelude.{ℕ, ◌==◌, ◌&&◌, Bool, true, false, List}, List.{list_any}}
+use Rattle.rule_model.specs.declared.condition.{Condition.{Condition, TheVariants.{Plain, Negated, Existing, Folded}}, WindowTag.{WindowTag}}
+use Rattle.rule_model.specs.{declared.{condition.WindowTag.TheVariants.{Whole, Time, Length}, program.Rule.{Rule}}, Rows.{pattern_of}}
 
 abbrev pub is_whole : WindowTag → Bool
 is_whole Whole = true

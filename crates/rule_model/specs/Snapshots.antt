@@ -1,9 +1,7 @@
 -- What the conditions of rules look at.
-use Rattle.std.specs.Prelude.{ℕ, ℤ, pos, ◌-ℤ◌, List}
-use Rattle.std.specs.Int.{int_max}
+use Rattle.std.specs.{Prelude.{ℕ, ℤ, pos, ◌-ℤ◌, List}, Int.{int_max}}
 use Rattle.fx_base.specs.declared.fact.Fact.{Fact}
-use Rattle.rule_model.specs.declared.program.Program.{Program}
-use Rattle.rule_model.specs.Types.{lateness_of}
+use Rattle.rule_model.specs.{declared.program.Program.{Program}, Types.{lateness_of}}
 
 -- what is known of the entry points, by their places
 pub record Reached : Type 0 where

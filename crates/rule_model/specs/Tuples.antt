@@ -1,8 +1,7 @@
 -- What conditions have bound so far, and the rows that name it.
 use Rattle.std.specs.Prelude.{ℕ, ℤ, List, [], ◌∷◌, ◌++◌, map, Option, slice_get}
 use Rattle.fx_base.specs.declared.fact.Fact.{Fact}
-use Rattle.row_delta.specs.declared.row.Named.{Named}
-use Rattle.row_delta.specs.declared.row.Row.{Row}
+use Rattle.row_delta.specs.declared.row.{Named.{Named}, Row.{Row}}
 
 -- the facts that patterns bound and the results of accumulates, each in the order of its conditions
 pub record Tuple : Type 0 where

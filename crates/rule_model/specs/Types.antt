@@ -2,9 +2,7 @@
 -- expires, and what is no entry point of it has no lateness.
 use Rattle.std.specs.Prelude.{ℕ, ◌+◌, ℤ, pos, Bool, true, false, List, [], ◌∷◌, Option, Some, None, slice_get, if◌then◌else◌}
 use Rattle.fx_base.specs.declared.ids.TypeId.{TypeId}
-use Rattle.rule_model.specs.declared.program.EntryInfo.{EntryInfo}
-use Rattle.rule_model.specs.declared.program.Program.{Program}
-use Rattle.rule_model.specs.declared.program.TypeInfo.{TypeInfo}
+use Rattle.rule_model.specs.declared.program.{EntryInfo.{EntryInfo}, Program.{Program}, TypeInfo.{TypeInfo}}
 
 abbrev pub is_event_type : Option TypeInfo → Bool
 is_event_type None = false

@@ -1,8 +1,7 @@
 -- The names of the codes of faults, as lines print them.
 use Rattle.std.specs.Prelude.{ℕ, List, codes}
-use Rattle.rule_world.specs.declared.code.Code.{Code}
-use Rattle.rule_world.specs.declared.code.Code.TheVariants.{UnknownType, UnknownEntry, EventFixed, EventObserved, ReferenceFixed, Absent, BadFields, BadValue}
-use Rattle.rule_world.specs.declared.code.Code.TheVariants.{BadDuration, Late, Ahead, ClockBack, ClockEnd, PromiseBack, PromiseEnd, Overflow}
+use Rattle.rule_world.specs.declared.code.Code.{Code, TheVariants.{UnknownType, UnknownEntry, EventFixed, EventObserved, ReferenceFixed, Absent, BadFields}}
+use Rattle.rule_world.specs.declared.code.Code.TheVariants.{BadValue, BadDuration, Late, Ahead, ClockBack, ClockEnd, PromiseBack, PromiseEnd, Overflow}
 
 abbrev pub code_name : Code → List ℕ
 code_name UnknownType = codes "UnknownType"

@@ -1,11 +1,8 @@
 -- What a line asks for, by the function and by the forms.
 use Rattle.script_read.proofs.Common.{◌≡◌, List, ℕ, Option, Some, None, Result, Ok, Err, refl, sym, IfOk, IsErrOf, Data, IsForm, command_of, IsLineReading}
-use Rattle.script_read.proofs.Common.{asks, bad_json, reading, asked_of_reading, AnswersLine, bad_command, asked_of_command, Command}
-use Rattle.script_read.specs.Asked.{asked}
-use Rattle.script_read.specs.declared.fault.CommandFault.{CommandFault}
-use Rattle.script_read.specs.declared.fault.CommandFault.TheVariants.{BadJson, BadCommand, NoMemory}
-use Rattle.script_read.proofs.FormLaws.{form_again, form_sound, no_form}
-use Rattle.script_read.proofs.Readings.{reading_again, reading_sound}
+use Rattle.script_read.{proofs.Common.{asks, bad_json, reading, asked_of_reading, AnswersLine, bad_command, asked_of_command, Command}, specs.Asked.{asked}}
+use Rattle.script_read.{specs.declared.fault.CommandFault.{CommandFault, TheVariants.{BadJson, BadCommand, NoMemory}}, proofs.FormLaws.{form_again, form_sound}}
+use Rattle.script_read.proofs.{FormLaws.{no_form}, Readings.{reading_again, reading_sound}}
 
 -- ---- from the forms to what is asked
 

@@ -1,9 +1,6 @@
 -- The members of an object are the entries of its map.
 use Rattle.script_read.proofs.Common.{◌≡◌, List, length, String, Global}
-use Rattle.serde_json.specs.Events.{members_len}
-use Rattle.serde_json.specs.View.{members_view}
-use Rattle.serde_json.specs.declared.value.Value.{Value}
-use Rattle.serde_json.proofs.Views.{members_len-members_view}
+use Rattle.serde_json.{specs.{Events.{members_len}, View.{members_view}, declared.value.Value.{Value}}, proofs.Views.{members_len-members_view}}
 
 -- an object has as many members as its map has entries
 pub members_are_entries : (es : List (String Global × Value)) → members_len (members_view es) ≡ length es

@@ -1,12 +1,8 @@
 -- What a line of the script asks for.
-use Rattle.std.specs.Prelude.{◌≡◌, ℕ, List, Option, Some, None, Result, Ok, Err, if◌then◌else◌}
-use Rattle.std.specs.Str.{IsUtf8, is_utf8}
-use Rattle.serde_json.specs.Data.{Data}
-use Rattle.serde_json.specs.Read.{read}
-use Rattle.script_read.specs.Form.{command_of}
-use Rattle.script_read.specs.declared.asked.Command.{Command}
-use Rattle.script_read.specs.declared.fault.CommandFault.{CommandFault}
-use Rattle.script_read.specs.declared.fault.CommandFault.TheVariants.{BadJson, BadCommand, NoMemory}
+use Rattle.std.specs.{Prelude.{◌≡◌, ℕ, List, Option, Some, None, Result, Ok, Err, if◌then◌else◌}, Str.{IsUtf8, is_utf8}}
+use Rattle.serde_json.specs.{Data.{Data}, Read.{read}}
+use Rattle.script_read.specs.{Form.{command_of}, declared.{asked.Command.{Command}, fault.CommandFault.{CommandFault, TheVariants.{BadJson, BadCommand}}}}
+use Rattle.script_read.specs.declared.fault.CommandFault.TheVariants.{NoMemory}
 
 -- The line is a text in UTF-8 that `serde_json` reads as this value.
 pub record IsLineReading (line : List ℕ) (d : Data) : Type 0 where

@@ -1,6 +1,5 @@
 -- Lines that ask for nothing.
-use Rattle.std.specs.Prelude.{ℕ, ◌==◌, ◌||◌, Bool, List}
-use Rattle.std.specs.List.{list_all}
+use Rattle.std.specs.{Prelude.{ℕ, ◌==◌, ◌||◌, Bool, List}, List.{list_all}}
 
 -- a space, a tab or a carriage return
 abbrev pub is_blank_byte : ℕ → Bool

@@ -1,14 +1,8 @@
 -- What lines ask for that are objects without arrays, and whose members stand in the order in which the forms name them.
-use Rattle.std.specs.Prelude.{ℕ, List, [], ◌∷◌, Option, codes, option_map, option_and_then}
-use Rattle.std.specs.Ordering.{nat_cmp, match_ordering}
-use Rattle.std.specs.Cmp.Lexicographic.{slice_cmp}
+use Rattle.std.specs.{Prelude.{ℕ, List, [], ◌∷◌, Option, codes, option_map, option_and_then}, Ordering.{nat_cmp, match_ordering}, Cmp.Lexicographic.{slice_cmp}}
 use Rattle.json.specs.Json as json
-use Rattle.serde_json.specs.Data.{no_members}
-use Rattle.serde_json.specs.Read.{of_json, of_members}
-use Rattle.script_read.specs.Given.{given_of, givens}
-use Rattle.script_read.specs.Form.{command_of}
-use Rattle.script_read.specs.declared.asked.Command.{Command}
-use Rattle.script_read.specs.declared.given.Given.{Given}
+use Rattle.serde_json.specs.{Data.{no_members}, Read.{of_json, of_members}}
+use Rattle.script_read.specs.{Given.{given_of, givens}, Form.{command_of}, declared.{asked.Command.{Command}, given.Given.{Given}}}
 
 -- the command that a tree asks for
 unfoldable pub tree_command : json.Json → Option Command

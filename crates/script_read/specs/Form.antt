@@ -1,12 +1,9 @@
 -- Which values are commands.
-use Rattle.std.specs.Prelude.{◌≡◌, ℕ, ℤ, ◌==◌, Bool, false, List, Option, Some, None, if◌then◌else◌, codes}
-use Rattle.std.specs.Str.{bytes_eq}
+use Rattle.std.specs.{Prelude.{◌≡◌, ℕ, ℤ, ◌==◌, Bool, false, List, Option, Some, None, if◌then◌else◌, codes}, Str.{bytes_eq}}
 use Rattle.serde_json.specs.Data.{Data, Members}
-use Rattle.script_read.specs.Given.{givens}
-use Rattle.script_read.specs.Members.{text_member, object_member, whole_member, id_member, count_member, count}
-use Rattle.script_read.specs.declared.asked.Command.{Command}
-use Rattle.script_read.specs.declared.asked.Command.TheVariants.{Change, Fire, Held}
-use Rattle.script_read.specs.declared.asked.Change.TheVariants.{Insert, Modify, Retract, Advance, At, Promise, Begin}
+use Rattle.script_read.specs.{Given.{givens}, Members.{text_member, object_member, whole_member, id_member, count_member, count}}
+use Rattle.script_read.specs.declared.asked.{Command.{Command, TheVariants.{Change, Fire, Held}}, Change.TheVariants.{Insert, Modify, Retract, Advance, At}}
+use Rattle.script_read.specs.declared.asked.Change.TheVariants.{Promise, Begin}
 
 -- The forms, one for each kind of line: an object with exactly the members that are named. Since each name stands once,
 -- an object of n members that has n given names has no other.

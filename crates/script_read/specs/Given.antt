@@ -1,9 +1,7 @@
 -- What a line gives under the names of an object.
 use Rattle.std.specs.Prelude.{ℕ, ℤ, List, [], ◌∷◌, Option, Some, None}
-use Rattle.serde_json.specs.Data.{Data, null, boolean, number, string, array, object, Members, no_members, member}
-use Rattle.serde_json.specs.Find.{as_i64}
-use Rattle.script_read.specs.declared.given.Given.{Given}
-use Rattle.script_read.specs.declared.given.Given.TheVariants.{Int, Bool as Flag, Text, Other}
+use Rattle.serde_json.specs.{Data.{Data, null, boolean, number, string, array, object, Members, no_members, member}, Find.{as_i64}}
+use Rattle.script_read.specs.declared.given.Given.{Given, TheVariants.{Int, Bool as Flag, Text, Other}}
 
 -- a number is given as a whole number where it is one of 64 bits with sign
 abbrev pub whole_given : Option ℤ → Given

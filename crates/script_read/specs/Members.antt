@@ -1,8 +1,6 @@
 -- The members of an object by their names. Each name stands once, and what is no object has no member.
 use Rattle.std.specs.Prelude.{ℕ, suc, ◌^◌, ℤ, pos, List, nat_le, Option, Some, None, option_map, option_and_then, if◌then◌else◌}
-use Rattle.serde_json.specs.Data.{Data, number, Members}
-use Rattle.serde_json.specs.Events.{members_len}
-use Rattle.serde_json.specs.Find.{get, as_str, as_object, as_i64}
+use Rattle.serde_json.specs.{Data.{Data, number, Members}, Events.{members_len}, Find.{get, as_str, as_object, as_i64}}
 
 -- the text under this name
 unfoldable pub text_member : List ℕ → Data → Option (List ℕ)

@@ -1,9 +1,5 @@
 -- What is given for fields, in the byte order of their names.
-use Rattle.std.specs.Prelude.{ℕ, List}
-use Rattle.std.specs.Cmp.Lexicographic.{slice_cmp}
-use Rattle.std.specs.List.Sorted.{IsStrictlySortedBy}
-use Rattle.std.specs.Ordering.{nat_cmp}
-use Rattle.std.specs.declared.cmp.Ordering.{Ordering}
+use Rattle.std.specs.{Prelude.{ℕ, List}, Cmp.Lexicographic.{slice_cmp}, List.Sorted.{IsStrictlySortedBy}, Ordering.{nat_cmp}, declared.cmp.Ordering.{Ordering}}
 use Rattle.script_read.specs.declared.given.Given.{Given}
 
 -- two members, by the bytes of their names

@@ -1,6 +1,5 @@
 -- Why the run of a recorded script stops.
-use Rattle.script_run.proofs.Common.{◌≡◌, ap, Result, Ok, Err}
-use Rattle.script_run.specs.declared.run_fault.RunFault.{RunFault}
+use Rattle.script_run.{proofs.Common.{◌≡◌, ap, Result, Ok, Err}, specs.declared.run_fault.RunFault.{RunFault}}
 
 abbrev pub the_err : {T : Type 0} → RunFault → Result T RunFault
 the_err fault = Err fault

@@ -1,18 +1,13 @@
 -- What changes and firings keep, a run keeps.
 use Rattle.script_run.proofs.Common.{◌≡◌, ◌+◌, ℕ, zero, suc, Bool, true, false, List, [], ◌∷◌, length, nat_lt, Option, Some, None, refl, sym, ap, ◌∙◌}
 use Rattle.script_run.proofs.Common.{if◌then◌else◌, World, OutLine, Firings, all_fired, limit_met, none_left, onto_lines, then_fires, wants_one, one_less}
-use Rattle.script_run.proofs.Common.{RunSetting, RunState, Outcome, LineEffect, goes_on, saves, stops, state_after, step_in, fire_step, command_step, asked_step}
-use Rattle.std.proofs.lemmas.Option.{same_Some}
-use Rattle.script_read.specs.Asked.{Asked, asks, bad_json, bad_command, asked}
-use Rattle.script_read.specs.Blank.{is_line_blank}
-use Rattle.script_read.specs.declared.asked.Change.{Change as ScriptChange}
-use Rattle.script_read.specs.declared.asked.Command.{Command}
-use Rattle.script_read.specs.declared.asked.Command.TheVariants.{Change, Fire, Held}
-use Rattle.script_run.specs.Firings.{firings}
-use Rattle.line_run.specs.Run.{run as run_lines}
-use Rattle.script_run.specs.Run.{run, line_step, at_most, closed, fire_by, is_fire_line, met_step, told_step}
-use Rattle.line_run.proofs.Ahead.{run_goes, run_saves, run_stops}
+use Rattle.script_run.proofs.Common.{RunSetting, RunState, Outcome, LineEffect, goes_on, saves, stops, state_after, step_in, fire_step, command_step}
+use Rattle.script_run.{proofs.Common.{asked_step}, specs.{Firings.{firings}, Run.{run, line_step, at_most, closed, fire_by, is_fire_line, met_step, told_step}}}
 use Rattle.script_run.proofs.Joined.{no_more}
+use Rattle.std.proofs.lemmas.Option.{same_Some}
+use Rattle.script_read.specs.{Asked.{Asked, asks, bad_json, bad_command, asked}, Blank.{is_line_blank}, declared.asked.Change.{Change as ScriptChange}}
+use Rattle.script_read.specs.declared.asked.Command.{Command, TheVariants.{Change, Fire, Held}}
+use Rattle.line_run.{specs.Run.{run as run_lines}, proofs.Ahead.{run_goes, run_saves, run_stops}}
 
 module _ (setting : RunSetting) (Holds : World → Type 0)
     (changes : (w : World) (c : ScriptChange) → Holds w → Holds (setting.gives setting.program w c).1)

@@ -1,16 +1,12 @@
 -- The step of a line, by what the line is, and the line that closes it.
-use Rattle.script_run.proofs.Common.{None, ◌≡◌, ℕ, ◌<◌, ◌≤◌, ◌++◌, true, if◌then◌else◌, List, length, Option, refl, sym, ap, ◌∙◌, append_assoc, subst, World, Goes, Stops, written_fault, Bool, false}
-use Rattle.script_run.proofs.Common.{RunSetting, LineEffect, Saves, goes_on, saves, stops, fault_step, Does}
+use Rattle.script_run.proofs.Common.{None, ◌≡◌, ℕ, ◌<◌, ◌≤◌, ◌++◌, true, if◌then◌else◌, List, length, Option, refl, sym, ap, ◌∙◌, append_assoc, subst, World}
+use Rattle.script_run.proofs.Common.{Goes, Stops, written_fault, Bool, false, RunSetting, LineEffect, Saves, goes_on, saves, stops, fault_step, Does}
+use Rattle.script_run.specs.{declared.{fault.LineCode.TheVariants.{LineLong}, line_read.LineRead.TheVariants.{Blank}}, Reads.{fires_read, line_read}}
+use Rattle.script_run.specs.{Reads.{read_asked, read_step}, Run.{asked_step, blank_step, closed, end_text, fired_of, fires_asked, is_fire_line, line_step}}
+use Rattle.script_run.specs.{Run.{met_lines, met_step, told_step}, Live.{LiveSetting, live_line, question_in, told_or_asked}, Turns.{Closes}}
 use Rattle.std.proofs.lemmas.Bool.{le-ltb, lt-ltb}
 use Rattle.line_run.specs.declared.turn.Turn.{Turn}
-use Rattle.script_run.specs.declared.fault.LineCode.TheVariants.{LineLong}
-use Rattle.script_read.specs.Asked.{Asked, asks, bad_json, bad_command, asked}
-use Rattle.script_read.specs.Blank.{is_line_blank}
-use Rattle.script_run.specs.declared.line_read.LineRead.TheVariants.{Blank}
-use Rattle.script_run.specs.Reads.{fires_read, line_read, read_asked, read_step}
-use Rattle.script_run.specs.Run.{asked_step, blank_step, closed, end_text, fired_of, fires_asked, is_fire_line, line_step, met_lines, met_step, told_step}
-use Rattle.script_run.specs.Live.{LiveSetting, live_line, question_in, told_or_asked}
-use Rattle.script_run.specs.Turns.{Closes}
+use Rattle.script_read.specs.{Asked.{Asked, asks, bad_json, bad_command, asked}, Blank.{is_line_blank}}
 
 too_long : (setting : RunSetting) (number left : ℕ) (w : World) (line : List ℕ) → 65536 < length line → told_step setting number left w line ≡ fault_step setting.form number left w LineLong
 too_long setting number left w line h = rw (lt-ltb 65536 (length line) h) refl

@@ -1,7 +1,6 @@
 -- The parts of what takes the lines of a live script, as other crates name them.
 use Rattle.std.specs.Prelude.{ℕ, Option}
-use Rattle.script_run.specs.declared.form.Form.{Form}
-use Rattle.script_run.specs.declared.live.LiveLines.{LiveLines}
+use Rattle.script_run.specs.declared.{form.Form.{Form}, live.LiveLines.{LiveLines}}
 
 -- the engine that obeys them
 abbrev pub engine_of : {E : Type 0} → LiveLines E → E

@@ -1,7 +1,6 @@
 -- What a fire command does, for an engine of these meanings, when the run has so many firings left.
 use Rattle.std.specs.Prelude.{ℕ, zero, suc, pred, Bool, true, nat_lt, List, [], ◌++◌, Option, Some, None, option_map, if◌then◌else◌}
-use Rattle.rule_model.specs.declared.life.LifeTable.{LifeTable}
-use Rattle.rule_model.specs.declared.program.Program.{Program}
+use Rattle.rule_model.specs.declared.{life.LifeTable.{LifeTable}, program.Program.{Program}}
 use Rattle.rule_world.specs.Worlds.{World}
 use Rattle.script_read.specs.declared.asked.Change.{Change}
 use Rattle.answer_lines.specs.declared.lines.OutLine.{OutLine}

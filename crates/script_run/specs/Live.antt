@@ -1,29 +1,17 @@
 -- A live run: a limit for each fire command, and none that it could meet in all; besides the commands of every script, lines that ask to save and
 -- what is kept.
-use Rattle.std.specs.Prelude.{ℕ, ◌+◌, ◌-◌, ◌^◌, ◌==◌, Bool, false, List, length, nat_lt, Option, Some, None, if◌then◌else◌}
-use Rattle.std.specs.List.{filter}
+use Rattle.std.specs.{Prelude.{ℕ, ◌+◌, ◌-◌, ◌^◌, ◌==◌, Bool, false, List, length, nat_lt, Option, Some, None, if◌then◌else◌}, List.{filter}}
 use Rattle.fx_base.specs.declared.fact.Fact.{Fact}
-use Rattle.rule_model.specs.declared.life.LifeTable.{LifeTable}
-use Rattle.rule_model.specs.declared.program.Program.{Program}
-use Rattle.rule_model.specs.declared.program.TypeInfo.{TypeInfo}
-use Rattle.rule_world.specs.declared.code.Code.TheVariants.{UnknownType}
-use Rattle.rule_world.specs.Worlds.{World}
-use Rattle.engine.specs.KeptFacts.{kept_by_tag}
-use Rattle.engine.specs.declared.world_counts.WorldCounts.{WorldCounts}
-use Rattle.engine.specs.WorldCounts.{world_counts}
+use Rattle.rule_model.specs.declared.{life.LifeTable.{LifeTable}, program.{Program.{Program}, TypeInfo.{TypeInfo}}}
+use Rattle.rule_world.specs.{declared.code.Code.TheVariants.{UnknownType}, Worlds.{World}}
+use Rattle.engine.specs.{KeptFacts.{kept_by_tag}, declared.world_counts.WorldCounts.{WorldCounts}, WorldCounts.{world_counts}}
 use Rattle.change_read.specs.Changes.{type_named}
-use Rattle.script_read.specs.Asked.{Asked, asks, bad_json, bad_command, asked}
-use Rattle.script_read.specs.Blank.{is_line_blank}
-use Rattle.desk_read.specs.declared.asked.Question.{Question}
-use Rattle.desk_read.specs.declared.asked.Question.TheVariants.{Save, Facts, Counts}
-use Rattle.desk_read.specs.Questions.{question_of}
+use Rattle.script_read.specs.{Asked.{Asked, asks, bad_json, bad_command, asked}, Blank.{is_line_blank}}
+use Rattle.desk_read.specs.{declared.asked.Question.{Question, TheVariants.{Save, Facts, Counts}}, Questions.{question_of}}
 use Rattle.answer_json.specs.declared.counted.Counted.{Counted}
 use Rattle.line_run.specs.Run.{LineEffect, Outcome, RunState, goes_on, saves, run as run_lines, saved_states}
-use Rattle.script_run.specs.declared.fault.LineCode.TheVariants.{BadCommand, Refused}
-use Rattle.script_run.specs.declared.form.Form.{Form}
-use Rattle.script_run.specs.Firings.{Gives, Fires, Counts as CountsOf}
-use Rattle.script_run.specs.Run.{RunSetting, setting_with, closed, fault_step, is_fire_line, told_step}
-use Rattle.script_run.specs.Written.{written_saved, written_kept, written_counts}
+use Rattle.script_run.specs.{declared.{fault.LineCode.TheVariants.{BadCommand, Refused}, form.Form.{Form}}, Firings.{Gives, Fires, Counts as CountsOf}}
+use Rattle.script_run.specs.{Run.{RunSetting, setting_with, closed, fault_step, is_fire_line, told_step}, Written.{written_saved, written_kept, written_counts}}
 
 -- of all firings of a run, and of all bytes of a script
 abbrev pub most_firings : ℕ

@@ -2,8 +2,7 @@
 use Rattle.std.specs.Prelude.{ℕ, List}
 use Rattle.checkpoint.specs.declared.image.RunPart.{RunPart}
 use Rattle.rule_world.specs.Worlds.{World}
-use Rattle.line_run.specs.Parts.{progress_behind}
-use Rattle.line_run.specs.Run.{Outcome, state_in}
+use Rattle.line_run.specs.{Parts.{progress_behind}, Run.{Outcome, state_in}}
 use Rattle.script_run.specs.Run.{RunSetting, run}
 
 -- the lines behind a part, in a world

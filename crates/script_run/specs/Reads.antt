@@ -1,13 +1,11 @@
 -- What a line that is not too long reads as.
 use Rattle.std.specs.Prelude.{ℕ, Bool, false, List, if◌then◌else◌}
 use Rattle.rule_world.specs.Worlds.{World}
-use Rattle.script_read.specs.Asked.{Asked, asks, bad_json, bad_command, asked}
-use Rattle.script_read.specs.Blank.{is_line_blank}
+use Rattle.script_read.specs.{Asked.{Asked, asks, bad_json, bad_command, asked}, Blank.{is_line_blank}}
 use Rattle.script_run.specs.declared.fault.LineCode.TheVariants as code
-use Rattle.script_run.specs.declared.line_read.LineRead.{LineRead}
-use Rattle.script_run.specs.declared.line_read.LineRead.TheVariants.{Blank, Asks, BadJson, BadCommand}
+use Rattle.script_run.specs.{declared.line_read.LineRead.{LineRead, TheVariants.{Blank, Asks, BadJson, BadCommand}}, Run.{RunSetting, blank_step, command_step}}
+use Rattle.script_run.specs.Run.{fault_step, fires_command}
 use Rattle.line_run.specs.Run.{LineEffect}
-use Rattle.script_run.specs.Run.{RunSetting, blank_step, command_step, fault_step, fires_command}
 
 abbrev pub read_asked : Asked → LineRead
 read_asked (asks command) = Asks command

@@ -1,21 +1,14 @@
 -- The run of a script over a program by an engine of these meanings: what its lines print, and how it ends.
 use Rattle.std.specs.Prelude.{ℕ, ◌+◌, ◌-◌, ◌++◌, ◌&&◌, Bool, true, false, List, [], length, nat_lt, Option, Some, None, is_some, if◌then◌else◌}
-use Rattle.rule_model.specs.declared.life.LifeTable.{LifeTable}
-use Rattle.rule_model.specs.declared.program.Program.{Program}
+use Rattle.rule_model.specs.declared.{life.LifeTable.{LifeTable}, program.Program.{Program}}
 use Rattle.rule_world.specs.Worlds.{World, empty_world}
-use Rattle.script_read.specs.declared.asked.Command.{Command}
-use Rattle.script_read.specs.declared.asked.Command.TheVariants.{Change, Fire, Held}
-use Rattle.script_read.specs.Asked.{Asked, asks, bad_json, bad_command, asked}
+use Rattle.script_read.specs.{declared.asked.Command.{Command, TheVariants.{Change, Fire, Held}}, Asked.{Asked, asks, bad_json, bad_command, asked}}
 use Rattle.script_read.specs.Blank.{is_line_blank}
 use Rattle.answer_lines.specs.declared.lines.OutLine.{OutLine}
-use Rattle.script_run.specs.declared.fault.LineCode.{LineCode}
-use Rattle.script_run.specs.declared.fault.LineCode.TheVariants.{LineLong, BadJson, BadCommand}
+use Rattle.script_run.specs.declared.{fault.LineCode.{LineCode, TheVariants.{LineLong, BadJson, BadCommand}}, form.Form.{Form, TheVariants.{Text}}}
+use Rattle.script_run.specs.{Texts.{has_fault}, Written.{written_lines, written_fault, written_limit, written_met, written_done, written_held}, Firings.{Gives}}
+use Rattle.script_run.specs.Firings.{Fires, Counts, Numbers, Firings, all_fired, limit_met, firings}
 use Rattle.line_run.specs.Run.{LineEffect, goes_on, saves, stops, Outcome, RunState, state_in, run as run_lines}
-use Rattle.script_run.specs.declared.form.Form.{Form}
-use Rattle.script_run.specs.declared.form.Form.TheVariants.{Text}
-use Rattle.script_run.specs.Texts.{has_fault}
-use Rattle.script_run.specs.Written.{written_lines, written_fault, written_limit, written_met, written_done, written_held}
-use Rattle.script_run.specs.Firings.{Gives, Fires, Counts, Numbers, Firings, all_fired, limit_met, firings}
 
 -- What does not change in a run: the meanings of changes and firings, the numbers of kept events, the limit of all firings, the form of what
 -- is printed, and the program. A live run has a limit for each fire command too, and closes each line of the script by a line of its own.

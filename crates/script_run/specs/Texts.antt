@@ -1,15 +1,9 @@
 -- The lines that a run prints, each ended by a line end.
-use Rattle.std.specs.Prelude.{ℕ, ◌++◌, ◌==◌, Bool, true, false, List, [], ◌∷◌, slice_get, Option, Some, None, if◌then◌else◌, codes}
-use Rattle.std.specs.Fmt.{decimal, signed_decimal}
-use Rattle.std.specs.List.{flat_map, list_any}
-use Rattle.fx_base.specs.declared.ids.FactId.{FactId}
-use Rattle.fx_base.specs.declared.ids.TypeId.{TypeId}
-use Rattle.rule_model.specs.declared.program.Program.{Program}
-use Rattle.rule_model.specs.declared.program.TypeInfo.{TypeInfo}
-use Rattle.rule_model.specs.declared.program.Rule.{Rule}
-use Rattle.answer_lines.specs.declared.lines.OutLine.{OutLine}
-use Rattle.answer_lines.specs.declared.lines.OutLine.TheVariants.{New, Fire, Fault, Inserted, Modified, Retracted, FiredFor}
-use Rattle.answer_lines.specs.declared.lines.Cell.{Cell}
+use Rattle.std.specs.{Prelude.{ℕ, ◌++◌, ◌==◌, Bool, true, false, List, [], ◌∷◌, slice_get, Option, Some, None, if◌then◌else◌, codes}, Fmt.{decimal}}
+use Rattle.std.specs.{Fmt.{signed_decimal}, List.{flat_map, list_any}}
+use Rattle.fx_base.specs.declared.ids.{FactId.{FactId}, TypeId.{TypeId}}
+use Rattle.rule_model.specs.declared.program.{Program.{Program}, TypeInfo.{TypeInfo}, Rule.{Rule}}
+use Rattle.answer_lines.specs.declared.lines.{OutLine.{OutLine, TheVariants.{New, Fire, Fault, Inserted, Modified, Retracted, FiredFor}}, Cell.{Cell}}
 use Rattle.rule_world.specs.CodeNames.{code_name}
 use Rattle.script_run.specs.declared.fault.LineCode.{LineCode}
 use Rattle.answer_lines.specs.declared.lines.Cell.TheVariants as cell

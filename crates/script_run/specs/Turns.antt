@@ -2,14 +2,9 @@
 use Rattle.std.specs.Prelude.{◌≡◌, ◌<◌, ◌≤◌, ◌+◌, ◌*◌, ◌^◌, ℕ, ◌++◌, Bool, List, Option, Some, None, Result, Ok, Err}
 use Rattle.rule_world.specs.Worlds.{World}
 use Rattle.answer_lines.specs.declared.lines.OutLine.{OutLine}
-use Rattle.script_run.specs.declared.run_fault.RunFault.{RunFault}
-use Rattle.script_run.specs.declared.run_fault.RunFault.TheVariants.{ReadFault, WriteFault, NoMemory, ScriptLong}
-use Rattle.line_run.specs.declared.turn.Progress.{Progress}
-use Rattle.line_run.specs.declared.turn.Turn.{Turn}
-use Rattle.line_run.specs.declared.turn.Turn.TheVariants.{Goes, Saves, Stops}
-use Rattle.line_run.specs.declared.turn.Ended.{Ended}
-use Rattle.line_run.specs.Turns.{AtEnd, ended_as}
-use Rattle.script_run.specs.Run.{RunSetting, end_text, fired_of}
+use Rattle.script_run.specs.{declared.run_fault.RunFault.{RunFault, TheVariants.{ReadFault, WriteFault, NoMemory, ScriptLong}}, Run.{RunSetting, end_text}}
+use Rattle.script_run.specs.Run.{fired_of}
+use Rattle.line_run.specs.{declared.turn.{Progress.{Progress}, Turn.{Turn, TheVariants.{Goes, Saves, Stops}}, Ended.{Ended}}, Turns.{AtEnd, ended_as}}
 
 -- no firing is left: the limit is met where a match is pending, which this tells
 abbrev pub EndsFirings : List ℕ → Option (List OutLine × World) → Bool → List ℕ → List ℕ → Turn → Type 0

@@ -1,17 +1,12 @@
 -- What a run prints, by the form of its answers: lines of text, or objects in JSON, one to a line.
-use Rattle.std.specs.Prelude.{ℕ, ◌++◌, Bool, List, [], ◌∷◌, Option, Some, None, if◌then◌else◌}
-use Rattle.std.specs.List.{flat_map}
+use Rattle.std.specs.{Prelude.{ℕ, ◌++◌, Bool, List, [], ◌∷◌, Option, Some, None, if◌then◌else◌}, List.{flat_map}}
 use Rattle.fx_base.specs.declared.fact.Fact.{Fact}
-use Rattle.rule_model.specs.declared.program.Program.{Program}
-use Rattle.rule_model.specs.declared.program.TypeInfo.{TypeInfo}
+use Rattle.rule_model.specs.declared.program.{Program.{Program}, TypeInfo.{TypeInfo}}
 use Rattle.answer_lines.specs.declared.lines.OutLine.{OutLine}
 use Rattle.answer_json.specs.Answers.{line_data, fault_data, limit_data, held_data, saved_data, kept_data, done_data, fired_data, counts_data}
-use Rattle.answer_json.specs.Objects.{json_line}
-use Rattle.answer_json.specs.declared.counted.Counted.{Counted}
-use Rattle.script_run.specs.declared.fault.LineCode.{LineCode}
-use Rattle.script_run.specs.declared.form.Form.{Form}
-use Rattle.script_run.specs.declared.form.Form.TheVariants.{Text, Objects}
-use Rattle.script_run.specs.Texts.{code_text, done_text, fact_text, fault_text, held_line, limit_text, line_text, met_text, saved_text}
+use Rattle.answer_json.specs.{Objects.{json_line}, declared.counted.Counted.{Counted}}
+use Rattle.script_run.specs.{declared.{fault.LineCode.{LineCode}, form.Form.{Form, TheVariants.{Text, Objects}}}, Texts.{code_text, done_text, fact_text}}
+use Rattle.script_run.specs.Texts.{fault_text, held_line, limit_text, line_text, met_text, saved_text}
 
 -- a line that a line of the script with this number gives
 abbrev pub written_line : Form → Program → ℕ → OutLine → List ℕ

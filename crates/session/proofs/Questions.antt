@@ -1,31 +1,16 @@
 -- What a session is asked for is what each world has for which it stands.
-use Rattle.session.proofs.Common.{◌≡◌, ◌∙◌, ap, sym, ℕ, ℤ, List, [], ◌∷◌, length, nat_cmp, Fact, TypeId, facts_of}
-use Rattle.session.proofs.Common.{World, Memory, Setting, Contents, Runs, Standing, AreCounts, reached_of, Reached}
-use Rattle.std.proofs.Common.{map}
-use Rattle.std.proofs.lemmas.Simd.{map-map}
-use Rattle.std.specs.List.{AllByRecursion, range_with_len}
-use Rattle.std.specs.List.Sorted.{IsStrictlySortedBy}
+use Rattle.session.proofs.Common.{◌≡◌, ◌∙◌, ap, sym, ℕ, ℤ, List, [], ◌∷◌, length, nat_cmp, Fact, TypeId, facts_of, World, Memory, Setting, Contents, Runs}
+use Rattle.session.{proofs.Common.{Standing, AreCounts, reached_of, Reached}, specs.Inspected.{IsCounted, all_floors, all_types, type_at}}
+use Rattle.std.{proofs.{Common.{map}, lemmas.Simd.{map-map}}, specs.List.{AllByRecursion, range_with_len, Sorted.{IsStrictlySortedBy}}}
 use Rattle.std.specs.declared.cmp.Ordering.TheVariants.{Less}
 use Rattle.fact_store.proofs.Members.{from_list, from_map, tags_rise}
-use Rattle.rule_model.specs.Distinct.{tag_cmp}
-use Rattle.rule_model.specs.Matches.{fire_cmp}
-use Rattle.rule_model.specs.MatchOrders.{fire_total}
-use Rattle.rule_model.specs.Snapshots.{floor, floor_by}
-use Rattle.rule_model.specs.Types.{lateness_of}
-use Rattle.rule_model.proofs.Once.{marked_once_filter}
-use Rattle.rule_model.proofs.Order.{Same, same_length}
-use Rattle.rule_model.proofs.RuleOf.{in_has, has_in}
-use Rattle.rule_model.proofs.Sorted.{sorted_once, sorted_same, tag_total}
+use Rattle.rule_model.specs.{Distinct.{tag_cmp}, Matches.{fire_cmp}, MatchOrders.{fire_total}, Snapshots.{floor, floor_by}, Types.{lateness_of}}
+use Rattle.rule_model.proofs.{Once.{marked_once_filter}, Order.{Same, same_length}, RuleOf.{in_has, has_in}, Sorted.{sorted_once, sorted_same, tag_total}}
 use Rattle.rule_world.specs.Worlds.{pending}
 use Rattle.kept_meaning.specs.Kept.{is_kept, kept_facts}
-use Rattle.engine.specs.WorldCounts.{count_of_type, kept_counts, floors, pending_count, world_counts}
-use Rattle.engine.specs.KeptFacts.{kept_by_tag}
-use Rattle.engine.specs.declared.world_counts.WorldCounts.{WorldCounts}
-use Rattle.engine.proofs.Kept.{kept_sorted, kept_members}
-use Rattle.engine.proofs.Pending.{pending_once}
-use Rattle.session_laws.proofs.Members.{Holds}
-use Rattle.session_laws.proofs.Tallied.{all_counted, holds_kept}
-use Rattle.session.specs.Inspected.{IsCounted, all_floors, all_types, type_at}
+use Rattle.engine.specs.{WorldCounts.{count_of_type, kept_counts, floors, pending_count, world_counts}, KeptFacts.{kept_by_tag}}
+use Rattle.engine.{specs.declared.world_counts.WorldCounts.{WorldCounts}, proofs.{Kept.{kept_sorted, kept_members}, Pending.{pending_once}}}
+use Rattle.session_laws.proofs.{Members.{Holds}, Tallied.{all_counted, holds_kept}}
 
 -- ---- the order of tags
 

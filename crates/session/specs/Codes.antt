@@ -1,8 +1,6 @@
 -- How the facts and the timers of a session are stored.
-use Rattle.std.specs.Prelude.{ℕ, ℤ, List, refl}
-use Rattle.std.specs.Coded.{Coded, code_by, coded_list, coded_ℕ, coded_ℤ, coded×}
-use Rattle.fx_base.specs.declared.value.Value.{Value}
-use Rattle.fx_base.specs.declared.fact.Fact.{Fact}
+use Rattle.std.specs.{Prelude.{ℕ, ℤ, List, refl}, Coded.{Coded, code_by, coded_list, coded_ℕ, coded_ℤ, coded×}}
+use Rattle.fx_base.specs.declared.{value.Value.{Value}, fact.Fact.{Fact}}
 use Rattle.fact_store.specs.Held.{HeldFacts}
 use Rattle.due_queue.specs.Timers.{Timers}
 use Rattle.rule_model.specs.ExpressionCode.{value_code}

@@ -1,17 +1,12 @@
 -- What a session holds, in the words of the definition of what is kept.
 use Rattle.std.specs.Prelude.{◌≡◌, ◌↔◌, ◌+ℤ◌, ◌<ℤ◌, ℤ, true, Some, slice_get}
 use Rattle.std.specs.FinMap as map
-use Rattle.fx_base.specs.Lists.{In}
-use Rattle.fx_base.specs.declared.fact.Fact.{Fact}
-use Rattle.rule_model.specs.declared.life.Life.TheVariants.{Finite}
-use Rattle.rule_model.specs.declared.matched.Match.{Match}
-use Rattle.rule_model.specs.Matches.{has_match}
-use Rattle.rule_model.specs.Tuples.{name_of}
+use Rattle.fx_base.specs.{Lists.{In}, declared.fact.Fact.{Fact}}
+use Rattle.rule_model.specs.{declared.{life.Life.TheVariants.{Finite}, matched.Match.{Match}}, Matches.{has_match}, Tuples.{name_of}}
 use Rattle.rule_world.specs.Worlds.{World, pending}
 use Rattle.life_meaning.specs.Tables.{IsKept}
 use Rattle.session_laws.specs.Standing.{Runs}
-use Rattle.session.specs.declared.session.Session.{Session}
-use Rattle.session.specs.Sessions.{SessionStands}
+use Rattle.session.specs.{declared.session.Session.{Session}, Sessions.{SessionStands}}
 
 -- Of each world for which a session stands its store has exactly what is kept, by the table that it was made with.
 abbrev pub HoldsWhatIsKept : Type 0

@@ -1,14 +1,9 @@
 -- What a session counts, by what it keeps.
-use Rattle.std.specs.Prelude.{◌≡◌, ℕ, ℤ, List, map, length}
-use Rattle.std.specs.List.{range_with_len}
+use Rattle.std.specs.{Prelude.{◌≡◌, ℕ, ℤ, List, map, length}, List.{range_with_len, Sorted.{IsStrictlySortedBy}}}
 use Rattle.fx_base.specs.declared.ids.TypeId.{TypeId}
 use Rattle.engine.specs.declared.world_counts.WorldCounts.{WorldCounts}
-use Rattle.rule_model.specs.declared.program.Program.{Program}
-use Rattle.rule_model.specs.Matches.{fire_cmp}
-use Rattle.session_laws.specs.Counts.{AreCounts}
-use Rattle.session_laws.specs.Places.{floor_in}
-use Rattle.session_laws.specs.Standing.{Contents}
-use Rattle.std.specs.List.Sorted.{IsStrictlySortedBy}
+use Rattle.rule_model.specs.{declared.program.Program.{Program}, Matches.{fire_cmp}}
+use Rattle.session_laws.specs.{Counts.{AreCounts}, Places.{floor_in}, Standing.{Contents}}
 
 abbrev pub type_at : ℕ → TypeId
 type_at place = record { 0 = place }

@@ -2,8 +2,7 @@
 use Rattle.std.specs.Prelude.{◌≡◌}
 use Rattle.rule_world.specs.Worlds.{World}
 use Rattle.answer_lines.specs.declared.lines.Detail.TheVariants.{Brief, Full}
-use Rattle.session.specs.declared.session.Session.{Session}
-use Rattle.session.specs.declared.detailed.DetailedSession.{DetailedSession}
+use Rattle.session.specs.declared.{session.Session.{Session}, detailed.DetailedSession.{DetailedSession}}
 use Rattle.session_laws.specs.Standing.{Standing}
 
 abbrev pub SessionStands : Session → World → Type 0

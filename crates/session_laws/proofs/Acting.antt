@@ -3,12 +3,9 @@ use Rattle.session_laws.proofs.Common.{◌≡◌, inl, inr, not, true, List, [],
 use Rattle.session_laws.proofs.Common.{Rule, Step, HaveDistinctTags, IsLawful, Holds, bound_in, matches, has_match, step_of, IsRunnable, In, rows, World}
 use Rattle.session_laws.proofs.Common.{only_present, present, snapshot, pending, first_pending, marked, steps_fit, found_fits, kept_lawful, kept_rows}
 use Rattle.session_laws.proofs.Common.{firing_lawful, of_map, has_pending, first_is_pending, IsMatchOf, rule_of, in_place, same_stays, OutLine, version_of}
-use Rattle.session_laws.proofs.Common.{Detail, step_or_overflow, wanted, actions_of, fires_match, fires_with, AllFit}
-use Rattle.std.proofs.lemmas.Bool.{and_parts}
-use Rattle.std.specs.Prelude.{Ok, slice_get}
-use Rattle.session_laws.proofs.Doing.{all_lawful}
-use Rattle.session_laws.proofs.Members.{version_in}
-use Rattle.session_laws.specs.Gives.{fires_in}
+use Rattle.session_laws.proofs.{Common.{Detail, step_or_overflow, wanted, actions_of, fires_match, fires_with, AllFit}, Doing.{all_lawful}}
+use Rattle.session_laws.{proofs.Members.{version_in}, specs.Gives.{fires_in}}
+use Rattle.std.{proofs.lemmas.Bool.{and_parts}, specs.Prelude.{Ok, slice_get}}
 
 -- ---- the versions with the tags
 

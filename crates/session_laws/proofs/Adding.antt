@@ -3,11 +3,9 @@ use Rattle.session_laws.proofs.Common.{◌≡◌, ◌∙◌, ◌==◌, ◌&&◌,
 use Rattle.session_laws.proofs.Common.{length, refl, sym, ap, subst, arith, eq_by_cmp, map-append, take_more, list_any-append, In, Row, row_cmp, has}
 use Rattle.session_laws.proofs.Common.{same_equiv, FiredMatch, Match, has_match, match_cmp, match_equiv, Marks, IsChanged, match_fired, RuleChange, comes_by}
 use Rattle.session_laws.proofs.Common.{has_marked, NoneGo, AreMarking}
-use Rattle.std.proofs.Math.Bool.{or-false, or_assoc}
-use Rattle.std.proofs.Common.{take, map as list_map}
+use Rattle.std.proofs.{Math.Bool.{or-false, or_assoc}, Common.{take, map as list_map}}
 use Rattle.agenda.proofs.Steps.{fired_put, parts}
-use Rattle.fx_base.proofs.Sequences.{In-append}
-use Rattle.fx_base.proofs.Tests.{and_not_not, or_and_join}
+use Rattle.fx_base.proofs.{Sequences.{In-append}, Tests.{and_not_not, or_and_join}}
 
 -- ---- matches in a set
 

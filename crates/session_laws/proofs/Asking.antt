@@ -2,14 +2,12 @@
 use Rattle.session_laws.proofs.Common.{◌≡◌, ℕ, Bool, true, false, List, Option, Some, None, Result, Err, refl, ◌∙◌, ap, subst, Fact, FactId, Program, TypeInfo}
 use Rattle.session_laws.proofs.Common.{Step, is_event, is_event_type, Code, EventFixed, ReferenceFixed, Absent, sets_fit, IsLawful, IsOrdered, IsRunnable}
 use Rattle.session_laws.proofs.Common.{event_by, found_fits, World, found, is_of_type, Change, Given, entry_asked, fields_step, insert_step, modify_step}
-use Rattle.session_laws.proofs.Common.{Detail, type_named, asked_fits, stands, type_stands, Memory, Setting, FitsWorld, IsOfPlain, newest, Contents, Runs, Standing}
+use Rattle.session_laws.proofs.Common.{Detail, type_named, asked_fits, stands, type_stands, Memory, Setting, FitsWorld, IsOfPlain, newest, Contents, Runs}
+use Rattle.session_laws.{proofs.{Common.{Standing}, Doing.{does_lawful, plain_fit}, Looking.{same_of_type}}, specs.Gives.{gives_in}}
 use Rattle.std.specs.Prelude.{if◌then◌else◌}
 use Rattle.rule_world.specs.Kinds.{step_fits}
 use Rattle.script_read.specs.declared.asked.Change.TheVariants.{Insert, Modify, Retract, Advance, At, Promise, Begin}
 use Rattle.change_read.specs.Changes.{change_step}
-use Rattle.session_laws.specs.Gives.{gives_in}
-use Rattle.session_laws.proofs.Doing.{does_lawful, plain_fit}
-use Rattle.session_laws.proofs.Looking.{same_of_type}
 use Rattle.rule_model.specs.declared.step.Step.TheVariants as step
 
 -- ---- what is asked for

@@ -1,14 +1,9 @@
 -- A session whose world has begun awaits the second phase of the step: nothing else has changed.
 use Rattle.session_laws.proofs.Common.{◌≡◌, ℕ, Bool, true, List, None, inl, refl, sym, subst, facts_of, Row, Program, Rule, Begin, IsLawful, World}
 use Rattle.session_laws.proofs.Common.{only_present, clean_rows, Memory, Setting, over, Contents, Awaits, Mirrors, Runs, Standing, with_facts, reached_of}
+use Rattle.session_laws.proofs.{Exactly.{after_begin}, Moving_on.{covered_at, on_time}, Passing.{none_left}, Rules.{not_refreshed}, Stands.{contents}}
+use Rattle.session_laws.proofs.{Still.{none_out}, Taken.{taken_awaits}}
 use Rattle.rule_world.specs.Worlds.{step_fault, stepped, moved}
-use Rattle.session_laws.proofs.Exactly.{after_begin}
-use Rattle.session_laws.proofs.Moving_on.{covered_at, on_time}
-use Rattle.session_laws.proofs.Passing.{none_left}
-use Rattle.session_laws.proofs.Rules.{not_refreshed}
-use Rattle.session_laws.proofs.Stands.{contents}
-use Rattle.session_laws.proofs.Still.{none_out}
-use Rattle.session_laws.proofs.Taken.{taken_awaits}
 use Rattle.std.specs.FinMap as map
 
 module _ (s : Setting) (m : Memory) (k : Contents) (w : World) (st : Standing s m k w) (runs : Runs s) (none : step_fault s.program w Begin ≡ None) (lawful : IsLawful s.program (stepped s.program w Begin)) where

@@ -4,13 +4,10 @@ use Rattle.session_laws.proofs.Common.{Option, Some, None, arith, list_any, In, 
 use Rattle.session_laws.proofs.Common.{Snapshot, name_of, of_filter, is_present, World, only_present, present, snapshot, below_of, kept_matches, clean}
 use Rattle.session_laws.proofs.Common.{clean_rows, has_clean, Lives, TagWorld, ends_by, each_tag, is_kept_tag, is_clean, fact_at, sight_of, clean_is, fact_in}
 use Rattle.session_laws.proofs.Common.{own_at, named_present, sight_law, Memory, Setting, over, matches_by, Contents, Standing, Whole, with_facts, reached_of}
+use Rattle.session_laws.proofs.{Alike.{same_matches}, Exactly.{Exact, exact}, Members.{Holds, all_listed, held_distinct, listed, own_tags}, Newest.{holds}}
+use Rattle.session_laws.proofs.Rules.{found_at, is_found}
 use Rattle.std.specs.Prelude.{is_some}
 use Rattle.forgetting.specs.Sights.{is_forgotten_tag}
-use Rattle.session_laws.proofs.Alike.{same_matches}
-use Rattle.session_laws.proofs.Exactly.{Exact, exact}
-use Rattle.session_laws.proofs.Members.{Holds, all_listed, held_distinct, listed, own_tags}
-use Rattle.session_laws.proofs.Newest.{holds}
-use Rattle.session_laws.proofs.Rules.{found_at, is_found}
 use Rattle.std.specs.FinMap as map
 
 -- ---- matches

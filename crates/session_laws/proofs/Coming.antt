@@ -3,11 +3,7 @@ use Rattle.session_laws.proofs.Common.{◌≡◌, ◌∙◌, ◌==◌, ◌&&◌,
 use Rattle.session_laws.proofs.Common.{subst, arith, AllByRecursion, nat_cmp, Less, nat_tests, In, Image, Delta, has, Match, Program, Rule, snapshot_of}
 use Rattle.session_laws.proofs.Common.{RuleChange, AreLadenRows, coming, change_of, Marks, FiredMatch, comes_by, has_marked, laden_by, is_laden, AreMarked}
 use Rattle.session_laws.proofs.Common.{NoneGo}
-use Rattle.std.proofs.lemmas.Bool.{eqb-true}
-use Rattle.std.proofs.Math.Bool.{or-false}
-use Rattle.std.proofs.Common.{map as list_map}
-use Rattle.std.specs.Prelude.{slice_get}
-use Rattle.std.specs.List.Sorted.{IsStrictlySortedBy}
+use Rattle.std.{proofs.{lemmas.Bool.{eqb-true}, Math.Bool.{or-false}, Common.{map as list_map}}, specs.{Prelude.{slice_get}, List.Sorted.{IsStrictlySortedBy}}}
 use Rattle.fx_base.proofs.Orders.{eqb-self}
 
 abbrev rules_of : List RuleChange → List ℕ

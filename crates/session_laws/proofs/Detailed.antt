@@ -1,17 +1,14 @@
 -- What lines in full say in brief are the lines in brief, and the worlds are the same.
-use Rattle.session_laws.proofs.Common.{◌≡◌, ◌∙◌, ◌++◌, inl, inr, not, true, List, [], ◌∷◌, map, filter_map, cons_option, Option, Some, None, option_map, Result, Ok, Err}
-use Rattle.session_laws.proofs.Common.{refl, sym, ap, Fact, Named, Tag, HaveDistinctTags, Code, Match, Program, Step, Insert, Modify, Retract, Advance, At}
-use Rattle.session_laws.proofs.Common.{Promise, Begin, IsLawful, In, has_match, matches, has_pending, snapshot, World, found, present, pending, first_pending}
-use Rattle.session_laws.proofs.Common.{first_is_pending, kept_lawful, marked, stepped, step_fault, named_present, Change, Detail, OutLine, does, tries_with, step_lines}
-use Rattle.session_laws.proofs.Common.{fires_match, fires_with, wanted, actions_of, version_of, change_step, slice_get}
-use Rattle.std.proofs.lemmas.Bool.{and_parts}
-use Rattle.std.proofs.lemmas.List.Concat.{flat_map-append}
-use Rattle.std.specs.List.{flat_map}
+use Rattle.session_laws.proofs.Common.{◌≡◌, ◌∙◌, ◌++◌, inl, inr, not, true, List, [], ◌∷◌, map, filter_map, cons_option, Option, Some, None, option_map, Result}
+use Rattle.session_laws.proofs.Common.{Ok, Err, refl, sym, ap, Fact, Named, Tag, HaveDistinctTags, Code, Match, Program, Step, Insert, Modify, Retract, Advance}
+use Rattle.session_laws.proofs.Common.{At, Promise, Begin, IsLawful, In, has_match, matches, has_pending, snapshot, World, found, present, pending}
+use Rattle.session_laws.proofs.Common.{first_pending, first_is_pending, kept_lawful, marked, stepped, step_fault, named_present, Change, Detail, OutLine, does}
+use Rattle.session_laws.proofs.Common.{tries_with, step_lines, fires_match, fires_with, wanted, actions_of, version_of, change_step, slice_get}
+use Rattle.session_laws.specs.Gives.{brief_of, cells, conditions_of, does_all, fire_line, fires_in, gives_in, in_brief, modified_lines, revision, seen}
+use Rattle.session_laws.{specs.Gives.{then_does}, proofs.Members.{version_in}}
+use Rattle.std.{proofs.lemmas.{Bool.{and_parts}, List.Concat.{flat_map-append}}, specs.List.{flat_map}}
 use Rattle.rule_model.specs.Tuples.{name_of}
-use Rattle.answer_lines.specs.declared.lines.Detail.TheVariants.{Brief, Full}
-use Rattle.answer_lines.specs.declared.lines.OutLine.TheVariants.{Fire}
-use Rattle.session_laws.specs.Gives.{brief_of, cells, conditions_of, does_all, fire_line, fires_in, gives_in, in_brief, modified_lines, revision, seen, then_does}
-use Rattle.session_laws.proofs.Members.{version_in}
+use Rattle.answer_lines.specs.declared.lines.{Detail.TheVariants.{Brief, Full}, OutLine.TheVariants.{Fire}}
 
 -- ---- steps
 

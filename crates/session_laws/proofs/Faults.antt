@@ -5,15 +5,12 @@ use Rattle.session_laws.proofs.Common.{get-insert, get-retain_keys, list_any, na
 use Rattle.session_laws.proofs.Common.{TakesDue, is_due, HeldFacts, HoldsNone, IsNewest, tied, Code, EventObserved, ReferenceFixed, Absent, ClockBack, ClockEnd}
 use Rattle.session_laws.proofs.Common.{Program, Insert, Advance, At, Promise, clock_fault, new_fault, promise_fault, IsLawful, IsRunnable, World}
 use Rattle.session_laws.proofs.Common.{world_at_clock, only_present, is_of_type, retract_fault, settled, floor_by, Reached, is_event, is_observed, is_reference}
-use Rattle.session_laws.proofs.Common.{lateness_of, new_line, new_fact, times_of, Memory, Setting, step_lines, IsSafe, insert_fault_in, newest, Contents, Mirrors, Standing, with_facts}
-use Rattle.session_laws.proofs.Common.{reached_of, with_timer, without_timer, fact_left_at}
+use Rattle.session_laws.proofs.Common.{lateness_of, new_line, new_fact, times_of, Memory, Setting, step_lines, IsSafe, insert_fault_in, newest, Contents}
+use Rattle.session_laws.{proofs.Common.{Mirrors, Standing, with_facts, reached_of, with_timer, without_timer, fact_left_at}, specs.Leading.{MovesSession}}
+use Rattle.session_laws.proofs.{Members.{got_old, none_left}, Newest.{store_found, store_none}}
 use Rattle.std.specs.Prelude.{if◌then◌else◌, int_lt, nat_eq, option_map}
-use Rattle.rule_world.specs.Events.{most_millis}
-use Rattle.rule_world.specs.Worlds.{moved, step_fault, stepped}
+use Rattle.rule_world.specs.{Events.{most_millis}, Worlds.{moved, step_fault, stepped}}
 use Rattle.rule_model.specs.Snapshots.{floor}
-use Rattle.session_laws.specs.Leading.{MovesSession}
-use Rattle.session_laws.proofs.Members.{got_old, none_left}
-use Rattle.session_laws.proofs.Newest.{store_found, store_none}
 use Rattle.fx_base.proofs.Orders.{int_lt-false, ≤ℤ_trans as later}
 use Rattle.std.specs.FinMap as map
 

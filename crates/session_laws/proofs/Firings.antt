@@ -1,16 +1,13 @@
 -- What fires in the worlds for which a session stands: the agenda's first match is the world's, and its facts are all kept.
-use Rattle.session_laws.proofs.Common.{◌≡◌, ◌==◌, ℕ, Bool, true, false, cond, List, [], ◌∷◌, ◌++◌, map, Option, Some, None, is_some, option_map, slice_get}
-use Rattle.session_laws.proofs.Common.{ℤ, In, inl, inr, cons_option, filter_map, Detail, Result, refl, sym, ◌∙◌, ap, subst, option_and_then, fun_ext, Fact, Tag, Named, Action, Code, Match, Program, Step}
-use Rattle.session_laws.proofs.Common.{named_at, has_match, fire_cmp, saliences, fire_total, first, step_of, World, present, pending, marked, first_pending}
-use Rattle.session_laws.proofs.Common.{fire_exact, first_alike, first_in, in_place, all_of, by_fire, Marks, OutLine, No, Yes, ends_by, is_kept_tag}
-use Rattle.session_laws.proofs.Common.{is_kept_fact, only, fact_at, sight_of, pending_kept, sight_law, Memory, Setting, actions_of, does_all, fire_line}
-use Rattle.session_laws.proofs.Common.{fires_with, step_or_overflow, wanted, AllFit, held_at, planned, Contents, Runs, Standing, FiringAnswers}
+use Rattle.session_laws.proofs.Common.{◌≡◌, ◌==◌, ℕ, Bool, true, false, cond, List, [], ◌∷◌, ◌++◌, map, Option, Some, None, is_some, option_map, slice_get, ℤ}
+use Rattle.session_laws.proofs.Common.{In, inl, inr, cons_option, filter_map, Detail, Result, refl, sym, ◌∙◌, ap, subst, option_and_then, fun_ext, Fact, Tag}
+use Rattle.session_laws.proofs.Common.{Named, Action, Code, Match, Program, Step, named_at, has_match, fire_cmp, saliences, fire_total, first, step_of, World}
+use Rattle.session_laws.proofs.Common.{present, pending, marked, first_pending, fire_exact, first_alike, first_in, in_place, all_of, by_fire, Marks, OutLine}
+use Rattle.session_laws.proofs.Common.{No, Yes, ends_by, is_kept_tag, is_kept_fact, only, fact_at, sight_of, pending_kept, sight_law, Memory, Setting}
+use Rattle.session_laws.proofs.Common.{actions_of, does_all, fire_line, fires_with, step_or_overflow, wanted, AllFit, held_at, planned, Contents, Runs}
+use Rattle.session_laws.{proofs.{Common.{Standing, FiringAnswers}, Acting.{wanted_fits}}, specs.{Gives.{fire_line_by, seen, version_of}, Places.{told}}}
 use Rattle.std.specs.Prelude.{if◌then◌else◌}
-use Rattle.session_laws.specs.Gives.{fire_line_by, seen, version_of}
-use Rattle.session_laws.specs.Places.{told}
-use Rattle.answer_lines.specs.declared.lines.Detail.TheVariants.{Brief, Full}
-use Rattle.answer_lines.specs.declared.lines.OutLine.TheVariants.{FiredFor}
-use Rattle.session_laws.proofs.Acting.{wanted_fits}
+use Rattle.answer_lines.specs.declared.lines.{Detail.TheVariants.{Brief, Full}, OutLine.TheVariants.{FiredFor}}
 use Rattle.std.specs.FinMap as map_of
 
 -- the pending match that fires first

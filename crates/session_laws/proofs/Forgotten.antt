@@ -5,21 +5,12 @@ use Rattle.session_laws.proofs.Common.{HeldFacts, facts_of, Named, Row, has, Mat
 use Rattle.session_laws.proofs.Common.{or_split, World, snapshot, only_present, below_of, kept_matches, Look, has_name, clean, either, HasAllOf, rows_of}
 use Rattle.session_laws.proofs.Common.{tuple_of_row, made_facts, Marks, Retention, has_listed_tag, is_named, PassesLives, RuleRows, Rete, AreDropped, rows_for}
 use Rattle.session_laws.proofs.Common.{NetStands, some_tag, some_in, drop_law, Memory, Setting, IsSafe, over, rows_at, Awaits, Contents, Seen, Standing}
-use Rattle.session_laws.proofs.Common.{holding, with_facts, reached_of, HaveOwnTags, fact_left_at}
-use Rattle.std.proofs.lemmas.Bool.{not-true, or_left}
-use Rattle.std.proofs.Common.{map as list_map}
-use Rattle.std.specs.Option.{is_some}
+use Rattle.session_laws.{proofs.{Common.{holding, with_facts, reached_of, HaveOwnTags, fact_left_at}, Alike.{same_matches}}, specs.Gives.{version_of}}
+use Rattle.session_laws.proofs.{Exactly.{Exact, exact}, Leads.{at_own}, Members.{Holds, all_listed, held_distinct, listed, own_tags, version_found}}
+use Rattle.session_laws.proofs.{Newest.{holds}, Olds.{named_at, named_old, old_held, some_old}, Rules.{found_at, is_found}, Stands.{contents}}
+use Rattle.std.{proofs.{lemmas.Bool.{not-true, or_left}, Common.{map as list_map}}, specs.Option.{is_some}}
 use Rattle.rule_model.specs.Lent.{Holds as AreHeld}
 use Rattle.condition_rows.specs.Sets.{held}
-use Rattle.session_laws.specs.Gives.{version_of}
-use Rattle.session_laws.proofs.Alike.{same_matches}
-use Rattle.session_laws.proofs.Exactly.{Exact, exact}
-use Rattle.session_laws.proofs.Leads.{at_own}
-use Rattle.session_laws.proofs.Members.{Holds, all_listed, held_distinct, listed, own_tags, version_found}
-use Rattle.session_laws.proofs.Newest.{holds}
-use Rattle.session_laws.proofs.Olds.{named_at, named_old, old_held, some_old}
-use Rattle.session_laws.proofs.Rules.{found_at, is_found}
-use Rattle.session_laws.proofs.Stands.{contents}
 use Rattle.std.specs.FinMap as map
 
 -- ---- names and lists

@@ -6,20 +6,13 @@ use Rattle.session_laws.proofs.Common.{end_of_presence, most_millis, times_of, I
 use Rattle.session_laws.proofs.Common.{below_of, Marks, Retention, lingers, Covers, Ends, ends_by, ends_of, only, HasLeft, brought, changed, comes, goes}
 use Rattle.session_laws.proofs.Common.{sight_of, later_covers, Memory, Setting, NeverFalls, HasAtHand, LeadsStep, LeadsOn, instant_of, Contents, AreForgotten}
 use Rattle.session_laws.proofs.Common.{Awaits, Mirrors, Runs, Standing, Whole, holding, with_facts, reached_of, Course, reached_by, with_timer, Reached}
-use Rattle.std.specs.Int.Signed.{≤ℤ_refl}
-use Rattle.std.proofs.lemmas.Bool.{eqb-false, eqb-true}
-use Rattle.std.specs.Prelude.{option_and_then, Result, Ok, Err}
-use Rattle.rule_world.specs.Worlds.{moved, stepped}
-use Rattle.session_laws.proofs.Exactly.{Exact, exact, after_new, after_numbers}
-use Rattle.session_laws.proofs.Members.{got_new, got_old, of_insert}
-use Rattle.session_laws.proofs.Needs.{not_needed}
-use Rattle.session_laws.proofs.Readied.{whole_holds, whole_ready}
-use Rattle.session_laws.proofs.Ready.{lead_new}
-use Rattle.session_laws.proofs.Stands.{HasStart, contents, new_moves, next_is_free, numbers_move}
+use Rattle.session_laws.proofs.{Exactly.{Exact, exact, after_new, after_numbers}, Members.{got_new, got_old, of_insert}, Needs.{not_needed}}
+use Rattle.session_laws.proofs.{Readied.{whole_holds, whole_ready}, Ready.{lead_new}, Stands.{HasStart, contents, new_moves, next_is_free, numbers_move}}
 use Rattle.session_laws.proofs.Taken.{taken_awaits}
+use Rattle.std.{specs.{Int.Signed.{≤ℤ_refl}, Prelude.{option_and_then, Result, Ok, Err}}, proofs.lemmas.Bool.{eqb-false, eqb-true}}
+use Rattle.rule_world.specs.Worlds.{moved, stepped}
 use Rattle.std.specs.FinMap as map
-use Rattle.session_laws.proofs.Reaching.{reaches_on}
-use Rattle.session_laws.proofs.Still.{AgendaFollows, NetFollows, none_out, still_awaits}
+use Rattle.session_laws.proofs.{Reaching.{reaches_on}, Still.{AgendaFollows, NetFollows, none_out, still_awaits}}
 use Rattle.fx_base.proofs.Orders.{eq_by_nat_cmp, eqb-flip}
 
 -- ---- the retention

@@ -6,17 +6,13 @@ use Rattle.session_laws.proofs.Common.{rows_of, kept_facts, is_forgotten, kept_l
 use Rattle.session_laws.proofs.Common.{names_tag, Retention, is_tag_among, is_named, PassesLives, Ends, Covers, Watches, past_law, Lives, TagWorld, HoldsKept}
 use Rattle.session_laws.proofs.Common.{ends_by, ends_of, only, is_kept_tag, is_needed, each_tag, fact_at, sight_of, same_clean, same_kept, pending_kept}
 use Rattle.session_laws.proofs.Common.{any_alike, clean_is, at_filter, fact_in, own_at, sight_law, stored, AreHeld, AreMarked, laden_by, is_laden}
-use Rattle.std.proofs.lemmas.Bool.{and_from}
-use Rattle.std.specs.Prelude.{◌≤◌, slice_get}
+use Rattle.std.{proofs.lemmas.Bool.{and_from}, specs.Prelude.{◌≤◌, slice_get}}
 use Rattle.std.specs.FinMap as map_of
 use Rattle.kept_meaning.specs.Kept.{is_kept as is_kept_in}
 use Rattle.laden_rows.proofs.Rows.{laden_rows}
-use Rattle.retention.specs.Watching.{without}
-use Rattle.retention.proofs.Calls.{same_watched}
+use Rattle.retention.{specs.Watching.{without}, proofs.Calls.{same_watched}}
 use Rattle.forgetting.specs.Sights.{IsSoundSight as IsLawfulSight}
-use Rattle.session_laws.proofs.Members.{Holds}
-use Rattle.session_laws.proofs.Rules.{found_at, is_found}
-use Rattle.session_laws.proofs.Storing.{stored_holds}
+use Rattle.session_laws.proofs.{Members.{Holds}, Rules.{found_at, is_found}, Storing.{stored_holds}}
 use Rattle.fx_base.proofs.Tests.{and_where}
 
 -- a match that is not fired names what is kept alone

@@ -5,30 +5,20 @@ use Rattle.session_laws.proofs.Common.{∥∥₁_elim, FactId, TypeId, Value, Fa
 use Rattle.session_laws.proofs.Common.{ReferenceFixed, Match, Program, Rule, TypeInfo, Step, values_fit, bound_in, Bindings, matches, has_match, id_at, sets_of}
 use Rattle.session_laws.proofs.Common.{type_or_first, IsRunnable, In, World, is_of_type, snapshot, all_of, of_map, has_pending, rule_of, in_place, Change}
 use Rattle.session_laws.proofs.Common.{Given, entry_asked, fields_step, insert_step, modify_step, new_step, promise_step, retract_step, sets_step, type_named}
-use Rattle.session_laws.proofs.Common.{values_step, entry_within, asked_fits, Detail, OutLine, append-nil, Memory, Setting, actions_of, new_line, AllWantKnown, has_known_places}
-use Rattle.session_laws.proofs.Common.{StayKnown, WantsKnown, planned, planned_for, held_at, IsNetwork, AreOfRules, Contents, Course, IsSound, ReachesNoMore}
-use Rattle.session_laws.proofs.Common.{Runs, Standing, reached_by, reached_of, nat_tests, moment_in, nothing_reached, is_event, facts_of, over}
-use Rattle.std.proofs.lemmas.Bool.{and_from, and_parts, and_right}
-use Rattle.rete_net.proofs.Networks.{network_of, rules_counted}
-use Rattle.rete_net.specs.Doors.{rule_count}
-use Rattle.std.specs.Prelude.{slice_get}
+use Rattle.session_laws.proofs.Common.{values_step, entry_within, asked_fits, Detail, OutLine, append-nil, Memory, Setting, actions_of, new_line, AllWantKnown}
+use Rattle.session_laws.proofs.Common.{has_known_places, StayKnown, WantsKnown, planned, planned_for, held_at, IsNetwork, AreOfRules, Contents, Course, IsSound}
+use Rattle.session_laws.proofs.Common.{ReachesNoMore, Runs, Standing, reached_by, reached_of, nat_tests, moment_in, nothing_reached, is_event, facts_of, over}
+use Rattle.std.{proofs.lemmas.Bool.{and_from, and_parts, and_right}, specs.Prelude.{slice_get}}
+use Rattle.rete_net.{proofs.Networks.{network_of, rules_counted}, specs.Doors.{rule_count}}
 use mathlib.Core.Bool.{Bool-set}
-use Rattle.rule_world.specs.Kinds.{step_fits}
-use Rattle.rule_model.specs.Numbers.{values_of}
-use Rattle.rule_model.specs.Planned.{step_of}
-use Rattle.rule_world.specs.Typed.{bound_types, bound_fields, fields_in, args_fit, action_fits, rule_fits, is_typed}
+use Rattle.rule_world.specs.{Kinds.{step_fits}, Typed.{bound_types, bound_fields, fields_in, args_fit, action_fits, rule_fits, is_typed}}
+use Rattle.rule_model.specs.{Numbers.{values_of}, Planned.{step_of}}
 use Rattle.script_read.specs.declared.asked.Change.TheVariants as asked
-use Rattle.change_read.specs.Changes.{change_step}
-use Rattle.change_read.specs.Fields.{are_fields, are_some_fields, sets_given, values_given}
+use Rattle.change_read.specs.{Changes.{change_step}, Fields.{are_fields, are_some_fields, sets_given, values_given}}
 use Rattle.engine.specs.Known.{is_known, are_known}
-use Rattle.session_laws.proofs.Promising.{HasPromise}
-use Rattle.session_laws.proofs.Stands.{HasStart}
-use Rattle.session_laws.proofs.Acting.{asked_step}
-use Rattle.session_laws.proofs.Firings.{line_of, plan_of, top_held, top_of}
-use Rattle.session_laws.specs.Gives.{fire_line_by, modified_lines, retracted_lines}
-use Rattle.session_laws.specs.Places.{told}
-use Rattle.answer_lines.specs.declared.lines.Detail.TheVariants.{Brief, Full}
-use Rattle.answer_lines.specs.declared.lines.OutLine.TheVariants.{Modified, Retracted}
+use Rattle.session_laws.proofs.{Promising.{HasPromise}, Stands.{HasStart}, Acting.{asked_step}, Firings.{line_of, plan_of, top_held, top_of}}
+use Rattle.session_laws.specs.{Gives.{fire_line_by, modified_lines, retracted_lines}, Places.{told}}
+use Rattle.answer_lines.specs.declared.lines.{Detail.TheVariants.{Brief, Full}, OutLine.TheVariants.{Modified, Retracted}}
 use Rattle.rule_model.specs.declared.action.Action.TheVariants as action
 use Rattle.rule_model.specs.declared.step.Step.TheVariants as step
 

@@ -4,13 +4,11 @@ use Rattle.session_laws.proofs.Common.{true, false, Option, Some, None, Result, 
 use Rattle.session_laws.proofs.Common.{option_to_list, append-nil, In, EachOnce, Fact, Tag, HeldFacts, facts_of, from_list, from_map, tags_rise, Program}
 use Rattle.session_laws.proofs.Common.{HaveDistinctTags, in_left, in_right, of_map, AllOf, of_filter, in_filter, passed, Named, HasAllOf, MovesSnapshot}
 use Rattle.session_laws.proofs.Common.{shares_tag, ComesLast, NeverFalls, HasAtHand, LeadsStep, over, HaveOwnTags, Reached, Snapshot, floor_on}
+use Rattle.session_laws.{specs.Gives.{version_of}, proofs.{Members.{got_new, got_old, of_insert, version_found}, Rising.{Rise, rising_filter, rising_more}}}
+use Rattle.session_laws.proofs.Rising.{rising_same}
 use Rattle.std.proofs.lemmas.Bool.{eqb-true, not-true}
 use Rattle.condition_rows.specs.Sets.{held}
-use Rattle.session_laws.specs.Gives.{version_of}
-use Rattle.session_laws.proofs.Members.{got_new, got_old, of_insert, version_found}
-use Rattle.session_laws.proofs.Rising.{Rise, rising_filter, rising_more, rising_same}
-use Rattle.fx_base.proofs.Orders.{eqb-flip}
-use Rattle.fx_base.proofs.Sequences.{In-append}
+use Rattle.fx_base.proofs.{Orders.{eqb-flip}, Sequences.{In-append}}
 use Rattle.std.specs.FinMap as map
 
 any_in : (n : ℕ) (tags : List ℕ) → list_any (nat_eq n) tags ≡ true → In n tags

@@ -3,13 +3,10 @@ use Rattle.session_laws.proofs.Common.{◌≡◌, ℕ, ℤ, ◌<◌, ◌||◌, �
 use Rattle.session_laws.proofs.Common.{arith, nat_tests, In, FactId, TypeId, Value, Fact, has_come, IsNewest, Program, Modify, Retract, is_event, is_observed}
 use Rattle.session_laws.proofs.Common.{is_reference, Code, EventObserved, ReferenceFixed, Absent, World, found, is_of_type, only_present, modify_fault, present}
 use Rattle.session_laws.proofs.Common.{retract_fault, found_in, below_of, one_id, ends_by, is_kept_fact, is_needed, only, sight_of, plain_endless, own_at}
-use Rattle.session_laws.proofs.Common.{Memory, Setting, IsOfPlain, newest, Contents, Runs, Standing, with_facts}
-use Rattle.std.specs.Prelude.{if◌then◌else◌, ◌==◌}
-use Rattle.rule_world.specs.Worlds.{step_fault}
-use Rattle.rule_world.proofs.Found.{fact_in}
-use Rattle.session_laws.proofs.Exactly.{Exact, exact}
-use Rattle.session_laws.proofs.Members.{Holds}
+use Rattle.session_laws.proofs.{Common.{Memory, Setting, IsOfPlain, newest, Contents, Runs, Standing, with_facts}, Exactly.{Exact, exact}, Members.{Holds}}
 use Rattle.session_laws.proofs.Newest.{holds, newest_found, newest_none}
+use Rattle.std.specs.Prelude.{if◌then◌else◌, ◌==◌}
+use Rattle.rule_world.{specs.Worlds.{step_fault}, proofs.Found.{fact_in}}
 use Rattle.std.specs.FinMap as map
 
 -- ---- what is found

@@ -10,14 +10,9 @@ use Rattle.session_laws.proofs.Common.{expiry_at, reached_of}
 use Rattle.std.proofs.lemmas.Bool.{and_parts, or_left}
 use Rattle.std.specs.FinMap as map_of
 use lib.IntN.{ℤ_set}
-use Rattle.engine.specs.declared.resuming.ResumeFault.{ResumeFault}
-use Rattle.engine.specs.declared.resuming.ResumeFault.TheVariants.{Unfit}
-use Rattle.session_laws.proofs.Coming.{comes_laden, laden_marked, none_go}
-use Rattle.session_laws.proofs.Refitted.{fired_unfit, laden_match, no_row_unfit, old_unfit, rows_fit}
-use Rattle.session_laws.proofs.Restored.{loadable, restored_stands}
-use Rattle.session_laws.proofs.Saved.{beyond_end}
-use Rattle.session_laws.proofs.Stands.{contents}
-use Rattle.session_laws.proofs.Storing.{stored_holds}
+use Rattle.engine.specs.declared.resuming.ResumeFault.{ResumeFault, TheVariants.{Unfit}}
+use Rattle.session_laws.proofs.{Coming.{comes_laden, laden_marked, none_go}, Refitted.{fired_unfit, laden_match, no_row_unfit, old_unfit, rows_fit}}
+use Rattle.session_laws.proofs.{Restored.{loadable, restored_stands}, Saved.{beyond_end}, Stands.{contents}, Storing.{stored_holds}}
 
 -- what a ghost field tells of entry points
 pub merely_no_more : (p : Program) (m : Memory) (k : Contents) → ∥ IsSound p m k ∥₁ → ReachesNoMore p (reached_of k)

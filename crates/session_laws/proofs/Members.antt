@@ -4,10 +4,8 @@ use Rattle.session_laws.proofs.Common.{◌∙◌, ap, subst, arith, without, oth
 use Rattle.session_laws.proofs.Common.{nat_cmp, eq_by_cmp, nat_tests, Tag, Value, Fact, HeldFacts, facts_of, tag_of, from_list, from_map, tags_rise, tied}
 use Rattle.session_laws.proofs.Common.{itself, In, HaveDistinctTags, HaveDistinctIds, has_id, revised, revised_in, AllBelow, revise, has_number, one_id}
 use Rattle.session_laws.proofs.Common.{in_left, in_right, in_map, of_map, AllOf, of_filter, one_fact, in_filter, passed, HaveOwnTags}
-use Rattle.std.proofs.lemmas.Bool.{eqb-true}
-use Rattle.std.specs.Prelude.{if◌then◌else◌}
-use Rattle.session_laws.specs.Gives.{version_of}
-use Rattle.session_laws.proofs.Rising.{rising_distinct}
+use Rattle.session_laws.{specs.Gives.{version_of}, proofs.Rising.{rising_distinct}}
+use Rattle.std.{proofs.lemmas.Bool.{eqb-true}, specs.Prelude.{if◌then◌else◌}}
 use Rattle.fx_base.proofs.Sequences.{In-append}
 use Rattle.std.specs.FinMap as map
 

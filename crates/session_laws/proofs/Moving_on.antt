@@ -6,11 +6,7 @@ use Rattle.session_laws.proofs.Common.{later_covers, Memory, Setting, NeverFalls
 use Rattle.session_laws.proofs.Common.{Mirrors, Runs, Standing, holding, with_facts, reached_of, fact_left_at, Reached}
 use Rattle.std.specs.Prelude.{is_some}
 use Rattle.std.specs.FinMap as map
-use Rattle.session_laws.proofs.Exactly.{Exact, exact}
-use Rattle.session_laws.proofs.Members.{Holds, got_new, got_old, of_insert}
-use Rattle.session_laws.proofs.Needs.{not_needed}
-use Rattle.session_laws.proofs.Newest.{holds}
-use Rattle.session_laws.proofs.Readied.{whole_ready}
+use Rattle.session_laws.proofs.{Exactly.{Exact, exact}, Members.{Holds, got_new, got_old, of_insert}, Needs.{not_needed}, Newest.{holds}, Readied.{whole_ready}}
 use Rattle.session_laws.proofs.Reaching.{reaches_on}
 
 -- ---- one fact at a time

@@ -6,9 +6,7 @@ use Rattle.session_laws.proofs.Common.{snapshot, present, only_present, distinct
 use Rattle.session_laws.proofs.Common.{in_has, has_in, candidate_named, candidate_of, version_of, over}
 use Rattle.std.proofs.lemmas.Bool.{and_parts}
 use Rattle.std.specs.FinMap as map
-use Rattle.rule_model.specs.declared.condition.WindowTag.{WindowTag}
-use Rattle.rule_model.specs.declared.condition.WindowTag.TheVariants.{Whole, Time, Length}
-use Rattle.rule_model.specs.Tests.{tests_hold}
+use Rattle.rule_model.specs.{declared.condition.WindowTag.{WindowTag, TheVariants.{Whole, Time, Length}}, Tests.{tests_hold}}
 use Rattle.rule_model.proofs.Order.{same_candidates as same_in_order}
 use Rattle.session_laws.proofs.Members.{Holds, of_versions, held_distinct, own_tags, listed, all_listed}
 use Rattle.fx_base.proofs.Tests.{same_test}

@@ -8,18 +8,14 @@ use Rattle.session_laws.proofs.Common.{joins_of_tuple, version_in, made_facts, c
 use Rattle.session_laws.proofs.Common.{RowComes, there_same, forgotten_fact, tags_behind, only, same_kept, chosen, own_at, Memory, Setting, NeverFalls, Instant}
 use Rattle.session_laws.proofs.Common.{LeadsStep, facts_at, version_of, over, Contents, Runs, Standing, reached_of}
 use Rattle.fx_base.proofs.Sequences.{list_any-In, In-append}
-use Rattle.std.proofs.lemmas.Bool.{and_from, and_parts, eqb-true, false_from_ne_true}
-use Rattle.std.specs.Prelude.{is_some, slice_get}
+use Rattle.std.{proofs.lemmas.Bool.{and_from, and_parts, eqb-true, false_from_ne_true}, specs.Prelude.{is_some, slice_get}}
 use Rattle.std.specs.FinMap as map
-use Rattle.rule_model.specs.declared.condition.Condition.TheVariants.{Plain}
+use Rattle.rule_model.specs.{declared.condition.Condition.TheVariants.{Plain}, Rows.{binds}}
 use Rattle.rule_world.specs.Worlds.{stepped}
-use Rattle.rule_model.specs.Rows.{binds}
 use Rattle.condition_rows.proofs.Holding.{version_of as version_named}
 use Rattle.kept_meaning.specs.Kept.{is_kept}
 use Rattle.keeping.proofs.Coming.{row_meets_kept}
-use Rattle.session_laws.proofs.Leads.{leads_move}
-use Rattle.session_laws.proofs.Needing.{stored_present, distinct_here, of_world, world_rows, world_candidates}
-use Rattle.session_laws.proofs.Phases.{NotNeeded}
+use Rattle.session_laws.proofs.{Leads.{leads_move}, Needing.{stored_present, distinct_here, of_world, world_rows, world_candidates}, Phases.{NotNeeded}}
 use Rattle.session_laws.proofs.Reaching.{reaches_on}
 use Rattle.fx_base.proofs.Tests.{same_test}
 

@@ -1,13 +1,10 @@
 -- The fact of an id, as a session has it and as the world has it.
 use Rattle.session_laws.proofs.Common.{◌≡◌, ℕ, suc, zero, ◌<◌, ◌≤◌, ◌⊎◌, inl, inr, Bool, true, false, Option, Some, None, refl, sym, ◌∙◌, ap, subst, arith}
 use Rattle.session_laws.proofs.Common.{nat_tests, Tag, Fact, HeldFacts, IsNewest, HoldsNone, is_held_with_id, Program, In, World, fact_of, below_of, found_in}
-use Rattle.session_laws.proofs.Common.{one_id, IsNewestTag, IsSafe, newest, Contents}
-use Rattle.std.proofs.lemmas.Bool.{eqb-true}
-use Rattle.std.specs.Prelude.{nat_eq, nat_lt, if◌then◌else◌}
+use Rattle.session_laws.{proofs.{Common.{one_id, IsNewestTag, IsSafe, newest, Contents}, Exactly.{Exact}, Members.{Holds}}, specs.Places.{newest_below}}
+use Rattle.session_laws.proofs.Members.{of_versions}
+use Rattle.std.{proofs.lemmas.Bool.{eqb-true}, specs.Prelude.{nat_eq, nat_lt, if◌then◌else◌}}
 use Rattle.rule_world.proofs.Found.{fact_in}
-use Rattle.session_laws.specs.Places.{newest_below}
-use Rattle.session_laws.proofs.Exactly.{Exact}
-use Rattle.session_laws.proofs.Members.{Holds, of_versions}
 use Rattle.std.specs.FinMap as map
 
 other_id : (m n : ℕ) → m ≡ n → nat_eq m n ≡ false → ⊥

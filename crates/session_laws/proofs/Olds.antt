@@ -4,8 +4,7 @@ use Rattle.session_laws.proofs.Common.{Option, Some, None, cons_option, list_any
 use Rattle.session_laws.proofs.Common.{name_of, or_split, has_name, has_listed_tag, HaveOwnTags}
 use Rattle.std.proofs.lemmas.Bool.{eqb-false, eqb-true, or_left}
 use Rattle.row_delta.specs.NameOrder.{name_cmp, name_equiv, name_exact}
-use Rattle.fx_base.proofs.Orders.{eqb-self}
-use Rattle.fx_base.proofs.Tests.{same_test}
+use Rattle.fx_base.proofs.{Orders.{eqb-self}, Tests.{same_test}}
 use Rattle.std.specs.FinMap as map
 
 -- ---- tags

@@ -9,13 +9,9 @@ use Rattle.session_laws.proofs.Common.{expiry_at, holding, with_facts, reached_o
 use Rattle.std.proofs.lemmas.Bool.{not-true}
 use Rattle.std.specs.FinMap as map
 use Rattle.rule_world.specs.Worlds.{moved, stepped}
-use Rattle.session_laws.proofs.Exactly.{after_clock}
-use Rattle.session_laws.proofs.Moving_on.{covered_at, hand_of, leads_on, left_changed, less_forgotten, of_left, world_exact, world_holds, world_ready}
-use Rattle.session_laws.proofs.Ready.{lead_later}
-use Rattle.session_laws.proofs.Rules.{not_refreshed}
-use Rattle.session_laws.proofs.Stands.{clock_moves, contents}
-use Rattle.session_laws.proofs.Taken.{taken_awaits}
-use Rattle.session_laws.proofs.Timers.{come_is_absent}
+use Rattle.session_laws.proofs.{Exactly.{after_clock}, Moving_on.{covered_at, hand_of, leads_on, left_changed, less_forgotten, of_left, world_exact}}
+use Rattle.session_laws.proofs.{Moving_on.{world_holds, world_ready}, Ready.{lead_later}, Rules.{not_refreshed}, Stands.{clock_moves, contents}}
+use Rattle.session_laws.proofs.{Taken.{taken_awaits}, Timers.{come_is_absent}}
 use Rattle.fx_base.proofs.Orders.{eqb-self}
 
 -- ---- the facts that are left

@@ -7,11 +7,9 @@ use Rattle.session_laws.proofs.Common.{joins, clean, held, rows_of, has_in, tupl
 use Rattle.std.proofs.Common.{map as list_map}
 use Rattle.std.specs.FinMap as map
 use Rattle.fold_fn.proofs.Rising.{rising_same}
-use Rattle.rule_model.specs.declared.condition.Condition.TheVariants.{Plain}
-use Rattle.rule_model.proofs.Grown.{tuples_grow}
-use Rattle.condition_rows.specs.Sets.{partners}
+use Rattle.rule_model.{specs.declared.condition.Condition.TheVariants.{Plain}, proofs.Grown.{tuples_grow}}
+use Rattle.condition_rows.{specs.Sets.{partners}, proofs.Partners.{partners_once}}
 use Rattle.laden_rows.specs.Extras.{lost_partners, values_gathered, AreExtras, IsExtraIn}
-use Rattle.condition_rows.proofs.Partners.{partners_once}
 use Rattle.session_laws.proofs.Needing.{distinct_here, here_candidates, of_world, world_rows}
 
 any_same : (a b : Named → Bool) (names : List Named) → ((n : Named) → In n names → a n ≡ b n) → list_any a names ≡ list_any b names

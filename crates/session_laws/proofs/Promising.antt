@@ -1,11 +1,9 @@
 -- A session that has taken a promise awaits the second phase of the step.
 use Rattle.session_laws.proofs.Common.{◌≡◌, ◌≤◌, ◌∙◌, ℕ, ℤ, Bool, List, [], None, refl, sym, ap, subst, arith, fun_ext, EntryId, Program, Step, Promise}
 use Rattle.session_laws.proofs.Common.{Reached, IsLawful, World, only_present, promise_with, step_fault, Marks, HasLeft, Memory, Setting, instant_of, Contents}
-use Rattle.session_laws.proofs.Common.{Awaits, Mirrors, Runs, Standing, with_facts, Course, reached_by, moment_in}
-use Rattle.rule_world.specs.Worlds.{stepped, moved}
-use Rattle.session_laws.proofs.Exactly.{after_promise}
-use Rattle.session_laws.proofs.Stands.{contents}
+use Rattle.session_laws.proofs.{Common.{Awaits, Mirrors, Runs, Standing, with_facts, Course, reached_by, moment_in}, Exactly.{after_promise}, Stands.{contents}}
 use Rattle.session_laws.proofs.Still.{AgendaFollows, NetFollows, still_awaits}
+use Rattle.rule_world.specs.Worlds.{stepped, moved}
 
 -- what entry points have reached where one has promised a moment
 abbrev pub promised : ℕ → ℤ → Reached → Reached

@@ -1,10 +1,6 @@
 -- The contents of a session with all present facts of its world are ready for its network.
 use Rattle.session_laws.proofs.Common.{◌≤ℤ◌, sym, subst, In, Fact, Program, is_present, of_filter, passed, IsLawful, World, present, only_present, IsReady}
-use Rattle.session_laws.proofs.Common.{Contents, Whole}
-use Rattle.session_laws.proofs.Exactly.{exact}
-use Rattle.session_laws.proofs.Members.{Holds, own_tags}
-use Rattle.session_laws.proofs.Newest.{holds}
-use Rattle.session_laws.proofs.Ready.{IsFit, kept_of}
+use Rattle.session_laws.proofs.{Common.{Contents, Whole}, Exactly.{exact}, Members.{Holds, own_tags}, Newest.{holds}, Ready.{IsFit, kept_of}}
 use Rattle.fx_base.proofs.Orders.{≤ℤ_trans}
 
 -- a present fact of a lawful world is as the network wants it

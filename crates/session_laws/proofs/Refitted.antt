@@ -8,19 +8,16 @@ use Rattle.session_laws.proofs.Common.{is_alive, match_fired, has_fired, snapsho
 use Rattle.session_laws.proofs.Common.{Marks, names_tag, is_named, Ends, is_old, end_of_life, ends_by, ends_of, witness, IsThere, stored, AreMarked, laden_by}
 use Rattle.session_laws.proofs.Common.{is_laden}
 use Rattle.fx_base.proofs.Sequences.{list_any-In, list_any-from, In-append}
-use Rattle.std.proofs.lemmas.Bool.{and_from, and_parts, eq-eqb, eqb-true, not-true}
-use Rattle.std.specs.Prelude.{slice_get}
+use Rattle.std.{proofs.lemmas.Bool.{and_from, and_parts, eq-eqb, eqb-true, not-true}, specs.Prelude.{slice_get}}
 use Rattle.std.specs.FinMap as map_of
 use Rattle.std.specs.Option.{is_some}
 use Rattle.rule_model.specs.declared.condition.Condition.TheVariants.{Plain as plain_condition}
-use Rattle.pair_memory.proofs.Joining.{joined_with, joined_from}
-use Rattle.pair_memory.proofs.Valued.{valued_from}
+use Rattle.pair_memory.proofs.{Joining.{joined_with, joined_from}, Valued.{valued_from}}
 use Rattle.condition_rows.specs.Lines.{is_ripe, empty_row}
 use Rattle.image_laws.specs.Fitting.{IsLadenRow, IsLadenMatch, IsNeeded}
 use Rattle.laden_rows.specs.Laden.{extra_values_of, laden}
 use Rattle.forgetting.proofs.Naming.{found}
-use Rattle.session_laws.proofs.Members.{Holds}
-use Rattle.session_laws.proofs.Storing.{stored_holds}
+use Rattle.session_laws.proofs.{Members.{Holds}, Storing.{stored_holds}}
 
 -- ---- laden rows name facts of the snapshot
 

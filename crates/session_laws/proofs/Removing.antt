@@ -9,14 +9,9 @@ use Rattle.std.proofs.lemmas.Bool.{eqb-true}
 use Rattle.std.specs.FinMap as map
 use Rattle.rule_world.specs.Worlds.{moved, stepped}
 use Rattle.forgetting.proofs.WorldSteps.{retracts_one}
-use Rattle.session_laws.proofs.Exactly.{after_without}
-use Rattle.session_laws.proofs.Leaving.{one_gone}
-use Rattle.session_laws.proofs.Moving_on.{covered_at, hand_of, leads_on, left_changed, less_forgotten, of_left, on_time, store_seen, world_exact, world_holds}
-use Rattle.session_laws.proofs.Moving_on.{world_ready}
-use Rattle.session_laws.proofs.Newest.{newest_found, tagged_found}
-use Rattle.session_laws.proofs.Ready.{lead_less}
-use Rattle.session_laws.proofs.Stands.{contents, retract_moves}
-use Rattle.session_laws.proofs.Taken.{taken_awaits}
+use Rattle.session_laws.proofs.{Exactly.{after_without}, Leaving.{one_gone}, Moving_on.{covered_at, hand_of, leads_on, left_changed, less_forgotten, of_left}}
+use Rattle.session_laws.proofs.{Moving_on.{on_time, store_seen, world_exact, world_holds, world_ready}, Newest.{newest_found, tagged_found}, Ready.{lead_less}}
+use Rattle.session_laws.proofs.{Stands.{contents, retract_moves}, Taken.{taken_awaits}}
 use Rattle.fx_base.proofs.Tests.{and_first}
 
 module _ (s : Setting) (m : Memory) (k : Contents) (w : World) (st : Standing s m k w) (id : FactId) (tag : Tag) (is : IsNewestTag k.facts id.0 tag) where

@@ -8,22 +8,15 @@ use Rattle.session_laws.proofs.Common.{is_alive, is_forgotten, kept_inside, not_
 use Rattle.session_laws.proofs.Common.{IsKeptOf, AreOwners, image_kept, FitsPlainly, Marks, IsOrderly, Retention, is_tag_among, is_named, PassesLives, only}
 use Rattle.session_laws.proofs.Common.{chosen, own_at, Rete, AreOutsideOfTime, IsBehind, IsLoadable, Setting, version_of, over, stored, AreHeld, AreStorable}
 use Rattle.session_laws.proofs.Common.{HasTimes, IsMatched, AreForgotten, Contents, Course, Mirrors, Runs, Standing, expiry_at, with_facts}
-use Rattle.std.proofs.lemmas.Bool.{not-true}
-use Rattle.std.proofs.Common.{map as list_map}
-use Rattle.std.specs.Prelude.{slice_get}
+use Rattle.std.{proofs.{lemmas.Bool.{not-true}, Common.{map as list_map}}, specs.Prelude.{slice_get}}
 use Rattle.std.specs.FinMap as map_of
 use Rattle.std.specs.List.Sorted.{IsStrictlySortedBy}
 use Rattle.fact_store.proofs.Members.{tags_rise as held_rise}
 use Rattle.rule_world.specs.Events.{most_millis}
 use Rattle.condition_rows.specs.Sets.{held}
 use Rattle.kept_meaning.specs.Kept.{is_kept}
-use Rattle.session_laws.proofs.Kept_parts.{holds_kept_parts, image_holds, store_is}
-use Rattle.session_laws.proofs.Forgotten.{same_version}
-use Rattle.session_laws.proofs.Members.{Holds, all_listed, listed, own_tags, version_found, versions}
-use Rattle.session_laws.proofs.Presented.{extras_here}
-use Rattle.session_laws.proofs.Ready.{IsFit, kept_of}
-use Rattle.session_laws.proofs.Rising.{rising_same}
-use Rattle.session_laws.proofs.Stands.{contents}
+use Rattle.session_laws.proofs.{Kept_parts.{holds_kept_parts, image_holds, store_is}, Forgotten.{same_version}, Members.{Holds, all_listed, listed, own_tags}}
+use Rattle.session_laws.proofs.{Members.{version_found, versions}, Presented.{extras_here}, Ready.{IsFit, kept_of}, Rising.{rising_same}, Stands.{contents}}
 use Rattle.session_laws.proofs.Storing.{stored_holds}
 use Rattle.fx_base.proofs.Orders.{≤ℤ_same}
 

@@ -8,23 +8,16 @@ use Rattle.session_laws.proofs.Common.{below_of, has_number, one_id, candidate_n
 use Rattle.session_laws.proofs.Common.{snapshot_without, NetStands, clean_rows, ends_by, ends_of, only, brought, changed, sight_of, comes, goes, same_kept}
 use Rattle.session_laws.proofs.Common.{later_covers, own_at, Memory, Setting, IsNewestTag, newest, over, AreForgotten, Awaits, Contents, Mirrors, Runs}
 use Rattle.session_laws.proofs.Common.{Standing, expiry_at, holding, with_facts, reached_of, HaveOwnTags, without_timer}
-use Rattle.std.proofs.lemmas.Bool.{and_from, and_parts, eq-eqb, eqb-true, false_from_ne_true}
+use Rattle.std.{proofs.lemmas.Bool.{and_from, and_parts, eq-eqb, eqb-true, false_from_ne_true}, specs.Prelude.{is_some, slice_get}}
 use Rattle.rule_lives.proofs.Moves.{retracted_is_not_observed}
-use Rattle.std.specs.Prelude.{is_some, slice_get}
 use Rattle.std.specs.FinMap as map
 use Rattle.rule_model.specs.Simple.{is_observed_in}
-use Rattle.rule_world.specs.Worlds.{step_fault, stepped, moved}
-use Rattle.rule_world.proofs.Vain.{vain_retraction}
+use Rattle.rule_world.{specs.Worlds.{step_fault, stepped, moved}, proofs.Vain.{vain_retraction}}
 use Rattle.pattern_gate.proofs.Arriving.{is_other}
 use Rattle.kept_meaning.specs.Kept.{is_kept}
 use Rattle.rete_net.proofs.Unmissed.{net_less, clean_rows_less}
-use Rattle.session_laws.proofs.Exactly.{Exact, exact, after_without}
-use Rattle.session_laws.proofs.Members.{Holds, held_distinct, is_out, not_out, of_remove}
-use Rattle.session_laws.proofs.Newest.{holds, newest_found, world_found}
-use Rattle.session_laws.proofs.Rising.{rising_filter, rising_same}
-use Rattle.session_laws.proofs.Rules.{not_refreshed}
-use Rattle.session_laws.proofs.Stands.{retract_moves}
-use Rattle.session_laws.proofs.Taken.{taken_awaits}
+use Rattle.session_laws.proofs.{Exactly.{Exact, exact, after_without}, Members.{Holds, held_distinct, is_out, not_out, of_remove}, Newest.{holds, newest_found}}
+use Rattle.session_laws.proofs.{Newest.{world_found}, Rising.{rising_filter, rising_same}, Rules.{not_refreshed}, Stands.{retract_moves}, Taken.{taken_awaits}}
 use Rattle.fx_base.proofs.Tests.{both_ways_absurd}
 
 -- a fact of a map is the newest of its id where the ids of the map's facts differ

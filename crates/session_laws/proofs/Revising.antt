@@ -9,15 +9,10 @@ use Rattle.session_laws.proofs.Common.{reached_of, fact_left_at}
 use Rattle.std.proofs.lemmas.Bool.{eq-eqb, eqb-true}
 use Rattle.std.specs.FinMap as map
 use Rattle.rule_world.specs.Worlds.{moved, stepped}
-use Rattle.session_laws.proofs.Exactly.{after_revised}
-use Rattle.session_laws.proofs.Leaving.{one_gone}
-use Rattle.session_laws.proofs.Members.{got_new, got_old, not_out, of_insert}
-use Rattle.session_laws.proofs.Moving_on.{all_below, covered_at, hand_of, leads_on, left_changed, less_forgotten, more_forgotten, of_left, on_time, world_exact}
-use Rattle.session_laws.proofs.Moving_on.{world_holds, world_ready, store_seen}
-use Rattle.session_laws.proofs.Ready.{lead_revised}
-use Rattle.session_laws.proofs.Removing.{all_at_tag, all_newest, all_newest_is, at_tag, found_is, newest_is, only_one}
-use Rattle.session_laws.proofs.Stands.{contents, modify_moves, plain_by}
-use Rattle.session_laws.proofs.Taken.{taken_awaits}
+use Rattle.session_laws.proofs.{Exactly.{after_revised}, Leaving.{one_gone}, Members.{got_new, got_old, not_out, of_insert}, Moving_on.{all_below, covered_at}}
+use Rattle.session_laws.proofs.Moving_on.{hand_of, leads_on, left_changed, less_forgotten, more_forgotten, of_left, on_time, world_exact, world_holds}
+use Rattle.session_laws.proofs.{Moving_on.{world_ready, store_seen}, Ready.{lead_revised}, Removing.{all_at_tag, all_newest, all_newest_is, at_tag, found_is}}
+use Rattle.session_laws.proofs.{Removing.{newest_is, only_one}, Stands.{contents, modify_moves, plain_by}, Taken.{taken_awaits}}
 use Rattle.fx_base.proofs.Tests.{same_test}
 
 other_number : (m n : ℕ) → (m == n) ≡ false → n ≡ m → ⊥

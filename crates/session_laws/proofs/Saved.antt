@@ -3,17 +3,9 @@ use Rattle.session_laws.proofs.Common.{◌≡◌, ◌∙◌, ◌≤◌, ℕ, zer
 use Rattle.session_laws.proofs.Common.{slice_index_or, Less, AllByRecursion, nat_cmp, nat_tests, In, Fact, Image, facts_of, from_list, from_map, tags_rise}
 use Rattle.session_laws.proofs.Common.{has_match, match_cmp, moment_in, Reached, World, IsKept, clean, is_forgotten, kept_facts, kept_listed, AreMoments}
 use Rattle.session_laws.proofs.Common.{tag_cmp, match_fired, IsImageOf, ends_by, is_kept_tag, each_tag, sight_of, Memory, Setting, over, Contents}
-use Rattle.session_laws.proofs.Common.{ReachesNoMore, Runs, Standing, reached_of}
-use Rattle.std.proofs.Common.{map as list_map}
-use Rattle.std.specs.declared.cmp.Ordering.{Ordering}
-use Rattle.std.specs.List.Sorted.{IsStrictlySortedBy}
-use Rattle.session_laws.specs.Saving.{ArePadded, IsSessionSaved}
-use Rattle.session_laws.proofs.Kept_parts.{kept_each}
-use Rattle.session_laws.proofs.Forgotten.{has_all}
-use Rattle.session_laws.proofs.Members.{Holds, own_tags}
-use Rattle.session_laws.proofs.Needs.{lost_in_world}
-use Rattle.session_laws.proofs.Presented.{extras_there}
-use Rattle.session_laws.proofs.Tallied.{holds_kept}
+use Rattle.session_laws.{proofs.{Common.{ReachesNoMore, Runs, Standing, reached_of}, Kept_parts.{kept_each}}, specs.Saving.{ArePadded, IsSessionSaved}}
+use Rattle.session_laws.proofs.{Forgotten.{has_all}, Members.{Holds, own_tags}, Needs.{lost_in_world}, Presented.{extras_there}, Tallied.{holds_kept}}
+use Rattle.std.{proofs.Common.{map as list_map}, specs.{declared.cmp.Ordering.{Ordering}, List.Sorted.{IsStrictlySortedBy}}}
 use Rattle.fx_base.proofs.Tests.{and_where}
 
 -- ---- lists in order

@@ -4,12 +4,9 @@ use Rattle.session_laws.proofs.Common.{◌∙◌, ap, subst, get-empty, nat_cmp,
 use Rattle.session_laws.proofs.Common.{saliences, Code, World, empty_world, found, empty_lawful, has_pending, Marks, no_names, empty_snapshot, NetStands}
 use Rattle.session_laws.proofs.Common.{lingers, ends_by, sight_of, start_law, Change, change_step, OutLine, No, Yes, FiringAnswers, Memory, Setting, does}
 use Rattle.session_laws.proofs.Common.{FitsWorld, StandsAfter, WritesFor, newest, rows_at, no_rule_rows, matches_by, over, IsRefreshed, Contents, Runs}
-use Rattle.session_laws.proofs.Common.{Standing, expiry_at, holding, Course, nothing_reached}
-use Rattle.session_laws.specs.Gives.{version_of, fires_in, gives_in}
-use Rattle.session_laws.proofs.Asking.{change_fits, same_asked}
-use Rattle.session_laws.proofs.Firings.{FiresInto, WritesFiring, line_of, top_of, plan_of, due_fires, no_fire, yes_fire}
-use Rattle.session_laws.proofs.Rules.{found_at, is_found}
-use Rattle.session_laws.proofs.Stands.{contents}
+use Rattle.session_laws.{proofs.Common.{Standing, expiry_at, holding, Course, nothing_reached}, specs.Gives.{version_of, fires_in, gives_in}}
+use Rattle.session_laws.proofs.{Asking.{change_fits, same_asked}, Firings.{FiresInto, WritesFiring, line_of, top_of, plan_of, due_fires, no_fire, yes_fire}}
+use Rattle.session_laws.proofs.{Rules.{found_at, is_found}, Stands.{contents}}
 use Rattle.std.specs.FinMap as map_of
 
 -- ---- over no facts

@@ -5,13 +5,10 @@ use Rattle.session_laws.proofs.Common.{is_present, HaveDistinctTags, is_event, i
 use Rattle.session_laws.proofs.Common.{end_of_presence, World, world_at_clock, only_present, modify_fault, is_of_type, last_start_with, revised, revised_in}
 use Rattle.session_laws.proofs.Common.{settled, with_new, with_revised, AllBelow, below_of, distinct_more, distinct_filtered, with_numbers, without}
 use Rattle.session_laws.proofs.Common.{without_fact, others, Marks, IsNewestTag, newest, with_timer, without_timer, fact_left_at, Contents, Mirrors, expiry_at}
-use Rattle.session_laws.proofs.Common.{Course, reached_by, fun_ext, Reached, moment_in}
-use Rattle.rule_world.specs.Worlds.{moved}
-use Rattle.rule_world.proofs.Steps.{move_numbered, numbered}
-use Rattle.session_laws.proofs.Exactly.{Exact}
-use Rattle.session_laws.proofs.Members.{Holds, holds_less, holds_new, holds_revised, swapped, versions}
-use Rattle.session_laws.proofs.Newest.{holds, tagged_in, tagged_found, world_found}
-use Rattle.session_laws.proofs.Timers.{timed_new, timed_less, timed_plain, timed_left, left_found, left_present}
+use Rattle.session_laws.proofs.{Common.{Course, reached_by, fun_ext, Reached, moment_in}, Exactly.{Exact}, Members.{Holds, holds_less, holds_new}}
+use Rattle.session_laws.proofs.{Members.{holds_revised, swapped, versions}, Newest.{holds, tagged_in, tagged_found, world_found}, Timers.{timed_new}}
+use Rattle.session_laws.proofs.Timers.{timed_less, timed_plain, timed_left, left_found, left_present}
+use Rattle.rule_world.{specs.Worlds.{moved}, proofs.Steps.{move_numbered, numbered}}
 use Rattle.std.specs.FinMap as map
 
 -- what entry points have reached where a new event has come

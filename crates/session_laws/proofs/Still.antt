@@ -3,10 +3,8 @@ use Rattle.session_laws.proofs.Common.{◌≡◌, ◌≤◌, ◌≤ℤ◌, ℕ, 
 use Rattle.session_laws.proofs.Common.{HeldFacts, Named, Program, Step, IsLawful, World, only_present, step_fault, stepped, Marks, Rete, NetStands, clean_rows}
 use Rattle.session_laws.proofs.Common.{lingers, Covers, ends_by, ends_of, HasLeft, brought, changed, comes, goes, Memory, Setting, Instant, LeadsStep, LeadsOn}
 use Rattle.session_laws.proofs.Common.{facts_at, instant_of, IsRefreshed, Contents, Awaits, Mirrors, Runs, Standing, with_facts, Course}
+use Rattle.session_laws.proofs.{Moving_on.{covered_at, hand_of, leads_on, on_time, world_ready}, Stands.{contents}, Taken.{taken_awaits}}
 use Rattle.std.specs.Int.Signed.{≤ℤ_refl}
-use Rattle.session_laws.proofs.Moving_on.{covered_at, hand_of, leads_on, on_time, world_ready}
-use Rattle.session_laws.proofs.Stands.{contents}
-use Rattle.session_laws.proofs.Taken.{taken_awaits}
 use Rattle.std.specs.FinMap as map
 
 -- ---- what the network and the agenda have followed

@@ -3,11 +3,9 @@ use Rattle.session_laws.proofs.Common.{◌≡◌, ◌∙◌, ◌⊎◌, inl, inr
 use Rattle.session_laws.proofs.Common.{refl, sym, ap, subst, get-empty, option_and_then, nat_cmp, In, Tag, Fact, Timers, HeldFacts, tag_of, LifeTable, Program}
 use Rattle.session_laws.proofs.Common.{HaveDistinctTags, in_map, end_of_presence, Retention, lingers, ends_by, all_held, stored, AreHeld, AreStorable}
 use Rattle.session_laws.proofs.Common.{expiry_at, with_timer}
-use Rattle.std.proofs.lemmas.Bool.{and_left, eqb-false, eqb-true}
-use Rattle.std.proofs.Common.{map as list_map}
+use Rattle.std.proofs.{lemmas.Bool.{and_left, eqb-false, eqb-true}, Common.{map as list_map}}
 use Rattle.std.specs.FinMap as map
-use Rattle.session_laws.proofs.Members.{Holds, got_new, got_old, of_insert}
-use Rattle.session_laws.proofs.Timers.{timed_new}
+use Rattle.session_laws.proofs.{Members.{Holds, got_new, got_old, of_insert}, Timers.{timed_new}}
 
 -- ---- the facts of a list under their tags
 

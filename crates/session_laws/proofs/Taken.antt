@@ -2,10 +2,9 @@
 use Rattle.session_laws.proofs.Common.{◌≡◌, ◌∙◌, sym, ap, refl, subst, ℕ, ◌&&◌, not, Bool, true, false, List, None, facts_of, Row, Match, Rule, Step, matches}
 use Rattle.session_laws.proofs.Common.{has_match, World, snapshot, stepped, step_fault, clean_rows, Covers, clean, flagged, IsLawfulStep, Lives, TagWorld}
 use Rattle.session_laws.proofs.Common.{ends_by, ends_of, each_tag, is_kept_tag, is_clean, TakesChanges, sight_of, comes, goes, world_step_kept, Memory, Setting}
-use Rattle.session_laws.proofs.Common.{over, matches_by, only_in, Contents, Runs, Seen, Standing, holding, with_facts, reached_of}
+use Rattle.session_laws.proofs.{Common.{over, matches_by, only_in, Contents, Runs, Seen, Standing, holding, with_facts, reached_of}, Clean.{clean_matches}}
+use Rattle.session_laws.proofs.{Clean.{clean_kept, clean_next, clean_was, whole_matches}, Phases.{IsTaken, TakenAwaits}}
 use Rattle.std.proofs.lemmas.Bool.{and_from, and_parts}
-use Rattle.session_laws.proofs.Clean.{clean_matches, clean_kept, clean_next, clean_was, whole_matches}
-use Rattle.session_laws.proofs.Phases.{IsTaken, TakenAwaits}
 use Rattle.fx_base.proofs.Tests.{and_where}
 use Rattle.std.specs.FinMap as map
 

@@ -1,8 +1,6 @@
 -- The lines of steps, by what a session has.
-use Rattle.session_laws.proofs.Common.{◌≡◌, ◌∙◌, ℕ, List, Option, ap, sym, FactId, Tag, Value, Fact, Modify, Memory, Setting, Contents, Runs, Standing, step_lines}
-use Rattle.session_laws.proofs.Common.{IsOfPlain, IsNewestTag, World, found}
-use Rattle.session_laws.specs.Gives.{modified_lines, revision}
-use Rattle.session_laws.proofs.Looking.{modified_found}
+use Rattle.session_laws.proofs.Common.{◌≡◌, ◌∙◌, ℕ, List, Option, ap, sym, FactId, Tag, Value, Fact, Modify, Memory, Setting, Contents, Runs, Standing}
+use Rattle.session_laws.{proofs.{Common.{step_lines, IsOfPlain, IsNewestTag, World, found}, Looking.{modified_found}}, specs.Gives.{modified_lines, revision}}
 use Rattle.session_laws.proofs.Removing.{at_tag, newest_is}
 use Rattle.std.specs.FinMap as map
 

@@ -1,11 +1,8 @@
 -- Steps that are possible, or refused, one after the other.
 use Rattle.session_laws.proofs.Common.{◌≡◌, inr, List, [], ◌∷◌, ◌++◌, Some, None, Result, Ok, Err, refl, sym, ◌∙◌, ap, subst, append_assoc, OnOk, append-nil}
 use Rattle.session_laws.proofs.Common.{Code, Program, Step, IsOrdered, World, step_fault, stepped, step_lawful, Stays, same_stays, stays_on, OutLine, Fault}
-use Rattle.session_laws.proofs.Common.{Detail, Memory, Setting, does, refused, step_lines, tries, tries_with, AllFit, StandsAfter, Suits, Tries, Writes, WritesFor}
-use Rattle.session_laws.proofs.Common.{Contents, Standing}
-use Rattle.session_laws.specs.Gives.{does_all}
-use Rattle.session_laws.specs.Leading.{MovesSession}
-use Rattle.session_laws.proofs.Doing.{does_stays, next_fits}
+use Rattle.session_laws.proofs.Common.{Detail, Memory, Setting, does, refused, step_lines, tries, tries_with, AllFit, StandsAfter, Suits, Tries, Writes}
+use Rattle.session_laws.{proofs.{Common.{WritesFor, Contents, Standing}, Doing.{does_stays, next_fits}}, specs.{Gives.{does_all}, Leading.{MovesSession}}}
 
 -- a step without a fault is done, and one with a fault is refused
 pub is_done : (d : Detail) (p : Program) (w : World) (step : Step) → step_fault p w step ≡ None → tries d p w step ≡ (step_lines d p w step, stepped p w step)

@@ -1,12 +1,8 @@
 -- How many events of each event type of a program are kept: of a store by the ids of its facts, of a world by the facts that are kept of it.
-use Rattle.std.specs.Prelude.{◌==◌, ℕ, List, [], ◌∷◌, map, length}
-use Rattle.rule_model.specs.Types.{event_types}
-use Rattle.std.specs.List.{filter}
-use Rattle.fx_base.specs.declared.fact.Fact.{Fact}
-use Rattle.fx_base.specs.declared.ids.TypeId.{TypeId}
+use Rattle.std.specs.{Prelude.{◌==◌, ℕ, List, [], ◌∷◌, map, length}, List.{filter}}
+use Rattle.rule_model.specs.{Types.{event_types}, declared.{life.LifeTable.{LifeTable}, program.Program.{Program}}}
+use Rattle.fx_base.specs.declared.{fact.Fact.{Fact}, ids.TypeId.{TypeId}}
 use Rattle.fact_store.specs.Held.{HeldFacts, CountsType}
-use Rattle.rule_model.specs.declared.life.LifeTable.{LifeTable}
-use Rattle.rule_model.specs.declared.program.Program.{Program}
 use Rattle.rule_world.specs.Worlds.{World}
 use Rattle.kept_meaning.specs.Kept.{kept_facts}
 

@@ -1,21 +1,15 @@
 -- The network of a program behind the facts of a session.
 use Rattle.std.specs.Prelude.{◌≡◌, ◌<◌, ℕ, ℤ, ◌≤ℤ◌, Bool, false, List, filter_map, Option, Some, None}
-use Rattle.fx_base.specs.Lists.{In, EachOnce}
-use Rattle.fx_base.specs.declared.fact.Fact.{Fact}
+use Rattle.fx_base.specs.{Lists.{In, EachOnce}, declared.fact.Fact.{Fact}}
 use Rattle.due_queue.specs.Timers.{Timers}
 use Rattle.fact_store.specs.Held.{HeldFacts, facts_of}
-use Rattle.rule_model.specs.declared.program.Program.{Program}
-use Rattle.session_laws.specs.Refreshed.{over}
+use Rattle.rule_model.specs.{declared.program.Program.{Program}, Tuples.{name_of}}
+use Rattle.session_laws.specs.{Refreshed.{over}, Standing.{expiry_at, Contents, reached_of}, Waiting.{fact_left_at, HaveOwnTags}}
 use Rattle.pattern_gate.specs.Moves.{IsOrderly}
 use Rattle.row_delta.specs.declared.row.Named.{Named}
-use Rattle.rule_model.specs.Tuples.{name_of}
 use Rattle.rete_net.specs.Forgetting.{AreNotNeeded}
-use Rattle.session_laws.specs.Standing.{expiry_at, Contents, reached_of}
-use Rattle.session_laws.specs.Waiting.{fact_left_at, HaveOwnTags}
 use Rattle.std.specs.FinMap as map
-use Rattle.rule_model.specs.Snapshots.{Reached, nothing_reached, Snapshot}
-use Rattle.rule_model.specs.declared.moment.Moment.{Moment}
-use Rattle.rule_model.specs.Moments.{reached_in}
+use Rattle.rule_model.specs.{Snapshots.{Reached, nothing_reached, Snapshot}, declared.moment.Moment.{Moment}, Moments.{reached_in}}
 
 -- Facts at a clock, where only these matter.
 abbrev pub facts_at_clock : HeldFacts → ℤ → Snapshot

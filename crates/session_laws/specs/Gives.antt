@@ -1,34 +1,17 @@
 -- What the engine answers in a world: the lines of a change or of a firing, and the next world.
 use Rattle.std.specs.Prelude.{ℕ, ℤ, List, [], ◌∷◌, ◌++◌, map, filter_map, option_map, Option, Some, None, Result, Ok, Err, slice_get, if◌then◌else◌, ◌==◌}
 use Rattle.std.specs.List.{flat_map}
-use Rattle.fx_base.specs.declared.ids.FactId.{FactId}
-use Rattle.fx_base.specs.declared.ids.TypeId.{TypeId}
-use Rattle.fx_base.specs.declared.ids.Tag.{Tag}
-use Rattle.fx_base.specs.declared.value.Value.{Value}
-use Rattle.fx_base.specs.declared.fact.Fact.{Fact}
-use Rattle.row_delta.specs.declared.row.Named.{Named}
-use Rattle.row_delta.specs.declared.row.Row.{Row}
-use Rattle.rule_model.specs.declared.action.Action.{Action}
-use Rattle.rule_model.specs.declared.condition.Condition.{Condition}
-use Rattle.rule_model.specs.declared.condition.Condition.TheVariants.{Plain, Negated, Existing, Folded}
-use Rattle.rule_model.specs.declared.matched.Match.{Match}
-use Rattle.rule_model.specs.declared.program.Program.{Program}
-use Rattle.rule_model.specs.declared.program.Rule.{Rule}
-use Rattle.rule_model.specs.declared.step.Step.{Step}
-use Rattle.rule_model.specs.declared.step.Step.TheVariants.{Insert, Modify, Retract, Advance, At, Promise, Begin}
-use Rattle.rule_model.specs.Lent.{bound_in}
-use Rattle.rule_model.specs.Planned.{step_of}
-use Rattle.rule_model.specs.Tuples.{name_of}
-use Rattle.rule_world.specs.Worlds.{World, stepped, step_fault, present, found, new_fact, revised, first_pending, marked}
-use Rattle.script_read.specs.declared.asked.Change.{Change}
-use Rattle.rule_world.specs.declared.code.Code.{Code}
+use Rattle.fx_base.specs.declared.{ids.{FactId.{FactId}, TypeId.{TypeId}, Tag.{Tag}}, value.Value.{Value}, fact.Fact.{Fact}}
+use Rattle.row_delta.specs.declared.row.{Named.{Named}, Row.{Row}}
+use Rattle.rule_model.specs.declared.{action.Action.{Action}, condition.Condition.{Condition, TheVariants.{Plain, Negated, Existing, Folded}}}
+use Rattle.rule_model.specs.declared.{matched.Match.{Match}, program.{Program.{Program}, Rule.{Rule}}, step.Step.{Step, TheVariants.{Insert, Modify, Retract}}}
+use Rattle.rule_model.specs.{declared.step.Step.TheVariants.{Advance, At, Promise, Begin}, Lent.{bound_in}, Planned.{step_of}, Tuples.{name_of}}
+use Rattle.rule_world.specs.{Worlds.{World, stepped, step_fault, present, found, new_fact, revised, first_pending, marked}, declared.code.Code.{Code}}
 use Rattle.rule_world.specs.declared.code.Code.TheVariants.{Overflow}
+use Rattle.script_read.specs.declared.asked.Change.{Change}
 use Rattle.change_read.specs.Changes.{change_step}
-use Rattle.answer_lines.specs.declared.lines.Detail.{Detail}
-use Rattle.answer_lines.specs.declared.lines.Detail.TheVariants.{Brief, Full}
-use Rattle.answer_lines.specs.declared.lines.OutLine.{OutLine}
-use Rattle.answer_lines.specs.declared.lines.OutLine.TheVariants.{New, Fire, Fault, Inserted, Modified, Retracted, FiredFor}
-use Rattle.answer_lines.specs.declared.lines.Cell.{Cell}
+use Rattle.answer_lines.specs.declared.lines.{Detail.{Detail, TheVariants.{Brief, Full}}, OutLine.{OutLine, TheVariants.{New, Fire, Fault, Inserted, Modified}}}
+use Rattle.answer_lines.specs.declared.lines.{OutLine.TheVariants.{Retracted, FiredFor}, Cell.{Cell}}
 use Rattle.answer_lines.specs.declared.lines.Cell.TheVariants as cell
 
 -- ---- steps

@@ -1,21 +1,12 @@
 -- Contents of a session that lead from a world to the next, and what is written on the way.
 use Rattle.std.specs.Prelude.{◌≡◌, ◌++◌, ◌&&◌, Bool, true, false, nat_lt, List, length, Some, None, Result, Ok}
-use Rattle.fx_base.specs.Lists.{In}
-use Rattle.fx_base.specs.declared.fact.Fact.{Fact}
-use Rattle.rule_model.specs.declared.program.Program.{Program}
-use Rattle.rule_model.specs.declared.step.Step.{Step}
-use Rattle.rule_model.specs.declared.step.Step.TheVariants.{Insert, Modify, Retract, Advance, At, Promise, Begin}
+use Rattle.fx_base.specs.{Lists.{In}, declared.fact.Fact.{Fact}}
+use Rattle.rule_model.specs.declared.{program.Program.{Program}, step.Step.{Step, TheVariants.{Insert, Modify, Retract, Advance, At, Promise, Begin}}}
 use Rattle.rule_model.specs.Types.{is_event}
-use Rattle.rule_world.specs.declared.code.Code.{Code}
-use Rattle.rule_world.specs.Kinds.{step_fits}
-use Rattle.rule_world.specs.Lawful.{IsLawful}
-use Rattle.rule_world.specs.Worlds.{World, fact_of, found, stepped, step_fault}
+use Rattle.rule_world.specs.{declared.code.Code.{Code}, Kinds.{step_fits}, Lawful.{IsLawful}, Worlds.{World, fact_of, found, stepped, step_fault}}
 use Rattle.answer_lines.specs.declared.lines.OutLine.{OutLine}
 use Rattle.engine.specs.Known.{are_known}
-use Rattle.session_laws.specs.Gives.{tries, does, does_all}
-use Rattle.session_laws.specs.declared.memory.Memory.{Memory}
-use Rattle.session_laws.specs.declared.setting.Setting.{Setting}
-use Rattle.session_laws.specs.Standing.{Contents, Standing}
+use Rattle.session_laws.specs.{Gives.{tries, does, does_all}, declared.{memory.Memory.{Memory}, setting.Setting.{Setting}}, Standing.{Contents, Standing}}
 
 -- ---- steps that are done
 

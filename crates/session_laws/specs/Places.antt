@@ -1,27 +1,14 @@
 -- What is asked of the facts that a session has at their tags, and what its parts keep to.
 use Rattle.std.specs.Prelude.{◌≡◌, ◌+◌, ◌≤◌, ◌^◌, ◌&&◌, ℕ, zero, suc, ℤ, pos, ◌≤ℤ◌, List, map as list_map, Option, Some, None, Result, slice_get, if◌then◌else◌}
-use Rattle.fx_base.specs.declared.ids.Tag.{Tag}
-use Rattle.fx_base.specs.declared.fact.Fact.{Fact}
-use Rattle.fx_base.specs.declared.value.Value.{Value}
+use Rattle.fx_base.specs.declared.{ids.Tag.{Tag}, fact.Fact.{Fact}, value.Value.{Value}}
 use Rattle.due_queue.specs.Timers.{Timers}
 use Rattle.fact_store.specs.Held.{HeldFacts, IsNewest, is_held_with_id}
-use Rattle.row_delta.specs.declared.row.Named.{Named}
-use Rattle.row_delta.specs.declared.row.Row.{Row}
-use Rattle.rule_model.specs.declared.action.Action.{Action}
-use Rattle.rule_world.specs.declared.code.Code.{Code}
-use Rattle.rule_world.specs.declared.code.Code.TheVariants.{ReferenceFixed}
-use Rattle.rule_model.specs.declared.program.Program.{Program}
-use Rattle.rule_model.specs.declared.step.Step.{Step}
-use Rattle.rule_world.specs.Events.{most_millis, new_fault}
-use Rattle.rule_model.specs.Lent.{bound_in}
-use Rattle.rule_model.specs.Planned.{step_of}
-use Rattle.rule_model.specs.Snapshots.{floor_by}
-use Rattle.rule_model.specs.Types.{is_reference, lateness_of}
+use Rattle.row_delta.specs.declared.row.{Named.{Named}, Row.{Row}}
+use Rattle.rule_model.specs.{declared.{action.Action.{Action}, program.Program.{Program}, step.Step.{Step}}, Lent.{bound_in}, Planned.{step_of}}
+use Rattle.rule_model.specs.{Snapshots.{floor_by}, Types.{is_reference, lateness_of}, declared.matched.Match.{Match}}
+use Rattle.rule_world.specs.{declared.code.Code.{Code, TheVariants.{ReferenceFixed}}, Events.{most_millis, new_fault}}
 use Rattle.answer_lines.specs.declared.lines.OutLine.{OutLine}
-use Rattle.rule_model.specs.declared.matched.Match.{Match}
-use Rattle.session_laws.specs.Gives.{fire_line_by, step_or_overflow}
-use Rattle.session_laws.specs.declared.setting.Setting.{Setting}
-use Rattle.session_laws.specs.Standing.{Contents, reached_of}
+use Rattle.session_laws.specs.{Gives.{fire_line_by, step_or_overflow}, declared.setting.Setting.{Setting}, Standing.{Contents, reached_of}}
 use Rattle.std.specs.FinMap as map
 
 -- ---- the facts

@@ -2,11 +2,7 @@
 use Rattle.std.specs.Prelude.{◌≡◌, ◌&&◌, ◌||◌, not, Bool, ℤ, List, [], map}
 use Rattle.fx_base.specs.declared.fact.Fact.{Fact}
 use Rattle.row_delta.specs.declared.row.Row.{Row}
-use Rattle.rule_model.specs.declared.matched.Match.{Match}
-use Rattle.rule_model.specs.declared.program.Program.{Program}
-use Rattle.rule_model.specs.declared.program.Rule.{Rule}
-use Rattle.rule_model.specs.Matches.{matches_from, has_match}
-use Rattle.rule_model.specs.Rows.{rows}
+use Rattle.rule_model.specs.{declared.{matched.Match.{Match}, program.{Program.{Program}, Rule.{Rule}}}, Matches.{matches_from, has_match}, Rows.{rows}}
 use Rattle.rule_model.specs.Snapshots.{Reached, Snapshot}
 use Rattle.agenda.specs.Agendas.{Marks}
 

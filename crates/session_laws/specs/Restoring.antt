@@ -3,41 +3,23 @@ use Rattle.std.specs.Prelude.{◌≡◌, ◌≤ℤ◌, ◌-ℤ◌, ◌+ℤ◌, �
 use Rattle.std.specs.Prelude.{None, slice_get}
 use Rattle.std.specs.FinMap as map
 use Rattle.std.specs.List.{list_any}
-use Rattle.fx_base.specs.Lists.{In}
-use Rattle.fx_base.specs.declared.fact.Fact.{Fact}
-use Rattle.row_delta.specs.declared.extra.Extra.{Extra}
-use Rattle.row_delta.specs.declared.row.Named.{Named}
-use Rattle.row_delta.specs.Rows.{has}
-use Rattle.checkpoint.specs.declared.image.FiredMatch.{FiredMatch}
-use Rattle.checkpoint.specs.declared.image.Image.{Image}
+use Rattle.fx_base.specs.{Lists.{In}, declared.fact.Fact.{Fact}}
+use Rattle.row_delta.specs.{declared.{extra.Extra.{Extra}, row.Named.{Named}}, Rows.{has}}
+use Rattle.checkpoint.specs.declared.image.{FiredMatch.{FiredMatch}, Image.{Image}}
 use Rattle.due_queue.specs.Timers.{Timers}
 use Rattle.fact_store.specs.Held.{HeldFacts}
-use Rattle.rule_model.specs.declared.life.LifeTable.{LifeTable}
-use Rattle.rule_model.specs.declared.matched.Match.{Match}
-use Rattle.rule_model.specs.declared.program.Program.{Program}
-use Rattle.rule_model.specs.declared.program.Rule.{Rule}
-use Rattle.rule_model.specs.Distinct.{HaveDistinctTags}
-use Rattle.rule_model.specs.Matches.{has_match, saliences}
-use Rattle.rule_model.specs.Snapshots.{Snapshot}
-use Rattle.rule_world.specs.Events.{most_millis}
-use Rattle.rule_world.specs.Lawful.{IsLawful}
-use Rattle.rule_world.specs.Worlds.{World}
+use Rattle.rule_model.specs.declared.{life.LifeTable.{LifeTable}, matched.Match.{Match}, program.{Program.{Program}, Rule.{Rule}}}
+use Rattle.rule_model.specs.{Distinct.{HaveDistinctTags}, Matches.{has_match, saliences}, Snapshots.{Snapshot}}
+use Rattle.rule_world.specs.{Events.{most_millis}, Lawful.{IsLawful}, Worlds.{World}}
 use Rattle.agenda.specs.Agendas.{Marks}
 use Rattle.image_laws.specs.Images.{match_fired, snapshot_of, IsImageOf}
 use Rattle.laden_rows.specs.Laden.{AreOwners, laden}
 use Rattle.image_fitting.specs.Plain.{FitsByRows}
-use Rattle.retention.specs.declared.retention.Retention.{Retention}
-use Rattle.retention.specs.Retentions.{lingers}
+use Rattle.retention.specs.{declared.retention.Retention.{Retention}, Retentions.{lingers}}
 use Rattle.forgetting.specs.Sights.{ends_by, ends_of}
 use Rattle.join_tests.specs.Joins.{Look}
-use Rattle.rete_net.specs.declared.changes.RuleChange.{RuleChange}
-use Rattle.rete_net.specs.declared.net.Rete.{Rete}
-use Rattle.rete_net.specs.Loading.{IsBehind, IsThere}
-use Rattle.rete_net.specs.Nets.{NetStands}
-use Rattle.rete_net.specs.Doors.{IsNetwork}
-use Rattle.session_laws.specs.declared.memory.Memory.{Memory}
-use Rattle.session_laws.specs.declared.setting.Setting.{Setting}
-use Rattle.session_laws.specs.Standing.{Contents, IsSound, Standing, expiry_at}
+use Rattle.rete_net.specs.{declared.{changes.RuleChange.{RuleChange}, net.Rete.{Rete}}, Loading.{IsBehind, IsThere}, Nets.{NetStands}, Doors.{IsNetwork}}
+use Rattle.session_laws.specs.{declared.{memory.Memory.{Memory}, setting.Setting.{Setting}}, Standing.{Contents, IsSound, Standing, expiry_at}}
 
 -- ---- facts
 

@@ -5,15 +5,11 @@ use Rattle.std.specs.List.Sorted.{IsStrictlySortedBy}
 use Rattle.row_delta.specs.declared.row.Named.{Named}
 use Rattle.checkpoint.specs.declared.image.Image.{Image}
 use Rattle.fact_store.specs.Held.{facts_of}
-use Rattle.rule_model.specs.declared.program.Program.{Program}
-use Rattle.rule_model.specs.Matches.{match_cmp}
-use Rattle.rule_model.specs.Moments.{moment_in}
-use Rattle.rule_model.specs.Snapshots.{Snapshot}
+use Rattle.rule_model.specs.{declared.program.Program.{Program}, Matches.{match_cmp}, Moments.{moment_in}, Snapshots.{Snapshot}}
 use Rattle.condition_rows.specs.Looks.{HasAllOf}
 use Rattle.laden_rows.specs.Extras.{AreExtras}
 use Rattle.image_laws.specs.Images.{match_fired}
-use Rattle.rete_net.specs.declared.net.Rete.{Rete}
-use Rattle.rete_net.specs.Nets.{NetStands}
+use Rattle.rete_net.specs.{declared.net.Rete.{Rete}, Nets.{NetStands}}
 use Rattle.session_laws.specs.Standing.{Contents}
 
 -- the first so many of these moments, by their places

@@ -5,30 +5,16 @@ use Rattle.row_delta.specs.declared.row.Named.{Named}
 use Rattle.fx_base.specs.declared.fact.Fact.{Fact}
 use Rattle.fact_store.specs.Held.{HeldFacts, facts_of, tag_of}
 use Rattle.due_queue.specs.Timers.{Timers}
-use Rattle.rule_model.specs.declared.matched.Match.{Match}
-use Rattle.rule_model.specs.declared.program.Program.{Program}
-use Rattle.rule_model.specs.Matches.{matches, saliences, has_match}
-use Rattle.rule_model.specs.Tuples.{name_of}
-use Rattle.rule_world.specs.Lawful.{IsLawful}
-use Rattle.rule_world.specs.Programs.{IsRunnable}
-use Rattle.rule_world.specs.Events.{end_of_presence}
-use Rattle.rule_world.specs.Worlds.{World, snapshot, only_present}
+use Rattle.rule_model.specs.{declared.{matched.Match.{Match}, program.Program.{Program}}, Matches.{matches, saliences, has_match}, Tuples.{name_of}}
+use Rattle.rule_model.specs.{Snapshots.{Reached}, Moments.{reached_in}}
+use Rattle.rule_world.specs.{Lawful.{IsLawful}, Programs.{IsRunnable}, Events.{end_of_presence}, Worlds.{World, snapshot, only_present}}
 use Rattle.life_meaning.specs.Tables.{IsSafeTable}
 use Rattle.agenda.specs.Agendas.{Marks}
 use Rattle.pair_memory.specs.Standing.{clean}
-use Rattle.rete_net.specs.declared.net.Rete.{Rete}
-use Rattle.rete_net.specs.Nets.{NetStands}
-use Rattle.rete_net.specs.Doors.{IsNetwork}
+use Rattle.rete_net.specs.{declared.net.Rete.{Rete}, Nets.{NetStands}, Doors.{IsNetwork}}
 use Rattle.retention.specs.declared.retention.Retention.{Retention}
-use Rattle.forgetting.specs.Sights.{Holding, HoldsKept, ends_by}
-use Rattle.forgetting.specs.Steps.{Forgets}
-use Rattle.forgetting.specs.WorldSights.{sight_of}
-use Rattle.session_laws.specs.declared.memory.Memory.{Memory}
-use Rattle.session_laws.specs.declared.setting.Setting.{Setting}
-use Rattle.session_laws.specs.Gives.{version_of}
-use Rattle.session_laws.specs.Refreshed.{over}
-use Rattle.rule_model.specs.Snapshots.{Reached}
-use Rattle.rule_model.specs.Moments.{reached_in}
+use Rattle.forgetting.specs.{Sights.{Holding, HoldsKept, ends_by}, Steps.{Forgets}, WorldSights.{sight_of}}
+use Rattle.session_laws.specs.{declared.{memory.Memory.{Memory}, setting.Setting.{Setting}}, Gives.{version_of}, Refreshed.{over}}
 
 -- the course of a world so far: what its entry points have reached, by their places (beyond the end of a list it is 0), and whether it
 -- has begun

@@ -1,6 +1,5 @@
 -- Timers of facts, by their tags, and what is left where some facts go.
-use Rattle.std.specs.Prelude.{◌≡◌, ℕ, ℤ, List, Option, Some, None, nat_eq, if◌then◌else◌}
-use Rattle.std.specs.List.{list_any}
+use Rattle.std.specs.{Prelude.{◌≡◌, ℕ, ℤ, List, Option, Some, None, nat_eq, if◌then◌else◌}, List.{list_any}}
 use Rattle.fx_base.specs.declared.fact.Fact.{Fact}
 use Rattle.due_queue.specs.Timers.{Timers}
 use Rattle.fact_store.specs.Held.{HeldFacts}

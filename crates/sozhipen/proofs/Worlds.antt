@@ -1,21 +1,15 @@
 -- Changes and firings lead from worlds that runs come to to such worlds.
-use Rattle.std.proofs.Common.{◌≡◌, ◌≤◌, List, [], ◌∷◌, Option, Some, None, Result, Ok, Err, arith, subst}
-use Rattle.rule_model.specs.declared.matched.Match.{Match}
-use Rattle.rule_model.specs.declared.program.Program.{Program}
-use Rattle.rule_model.specs.declared.step.Step.{Step}
-use Rattle.rule_model.specs.declared.step.Step.TheVariants.{Insert, Modify, Retract, Advance, At, Promise, Begin}
-use Rattle.rule_world.specs.declared.code.Code.{Code}
-use Rattle.rule_world.specs.Programs.{IsRunnable}
-use Rattle.rule_world.specs.Worlds.{World, moved, stepped, step_fault, first_pending, found, marked, present}
+use Rattle.std.{proofs.Common.{◌≡◌, ◌≤◌, List, [], ◌∷◌, Option, Some, None, Result, Ok, Err, arith, subst}, specs.Prelude.{slice_get}}
+use Rattle.rule_model.specs.declared.{matched.Match.{Match}, program.Program.{Program}, step.Step.{Step, TheVariants.{Insert, Modify, Retract, Advance, At}}}
+use Rattle.rule_model.specs.declared.step.Step.TheVariants.{Promise, Begin}
+use Rattle.rule_world.specs.{declared.code.Code.{Code}, Programs.{IsRunnable}, Worlds.{World, moved, stepped, step_fault, first_pending, found, marked}}
+use Rattle.rule_world.specs.Worlds.{present}
 use Rattle.script_read.specs.declared.asked.Change.{Change}
 use Rattle.change_read.specs.Changes.{change_step}
-use Rattle.answer_lines.specs.declared.lines.Detail.TheVariants.{Brief}
-use Rattle.answer_lines.specs.declared.lines.OutLine.{OutLine}
+use Rattle.answer_lines.specs.declared.lines.{Detail.TheVariants.{Brief}, OutLine.{OutLine}}
 use Rattle.session_laws.specs.Gives.{gives, gives_in, fires, fires_in, does, does_all, tries_with, fires_match, fires_with, wanted, actions_of}
-use Rattle.session_laws.proofs.Acting.{fires_lawful}
-use Rattle.session_laws.proofs.Asking.{gives_lawful}
+use Rattle.session_laws.proofs.{Acting.{fires_lawful}, Asking.{gives_lawful}}
 use Rattle.replay.specs.Behind.{IsSoundWorld, KeepWorlds}
-use Rattle.std.specs.Prelude.{slice_get}
 
 -- ids and tags are given from 1 on
 abbrev CountsFromOne : World → Type 0

@@ -3,14 +3,9 @@ use Rattle.subrules.proofs.Common.{◌≡◌, ◌+◌, ◌≤◌, ◌||◌, ◌�
 use Rattle.subrules.proofs.Common.{option_and_then, refl, sym, ap, subst, ◌∙◌, arith, Bool, list_any, cases_Bool, eqb-true, false_from_ne_true, false≢true}
 use Rattle.subrules.proofs.Common.{or_right, eq-eqb, or_parts, option_and_then_some, same_Some, slice_get_within, bytes_eq-Decides, place_of_name, WrittenType}
 use Rattle.subrules.proofs.Common.{written_type_names, written_type_named, is_type_of_name, parent_of, above, goes_round, is_below, IsAbove, ◌↔◌, Contains}
-use Rattle.subrules.proofs.Common.{Any-from_list_any, list_any-from_Any}
-use Rattle.std.specs.List.{IsDistinct}
-use Rattle.subrules.specs.Hierarchy.{ancestors, goes_on}
-use Rattle.std.specs.Bool.{Decides}
-use Rattle.std.proofs.Math.Dec.{eqb}
-use Rattle.std.proofs.lemmas.List.Elements.{Contains-append_left, Contains-append_right, Contains-append_cases}
-use Rattle.std.proofs.lemmas.Map.Steps.{length-le_from_distinct_below}
-use Rattle.subrules.specs.Hierarchy.IsAbove.{parent, further}
+use Rattle.subrules.{proofs.Common.{Any-from_list_any, list_any-from_Any}, specs.Hierarchy.{ancestors, goes_on, IsAbove.{parent, further}}}
+use Rattle.std.{specs.{List.{IsDistinct}, Bool.{Decides}}, proofs.{Math.Dec.{eqb}, lemmas.List.Elements.{Contains-append_left, Contains-append_right}}}
+use Rattle.std.proofs.lemmas.{List.Elements.{Contains-append_cases}, Map.Steps.{length-le_from_distinct_below}}
 use Rattle.fx_base.proofs.Sequences.{none_equal}
 
 -- ---- the first step upward

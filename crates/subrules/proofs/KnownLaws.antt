@@ -3,11 +3,8 @@ use Rattle.subrules.proofs.Common.{◌≡◌, ◌⊎◌, inl, inr, ◌+◌, ◌&
 use Rattle.subrules.proofs.Common.{slice_get, refl, sym, ap, ◌∙◌, arith, option_and_then, zero, suc, ◌++◌, map, cond, option_map, list_any, filter, flat_map}
 use Rattle.subrules.proofs.Common.{WrittenType, above, ancestors, goes_on, parent_of, is_type_of_name, written_type_names, written_type_named, is_below}
 use Rattle.subrules.proofs.Common.{is_other, is_subtype, number_of_fields, has_many_fields, same_Some, none-some, slice_get-map, place_of_name, AreKnown}
-use Rattle.subrules.proofs.Common.{IsLeading, IsCount, subtype_of, subtype_at, extended_by, with_names}
-use Rattle.subrules.proofs.KindLaws.{name_is}
-use Rattle.subrules.specs.Indexed.{IsIndexed}
-use Rattle.subrules.proofs.FieldLaws.{fields_counted}
-use Rattle.subrules.proofs.HierarchyLaws.{above_none, ends_none, ends_behind, above_behind, any_above}
+use Rattle.subrules.{proofs.{Common.{IsLeading, IsCount, subtype_of, subtype_at, extended_by, with_names}, KindLaws.{name_is}}, specs.Indexed.{IsIndexed}}
+use Rattle.subrules.proofs.{FieldLaws.{fields_counted}, HierarchyLaws.{above_none, ends_none, ends_behind, above_behind, any_above}}
 
 -- ---- tables
 

@@ -1,8 +1,7 @@
 -- A rule without alternatives, and without a pattern or a `not` on a type with subtypes, can be met in one way.
 use Rattle.subrules.proofs.Common.{◌≡◌, false, cond, List, [], ◌∷◌, ◌++◌, map, refl, sym, ap, ◌∙◌, append_assoc, filter, flat_map, list_any, append-nil}
 use Rattle.subrules.proofs.Common.{WrittenType, or_parts, Piece, is_varied, first_names, is_subtype, Way, times, over_type, choices, all_ways, conditions_of}
-use Rattle.subrules.proofs.Common.{CondTree}
-use Rattle.subrules.specs.Ways.{each_behind, walked, ways_of}
+use Rattle.subrules.{proofs.Common.{CondTree}, specs.Ways.{each_behind, walked, ways_of}}
 use Rattle.drl_grammar.specs.declared.condition.CondTree.TheVariants as condition
 use Rattle.drl_grammar.specs.declared.written.Piece.TheVariants as piece
 

@@ -4,14 +4,10 @@ use Rattle.subrules.proofs.Common.{map, take, Option, Some, None, slice_get, opt
 use Rattle.subrules.proofs.Common.{length-map, map-append, take-map, Piece, WrittenType, Alternatives, Walk, first_names, has_subtypes, is_subtype, kinds_of}
 use Rattle.subrules.proofs.Common.{Way, times, over_type, choices, all_ways, asks, closed_in, taken, at_begin, at_no_piece, longest, sized, size_of, nothing}
 use Rattle.subrules.proofs.Common.{free_size, begun_size, size_times, size_plus, size_of_choices, all_size, asks_size, closed_size, measured, size_of_all}
-use Rattle.subrules.proofs.Common.{size_of_walk, passes_limits, slice_get-map, are_too_many, CondTree}
-use Rattle.subrules.specs.Ways.{each_behind, walked, ways_of}
-use Rattle.subrules.specs.Sizes.{all_measured}
+use Rattle.subrules.{proofs.Common.{size_of_walk, passes_limits, slice_get-map, are_too_many, CondTree}, specs.Ways.{each_behind, walked, ways_of}}
+use Rattle.subrules.specs.{Sizes.{all_measured}, declared.sizes.{Size.{Size}, SizeOfAlternatives.{SizeOfAlternatives}, SizeWalk.{SizeWalk}}}
 use Rattle.std.proofs.Math.Nat.{mul_comm}
 use Rattle.drl_grammar.specs.declared.condition.SourceTree.{SourceTree}
-use Rattle.subrules.specs.declared.sizes.Size.{Size}
-use Rattle.subrules.specs.declared.sizes.SizeOfAlternatives.{SizeOfAlternatives}
-use Rattle.subrules.specs.declared.sizes.SizeWalk.{SizeWalk}
 use Rattle.drl_grammar.specs.declared.condition.CondTree.TheVariants as condition
 use Rattle.drl_grammar.specs.declared.written.Piece.TheVariants as piece
 

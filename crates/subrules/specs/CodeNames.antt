@@ -1,7 +1,6 @@
 -- The names of codes, as refusals print them.
 use Rattle.std.specs.Prelude.{ℕ, List, codes}
-use Rattle.subrules.specs.declared.fault.ExpandCode.{ExpandCode}
-use Rattle.subrules.specs.declared.fault.ExpandCode.TheVariants.{UnknownType, BadExtends, HasSubtypes, LimitPassed}
+use Rattle.subrules.specs.declared.fault.ExpandCode.{ExpandCode, TheVariants.{UnknownType, BadExtends, HasSubtypes, LimitPassed}}
 
 abbrev pub expand_code_name : ExpandCode → List ℕ
 expand_code_name UnknownType = codes "UnknownType"

@@ -1,22 +1,14 @@
 -- The plain file that a written one is written out to.
-use Rattle.std.specs.Prelude.{ℕ, ◌+◌, not, Bool, List, [], ◌∷◌, ◌++◌, map, Option, Some, None, option_to_list, codes}
-use Rattle.std.specs.Fmt.{decimal}
-use Rattle.std.specs.List.{filter, flat_map}
+use Rattle.std.specs.{Prelude.{ℕ, ◌+◌, not, Bool, List, [], ◌∷◌, ◌++◌, map, Option, Some, None, option_to_list, codes}, Fmt.{decimal}, List.{filter, flat_map}}
 use Rattle.drl_expr.specs.Words.{is_among}
 use Rattle.drl_grammar.specs.declared.file.Body.{Body}
 use Rattle.drl_grammar.specs.declared.file.Body.TheVariants as plain
-use Rattle.drl_grammar.specs.declared.file.Item.{Item}
-use Rattle.drl_grammar.specs.declared.file.Meta.{Meta}
+use Rattle.drl_grammar.specs.declared.file.{Item.{Item}, Meta.{Meta}}
 use Rattle.drl_grammar.specs.declared.file.Meta.TheVariants as meta
-use Rattle.drl_grammar.specs.declared.file.RuleTree.{RuleTree}
-use Rattle.drl_grammar.specs.declared.file.TypeTree.{TypeTree}
-use Rattle.drl_grammar.specs.declared.written.WrittenBody.{WrittenBody}
+use Rattle.drl_grammar.specs.declared.{file.{RuleTree.{RuleTree}, TypeTree.{TypeTree}}, written.WrittenBody.{WrittenBody}}
 use Rattle.drl_grammar.specs.declared.written.WrittenBody.TheVariants as body
-use Rattle.drl_grammar.specs.declared.written.WrittenItem.{WrittenItem}
-use Rattle.drl_grammar.specs.declared.written.WrittenRule.{WrittenRule}
-use Rattle.drl_grammar.specs.declared.written.WrittenType.{WrittenType}
-use Rattle.subrules.specs.Hierarchy.{written_types_of, above}
-use Rattle.subrules.specs.Ways.{Way, ways_of}
+use Rattle.drl_grammar.specs.declared.written.{WrittenItem.{WrittenItem}, WrittenRule.{WrittenRule}, WrittenType.{WrittenType}}
+use Rattle.subrules.specs.{Hierarchy.{written_types_of, above}, Ways.{Way, ways_of}}
 
 -- ---- types
 

@@ -1,9 +1,7 @@
 -- Which item cannot be written out.
 use Rattle.std.specs.Prelude.{ℕ, ◌+◌, ◌&&◌, ◌||◌, not, nat_lt, Bool, true, false, is_some, if◌then◌else◌, List, [], ◌∷◌, length, Option, Some, None}
-use Rattle.std.specs.Prelude.{option_to_list}
-use Rattle.std.specs.List.{list_any}
-use Rattle.drl_sight.specs.EntryPoints.{source_of}
-use Rattle.drl_sight.specs.Observed.{is_of_length}
+use Rattle.std.specs.{Prelude.{option_to_list}, List.{list_any}}
+use Rattle.drl_sight.specs.{EntryPoints.{source_of}, Observed.{is_of_length}}
 use Rattle.drl_expr.specs.Words.{is_among}
 use Rattle.drl_grammar.specs.declared.condition.CondTree.{CondTree}
 use Rattle.drl_grammar.specs.declared.condition.CondTree.TheVariants as condition
@@ -11,15 +9,9 @@ use Rattle.drl_grammar.specs.declared.written.Piece.{Piece}
 use Rattle.drl_grammar.specs.declared.written.Piece.TheVariants as piece
 use Rattle.drl_grammar.specs.declared.written.WrittenBody.{WrittenBody}
 use Rattle.drl_grammar.specs.declared.written.WrittenBody.TheVariants as body
-use Rattle.drl_grammar.specs.declared.written.WrittenItem.{WrittenItem}
-use Rattle.drl_grammar.specs.declared.written.WrittenRule.{WrittenRule}
-use Rattle.drl_grammar.specs.declared.written.WrittenType.{WrittenType}
-use Rattle.subrules.specs.declared.fault.ExpandCode.{ExpandCode}
-use Rattle.subrules.specs.declared.fault.ExpandCode.TheVariants.{UnknownType, BadExtends, HasSubtypes, LimitPassed}
-use Rattle.subrules.specs.declared.fault.Obstacle.{Obstacle}
-use Rattle.subrules.specs.Hierarchy.{written_type_names, written_types_of, above, goes_round, has_subtypes}
-use Rattle.subrules.specs.Ways.{Way, ways_of}
-use Rattle.subrules.specs.Expanded.{inherited_fields}
+use Rattle.drl_grammar.specs.declared.written.{WrittenItem.{WrittenItem}, WrittenRule.{WrittenRule}, WrittenType.{WrittenType}}
+use Rattle.subrules.specs.declared.fault.{ExpandCode.{ExpandCode, TheVariants.{UnknownType, BadExtends, HasSubtypes, LimitPassed}}, Obstacle.{Obstacle}}
+use Rattle.subrules.specs.{Hierarchy.{written_type_names, written_types_of, above, goes_round, has_subtypes}, Ways.{Way, ways_of}, Expanded.{inherited_fields}}
 
 -- ---- types
 

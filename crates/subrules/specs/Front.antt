@@ -1,23 +1,17 @@
 -- What is written out behind the 257th rule. A plain file has at most 256, so an item before that one or that one itself fails a check; these checks ask of the items behind
 -- for their types and for the types that their conditions watch alone.
-use Rattle.std.specs.Prelude.{ℕ, ◌+◌, ◌-◌, ◌++◌, nat_eq, Bool, true, List, [], ◌∷◌, map, if◌then◌else◌, option_to_list}
-use Rattle.std.specs.List.{flat_map}
+use Rattle.std.specs.{Prelude.{ℕ, ◌+◌, ◌-◌, ◌++◌, nat_eq, Bool, true, List, [], ◌∷◌, map, if◌then◌else◌, option_to_list}, List.{flat_map}}
 use Rattle.drl_grammar.specs.declared.condition.CondTree.{CondTree}
 use Rattle.drl_grammar.specs.declared.condition.CondTree.TheVariants as condition
 use Rattle.drl_grammar.specs.declared.file.Body.{Body}
 use Rattle.drl_grammar.specs.declared.file.Body.TheVariants as plain
-use Rattle.drl_grammar.specs.declared.file.Item.{Item}
-use Rattle.drl_grammar.specs.declared.file.RuleTree.{RuleTree}
-use Rattle.drl_grammar.specs.declared.written.Piece.{Piece}
+use Rattle.drl_grammar.specs.declared.{file.{Item.{Item}, RuleTree.{RuleTree}}, written.Piece.{Piece}}
 use Rattle.drl_grammar.specs.declared.written.Piece.TheVariants as piece
 use Rattle.drl_grammar.specs.declared.written.WrittenBody.{WrittenBody}
 use Rattle.drl_grammar.specs.declared.written.WrittenBody.TheVariants as body
-use Rattle.drl_grammar.specs.declared.written.WrittenItem.{WrittenItem}
-use Rattle.drl_grammar.specs.declared.written.WrittenRule.{WrittenRule}
-use Rattle.drl_grammar.specs.declared.written.WrittenType.{WrittenType}
+use Rattle.drl_grammar.specs.declared.written.{WrittenItem.{WrittenItem}, WrittenRule.{WrittenRule}, WrittenType.{WrittenType}}
 use Rattle.drl_sight.specs.Observed.{is_of_length}
-use Rattle.subrules.specs.Ways.{Way, choices}
-use Rattle.subrules.specs.Expanded.{body_of, plain_rules, at_line}
+use Rattle.subrules.specs.{Ways.{Way, choices}, Expanded.{body_of, plain_rules, at_line}}
 
 -- how many alternatives are open behind a piece, given how many are before it
 abbrev pub open_behind : ℕ → Piece → ℕ

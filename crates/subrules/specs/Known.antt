@@ -1,11 +1,8 @@
 -- What is known of types, by their places.
 use Rattle.std.specs.Prelude.{◌≡◌, ℕ, ◌+◌, ◌&&◌, min, Bool, false, if◌then◌else◌, List, [], ◌∷◌, length, Option, Some, None, slice_get, option_and_then}
 use Rattle.std.specs.List.{list_any}
-use Rattle.drl_grammar.specs.declared.file.TypeTree.{TypeTree}
-use Rattle.drl_grammar.specs.declared.written.WrittenType.{WrittenType}
-use Rattle.subrules.specs.Expanded.{plain_type}
-use Rattle.subrules.specs.Faults.{number_of_fields}
-use Rattle.subrules.specs.Hierarchy.{above, goes_round, is_other, is_type_of_name}
+use Rattle.drl_grammar.specs.declared.{file.TypeTree.{TypeTree}, written.WrittenType.{WrittenType}}
+use Rattle.subrules.specs.{Expanded.{plain_type}, Faults.{number_of_fields}, Hierarchy.{above, goes_round, is_other, is_type_of_name}}
 
 -- where there is an entry, there is a type, and the entry is right for it
 abbrev pub AreKnown : {A : Type 0} → (WrittenType → A → Type 0) → List WrittenType → List (Option A) → Type 0

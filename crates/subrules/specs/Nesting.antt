@@ -1,9 +1,6 @@
 -- In which ways what a rule asks for can be met, by the nesting of its alternatives.
 use Rattle.std.specs.Prelude.{List, [], ◌∷◌, ◌++◌}
-use Rattle.drl_grammar.specs.declared.condition.CondTree.{CondTree}
-use Rattle.drl_grammar.specs.declared.written.Piece.{Piece}
-use Rattle.drl_grammar.specs.declared.written.Piece.TheVariants.{One, Open, Or, Close}
-use Rattle.drl_grammar.specs.declared.written.WrittenType.{WrittenType}
+use Rattle.drl_grammar.specs.declared.{condition.CondTree.{CondTree}, written.{Piece.{Piece, TheVariants.{One, Open, Or, Close}}, WrittenType.{WrittenType}}}
 use Rattle.subrules.specs.Ways.{Way, choices, times}
 
 mutual

@@ -1,15 +1,8 @@
 -- What is answered of a written file.
-use Rattle.std.specs.Prelude.{◌≡◌, ◌<◌, ◌≤◌, ◌⊎◌, ◌++◌, length, take, drop, Some, None}
-use Rattle.std.specs.List.{flat_map}
-use Rattle.drl_grammar.specs.declared.written.Written.{Written}
-use Rattle.drl_grammar.specs.declared.written.WrittenItem.{WrittenItem}
-use Rattle.subrules.specs.declared.expanding.Expanded.{Expanded}
-use Rattle.subrules.specs.declared.fault.ExpandFault.{ExpandFault}
-use Rattle.subrules.specs.declared.fault.ExpandFault.TheVariants.{Refused, NoMemory}
-use Rattle.subrules.specs.Hierarchy.{written_types_of}
-use Rattle.subrules.specs.Expanded.{plain_items, titles_in, origins_from}
-use Rattle.subrules.specs.Faults.{obstacle}
-use Rattle.subrules.specs.Front.{short_items}
+use Rattle.std.specs.{Prelude.{◌≡◌, ◌<◌, ◌≤◌, ◌⊎◌, ◌++◌, length, take, drop, Some, None}, List.{flat_map}}
+use Rattle.drl_grammar.specs.declared.written.{Written.{Written}, WrittenItem.{WrittenItem}}
+use Rattle.subrules.specs.declared.{expanding.Expanded.{Expanded}, fault.ExpandFault.{ExpandFault, TheVariants.{Refused, NoMemory}}}
+use Rattle.subrules.specs.{Hierarchy.{written_types_of}, Expanded.{plain_items, titles_in, origins_from}, Faults.{obstacle}, Front.{short_items}}
 
 -- Each item can be written out. The front of the file is written out whole: all its items, or so many that more than 256 rules come from them. Of the items behind
 -- it is written out what the checks of earlier ones ask for: so the whole file and this one have the same first failure.

@@ -6,13 +6,8 @@ use Rattle.drl_grammar.specs.declared.condition.CondTree.TheVariants as conditio
 use Rattle.drl_grammar.specs.declared.written.Piece.{Piece}
 use Rattle.drl_grammar.specs.declared.written.Piece.TheVariants as piece
 use Rattle.drl_grammar.specs.declared.written.WrittenType.{WrittenType}
-use Rattle.subrules.specs.declared.sizes.Size.{Size}
-use Rattle.subrules.specs.declared.sizes.SizeOfAlternatives.{SizeOfAlternatives}
-use Rattle.subrules.specs.declared.sizes.SizeWalk.{SizeWalk}
-use Rattle.subrules.specs.declared.ways.Alternatives.{Alternatives}
-use Rattle.subrules.specs.declared.ways.Walk.{Walk}
-use Rattle.subrules.specs.Hierarchy.{kinds_of}
-use Rattle.subrules.specs.Ways.{Way}
+use Rattle.subrules.specs.declared.{sizes.{Size.{Size}, SizeOfAlternatives.{SizeOfAlternatives}, SizeWalk.{SizeWalk}}, ways.Alternatives.{Alternatives}}
+use Rattle.subrules.specs.{declared.ways.Walk.{Walk}, Hierarchy.{kinds_of}, Ways.{Way}}
 
 -- the most conditions of a way
 abbrev pub longest : List Way → ℕ

@@ -1,15 +1,11 @@
 -- In which ways what a rule asks for can be met: the conditions of the rules that it is written out to.
-use Rattle.std.specs.Prelude.{ℕ, ◌-◌, List, [], ◌∷◌, ◌++◌, map, length, take, Option, Some, None, slice_get}
-use Rattle.std.specs.List.{flat_map}
+use Rattle.std.specs.{Prelude.{ℕ, ◌-◌, List, [], ◌∷◌, ◌++◌, map, length, take, Option, Some, None, slice_get}, List.{flat_map}}
 use Rattle.drl_grammar.specs.declared.condition.CondTree.{CondTree}
 use Rattle.drl_grammar.specs.declared.condition.CondTree.TheVariants as condition
-use Rattle.drl_grammar.specs.declared.condition.SourceTree.{SourceTree}
-use Rattle.drl_grammar.specs.declared.written.Piece.{Piece}
+use Rattle.drl_grammar.specs.declared.{condition.SourceTree.{SourceTree}, written.Piece.{Piece}}
 use Rattle.drl_grammar.specs.declared.written.Piece.TheVariants as piece
 use Rattle.drl_grammar.specs.declared.written.WrittenType.{WrittenType}
-use Rattle.subrules.specs.declared.ways.Alternatives.{Alternatives}
-use Rattle.subrules.specs.declared.ways.Walk.{Walk}
-use Rattle.subrules.specs.Hierarchy.{kinds_of}
+use Rattle.subrules.specs.{declared.ways.{Alternatives.{Alternatives}, Walk.{Walk}}, Hierarchy.{kinds_of}}
 
 -- plain conditions that are all asked for
 abbrev pub Way : Type 0

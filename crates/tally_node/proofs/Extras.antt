@@ -3,10 +3,9 @@ use Rattle.tally_node.proofs.Common.{◌≡◌, ◌∙◌, sym, ap, refl, subst,
 use Rattle.tally_node.proofs.Common.{cond, not, ◌&&◌, ◌||◌, fun_ext, eq_by_cmp, Held, insert_rising, in_rising_order, insert-insert, Extra, Named, name_cmp}
 use Rattle.tally_node.proofs.Common.{name_equiv, Accumulate, Look, has_name, either, name_decides, AreDistinct, IsNumber, argument_of, Gathers, AreApart}
 use Rattle.tally_node.proofs.Common.{IsBeyond, nothing_gathered, gathered_laden, arguments_gathered, counts_more, filter, length-append, length-map, map-append}
-use Rattle.tally_node.proofs.Common.{list_any-append, length-rising, and_left, or_from, or_left, or_right}
+use Rattle.tally_node.proofs.{Common.{list_any-append, length-rising, and_left, or_from, or_left, or_right}, Gathering.{same_values}}
 use Rattle.std.proofs.lemmas.Map.Made.{is_member-filter}
 use Rattle.fold_fn.proofs.Sorting.{sorted-rising, rising-sorted}
-use Rattle.tally_node.proofs.Gathering.{same_values}
 
 or_none : (a b : Bool) → b ≡ false → a ≡ (a || b)
 or_none true b e = refl

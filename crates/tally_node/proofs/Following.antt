@@ -3,9 +3,7 @@ use Rattle.tally_node.proofs.Common.{◌≡◌, ◌∙◌, sym, ap, refl, subst,
 use Rattle.tally_node.proofs.Common.{cond, not, ◌&&◌, ◌||◌, Option, Some, None, fun_ext, is_some, Less, eq_by_cmp, is_eq, list_any, AllByRecursion, Named, Row}
 use Rattle.tally_node.proofs.Common.{row_cmp, has, same_equiv, name_cmp, name_equiv, Look, has_name, row_decides, name_decides, any_name, TurnedTally, TurnedIf}
 use Rattle.tally_node.proofs.Common.{StepsTally, counted, FollowsCandidates, Arrives, list_any_more}
-use Rattle.std.specs.declared.cmp.Ordering.{Ordering}
-use Rattle.std.specs.Cmp.{IsEquivalence}
-use Rattle.std.specs.List.Sorted.{IsStrictlySortedBy}
+use Rattle.std.specs.{declared.cmp.Ordering.{Ordering}, Cmp.{IsEquivalence}, List.Sorted.{IsStrictlySortedBy}}
 
 -- ---- lists in order
 module _ {K : Type 0} (order : K → K → Ordering) (equiv : IsEquivalence (eq_by_cmp order)) where

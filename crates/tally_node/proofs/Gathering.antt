@@ -3,10 +3,8 @@ use Rattle.tally_node.proofs.Common.{◌≡◌, ◌∙◌, sym, ap, refl, ℤ, L
 use Rattle.tally_node.proofs.Common.{eq_by_cmp, Held, insert_rising, in_rising_order, insert-insert, Named, Row, row_cmp, name_cmp, name_equiv, Accumulate}
 use Rattle.tally_node.proofs.Common.{Look, has_name, with_row_value, unvalued, splits_value, without_value, shows_value, name_decides, row_decides}
 use Rattle.tally_node.proofs.Common.{from_unvalued, unvalued_with, with_one, less_one, AreDistinct, argument_of, Gathers, is_from, and_from, and_parts, or_comm}
-use Rattle.tally_node.proofs.Common.{same_test}
-use Rattle.std.specs.Ordering.{int_eq}
-use Rattle.std.proofs.lemmas.Bool.Decides.{Decides-int_eq}
-use Rattle.tally_node.proofs.Counting.{dropped, has_dropped, dropped_distinct}
+use Rattle.tally_node.proofs.{Common.{same_test}, Counting.{dropped, has_dropped, dropped_distinct}}
+use Rattle.std.{specs.Ordering.{int_eq}, proofs.lemmas.Bool.Decides.{Decides-int_eq}}
 
 -- ---- the values of candidates
 module _ (arg : Named → ℤ) where

@@ -1,15 +1,11 @@
 -- Candidates that are handed to a node: their turns, one after another, and a step in which they take them first, with the old rows.
 use Rattle.tally_node.proofs.Common.{◌≡◌, ◌∙◌, sym, ap, refl, subst, cond, ℕ, ◌+◌, ◌<◌, length, take, get_or, List, [], Bool, true, false, not, ◌&&◌, ◌||◌}
 use Rattle.tally_node.proofs.Common.{Option, Some, None, fun_ext, is_some, Named, Row, Delta, has, Pattern, Look, joins, Memories, left_at, has_left, has_right}
-use Rattle.tally_node.proofs.Common.{StepsTally, TurnedIf, FollowsCandidates, Arrives, SeeAlike, passing, AllTurned, row_naming, name_cmp, name_equiv, eq_by_cmp}
-use Rattle.tally_node.proofs.Common.{has_name, any_name, changes_nothing, TallyStep}
-use Rattle.pair_memory.specs.declared.candidates.Candidates.{Candidates}
-use Rattle.pair_memory.specs.Handed.{moved}
-use Rattle.pair_memory.specs.Shared.{sharing, TakesOver}
-use Rattle.pair_memory.proofs.Handed.{next_may, moved_more, moved_none, may_go, may_come, handed_alike}
-use Rattle.tally_node.specs.Parts.{AllFollowMoved}
-use Rattle.tally_node.proofs.Following.{follow_then, name_within, steps_come, steps_follow_same, steps_leave}
-use Rattle.tally_node.proofs.Stepping.{arrives_kept, arrives_new, no_step, none_stays}
+use Rattle.tally_node.proofs.Common.{StepsTally, TurnedIf, FollowsCandidates, Arrives, SeeAlike, passing, AllTurned, row_naming, name_cmp, name_equiv}
+use Rattle.tally_node.{proofs.{Common.{eq_by_cmp, has_name, any_name, changes_nothing, TallyStep}, Following.{follow_then}}, specs.Parts.{AllFollowMoved}}
+use Rattle.tally_node.proofs.{Following.{name_within, steps_come, steps_follow_same, steps_leave}, Stepping.{arrives_kept, arrives_new, no_step, none_stays}}
+use Rattle.pair_memory.{specs.{declared.candidates.Candidates.{Candidates}, Handed.{moved}, Shared.{sharing, TakesOver}}, proofs.Handed.{next_may, moved_more}}
+use Rattle.pair_memory.proofs.Handed.{moved_none, may_go, may_come, handed_alike}
 
 where_passes : (a b p : Bool) → (p ≡ true → a ≡ b) → (a && p) ≡ (b && p)
 where_passes true true p h = refl

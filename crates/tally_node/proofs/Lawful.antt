@@ -7,19 +7,13 @@ use Rattle.tally_node.proofs.Common.{Witnesses, IsNumber, counts_blockers, count
 use Rattle.tally_node.proofs.Common.{argument_of, result_for, tested, is_result, all_passing, StandsCounted, ForgottenStay, EmptyTallyLaw, TallyLaw}
 use Rattle.tally_node.proofs.Common.{TallyForgetLaw, TallyDropLaw, TallyMoveLaw, ShownLaw, GatheredLaw, itself, shows_any, TallyStep, counted, SeeAlike}
 use Rattle.tally_node.proofs.Common.{output_some, output_from, offers, shown, result-rising, LeadsRows, IsNameDifference, IsStepped, and_right, not-true}
-use Rattle.tally_node.proofs.Common.{or_left, or_right, is_some-value, and_first, and_is, and_second, not_not}
-use Rattle.std.specs.Ordering.{int_eq}
-use Rattle.pair_memory.specs.Valued.{valued}
-use Rattle.std.proofs.Math.Dec.{eqb-suc-zero}
+use Rattle.tally_node.proofs.{Common.{or_left, or_right, is_some-value, and_first, and_is, and_second, not_not}, Counting.{nobody, somebody}}
+use Rattle.tally_node.proofs.Gathering.{same_values}
+use Rattle.std.{specs.Ordering.{int_eq}, proofs.Math.Dec.{eqb-suc-zero}}
+use Rattle.pair_memory.{specs.Valued.{valued}, proofs.{Moving.{move_law as memories_move}, Steps.{steps_law, forgets_law}}}
 use Rattle.fx_base.specs.declared.fact.Fact.{Fact}
 use Rattle.fold_fn.specs.Results.{fold_result}
-use Rattle.rule_model.specs.Lent.{Holds, bound_in}
-use Rattle.rule_model.specs.Rows.{argument, result_of}
-use Rattle.rule_model.specs.Tuples.{name_of}
-use Rattle.pair_memory.proofs.Moving.{move_law as memories_move}
-use Rattle.pair_memory.proofs.Steps.{steps_law, forgets_law}
-use Rattle.tally_node.proofs.Counting.{nobody, somebody}
-use Rattle.tally_node.proofs.Gathering.{same_values}
+use Rattle.rule_model.specs.{Lent.{Holds, bound_in}, Rows.{argument, result_of}, Tuples.{name_of}}
 
 -- kernels: a that it is a candidate, f that it is forgotten, j and p that it passes by the facts at hand and in the world
 counted_all : (a f j p x : Bool) → ((a && not f) ≡ true → j ≡ p) → (f ≡ true → x ≡ (a && p)) → (f ≡ false → x ≡ false) → (((a && not f) && j) || x) ≡ (a && p)

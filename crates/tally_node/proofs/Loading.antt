@@ -1,8 +1,7 @@
 -- Rows that come with extras.
 use Rattle.tally_node.proofs.Common.{◌≡◌, ◌∙◌, sym, ap, refl, subst, Bool, true, false, ◌&&◌, ◌||◌, Option, Some, None, fun_ext, Extra, Named, Row, Pattern}
 use Rattle.tally_node.proofs.Common.{Look, joins, Memories, left_at, has_left, has_right, KeepsMemories, IsTallyLaden, AllLoaded, StepsTally, Arrives, passing}
-use Rattle.tally_node.proofs.Common.{is_some-false}
-use Rattle.tally_node.proofs.Following.{arrives_both}
+use Rattle.tally_node.proofs.{Common.{is_some-false}, Following.{arrives_both}}
 
 module _ {T : Type 0} (world : Look) where
   -- where another is asked of what arrives

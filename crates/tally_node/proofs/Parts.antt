@@ -2,10 +2,8 @@
 use Rattle.tally_node.proofs.Common.{◌≡◌, ◌∙◌, sym, ap, refl, subst, cond, Bool, true, false, not, ◌&&◌, ◌||◌, None, Option, ℤ, fun_ext, is_some, eq_by_cmp}
 use Rattle.tally_node.proofs.Common.{Named, Row, name_cmp, name_equiv, leads_alike, Pattern, Look, joins, Memories, left_at, has_left, has_right, KeepsMemories}
 use Rattle.tally_node.proofs.Common.{keeps_then, StepsTally, TurnedIf, FollowsCandidates, Arrives, passing, shown, PartStep, AllTurned, AllFollow, AllDropped}
-use Rattle.tally_node.proofs.Common.{AllArrive, AllStay}
+use Rattle.tally_node.proofs.{Common.{AllArrive, AllStay}, Turning.{shown_alike}, Following.{steps_both, follow_then, steps_leave, steps_come, arrives_both}}
 use Rattle.row_change.specs.declared.change.Change.{Change}
-use Rattle.tally_node.proofs.Turning.{shown_alike}
-use Rattle.tally_node.proofs.Following.{steps_both, follow_then, steps_leave, steps_come, arrives_both}
 
 -- ---- whole parts
 

@@ -3,8 +3,7 @@ use Rattle.tally_node.proofs.Common.{◌≡◌, ◌∙◌, sym, ap, refl, subst,
 use Rattle.tally_node.proofs.Common.{is_some, Held, Extra, Named, Row, has, Accumulate, Look, joins, has_name, has_left, has_right, cleaned, no_names, Blockers}
 use Rattle.tally_node.proofs.Common.{Witnesses, counts_blockers, counts_witnesses, gathers, IsTallyLaden, extra_for, blockers_laden, witnesses_laden}
 use Rattle.tally_node.proofs.Common.{gathered_laden, nothing_gathered, arguments_gathered, all_passing, lost_passing, LadenLaw, LoadLaw, ResumeLaw, OthersLaw}
-use Rattle.tally_node.proofs.Common.{and-true}
-use Rattle.tally_node.proofs.Extras.{nothing_more, number_laden, gathers_laden}
+use Rattle.tally_node.proofs.{Common.{and-true}, Extras.{nothing_more, number_laden, gathers_laden}}
 
 -- ---- a tally and an extra
 pub blockers_made_up : LadenLaw Blockers counts_blockers blockers_laden nothing_gathered

@@ -1,8 +1,7 @@
 -- The four parts of a step together.
 use Rattle.tally_node.proofs.Common.{◌≡◌, ◌∙◌, sym, ap, refl, subst, cond, List, [], ◌∷◌, Bool, true, false, not, ◌&&◌, Option, Some, None, fun_ext, is_some}
 use Rattle.tally_node.proofs.Common.{Named, Row, Delta, has, Pattern, Look, joins, Memories, left_at, has_left, has_right, StepsTally, FollowsCandidates}
-use Rattle.tally_node.proofs.Common.{Arrives, passing, TallyStep, are_none, changes_nothing}
-use Rattle.tally_node.proofs.Following.{follow_then}
+use Rattle.tally_node.proofs.{Common.{Arrives, passing, TallyStep, are_none, changes_nothing}, Following.{follow_then}}
 
 module _ {T : Type 0} (holds : T → Look → (Named → Bool) → Type 0) (world look : Look) where
   pub arrives_kept : (b : Bool) (set : Named → Bool) (o after : Option T) (x : T) → o ≡ Some x → Arrives b holds look set o after → after ≡ Some x

@@ -1,12 +1,9 @@
 -- What is counted beside one left row.
 use Rattle.std.specs.Prelude.{◌≡◌, ◌<◌, ℕ, ℤ, Bool, true, List, [], ◌∷◌, Option, Some, None, IfSome}
 use Rattle.fx_base.specs.declared.ids.RuleId.{RuleId}
-use Rattle.row_delta.specs.declared.extra.Extra.{Extra}
-use Rattle.row_delta.specs.declared.row.Named.{Named}
-use Rattle.row_delta.specs.declared.row.Row.{Row}
+use Rattle.row_delta.specs.declared.{extra.Extra.{Extra}, row.{Named.{Named}, Row.{Row}}}
 use Rattle.join_tests.specs.Joins.{Look}
-use Rattle.pair_memory.specs.declared.memories.Memories.{Memories}
-use Rattle.pair_memory.specs.Memories.{has_left}
+use Rattle.pair_memory.specs.{declared.memories.Memories.{Memories}, Memories.{has_left}}
 use Rattle.tally_node.specs.Extras.{CountsOthers, IsExtraFor}
 
 -- the extra is that of a row, under this rule and condition, and counts something

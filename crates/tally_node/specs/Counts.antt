@@ -1,11 +1,9 @@
 -- How many candidates a set has.
 use Rattle.std.specs.Prelude.{◌≡◌, ◌==◌, ℕ, Bool, false, not, List, [], ◌∷◌, length, Option, Some, None, ℤ, pos, cond}
-use Rattle.row_delta.specs.declared.row.Named.{Named}
-use Rattle.row_delta.specs.declared.row.Row.{Row}
+use Rattle.row_delta.specs.declared.row.{Named.{Named}, Row.{Row}}
 use Rattle.join_tests.specs.Joins.{Look}
 use Rattle.pair_memory.specs.Joined.{has_name, AreDistinct}
-use Rattle.tally_node.specs.declared.count.Blockers.{Blockers}
-use Rattle.tally_node.specs.declared.count.Witnesses.{Witnesses}
+use Rattle.tally_node.specs.declared.count.{Blockers.{Blockers}, Witnesses.{Witnesses}}
 
 -- there is a list of the candidates of the set, each once, with this length
 pub record IsNumber (set : Named → Bool) (n : ℕ) : Type 0 where

@@ -1,26 +1,13 @@
 -- What tallies count and gather beyond the candidates that are kept.
-use Rattle.std.specs.Prelude.{◌≡◌, ◌+◌, ◌<◌, ◌++◌, ℕ, ℤ, Bool, true, false, List, [], map, length, Option, Some, None}
-use Rattle.std.specs.List.{find}
-use Rattle.std.specs.Ordering.{eq_by_cmp}
-use Rattle.fx_base.specs.Lists.{In}
-use Rattle.fx_base.specs.declared.ids.RuleId.{RuleId}
-use Rattle.fold_fn.specs.Held.{Held}
-use Rattle.fold_fn.specs.Order.{in_rising_order}
-use Rattle.row_delta.specs.declared.extra.Extra.{Extra}
-use Rattle.row_delta.specs.declared.row.Named.{Named}
-use Rattle.row_delta.specs.declared.row.Row.{Row}
-use Rattle.row_delta.specs.Rows.{row_cmp, InOrder}
+use Rattle.std.specs.{Prelude.{◌≡◌, ◌+◌, ◌<◌, ◌++◌, ℕ, ℤ, Bool, true, false, List, [], map, length, Option, Some, None}, List.{find}, Ordering.{eq_by_cmp}}
+use Rattle.fx_base.specs.{Lists.{In}, declared.ids.RuleId.{RuleId}}
+use Rattle.fold_fn.specs.{Held.{Held}, Order.{in_rising_order}}
+use Rattle.row_delta.specs.{declared.{extra.Extra.{Extra}, row.{Named.{Named}, Row.{Row}}}, Rows.{row_cmp, InOrder}}
 use Rattle.rule_model.specs.declared.condition.Accumulate.{Accumulate}
 use Rattle.join_tests.specs.Joins.{Look}
-use Rattle.pair_memory.specs.declared.memories.Memories.{Memories}
-use Rattle.pair_memory.specs.Joined.{has_name, AreDistinct}
-use Rattle.pair_memory.specs.Memories.{left_at, has_left, has_right, Agrees}
+use Rattle.pair_memory.specs.{declared.memories.Memories.{Memories}, Joined.{has_name, AreDistinct}, Memories.{left_at, has_left, has_right, Agrees}}
 use Rattle.pair_memory.specs.Standing.{either}
-use Rattle.tally_node.specs.declared.count.Blockers.{Blockers}
-use Rattle.tally_node.specs.declared.count.Witnesses.{Witnesses}
-use Rattle.tally_node.specs.Counts.{IsNumber}
-use Rattle.tally_node.specs.Gathers.{argument_of}
-use Rattle.tally_node.specs.Tallies.{SeeAlike, passing}
+use Rattle.tally_node.specs.{declared.count.{Blockers.{Blockers}, Witnesses.{Witnesses}}, Counts.{IsNumber}, Gathers.{argument_of}, Tallies.{SeeAlike, passing}}
 
 -- ---- sets and extras
 

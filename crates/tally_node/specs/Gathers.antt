@@ -1,17 +1,9 @@
 -- What accumulates gather of candidates.
-use Rattle.std.specs.Prelude.{◌≡◌, ℕ, ℤ, pos, Bool, false, List, map, Option, Some, None, if◌then◌else◌}
-use Rattle.std.specs.Ordering.{int_eq}
+use Rattle.std.specs.{Prelude.{◌≡◌, ℕ, ℤ, pos, Bool, false, List, map, Option, Some, None, if◌then◌else◌}, Ordering.{int_eq}}
 use Rattle.fx_base.specs.declared.fact.Fact.{Fact}
-use Rattle.fold_fn.specs.Held.{Held}
-use Rattle.fold_fn.specs.Order.{in_rising_order}
-use Rattle.fold_fn.specs.Results.{fold_result}
-use Rattle.row_delta.specs.declared.row.Named.{Named}
-use Rattle.row_delta.specs.declared.row.Row.{Row}
-use Rattle.rule_model.specs.declared.condition.Accumulate.{Accumulate}
-use Rattle.rule_model.specs.Lent.{bound_in}
-use Rattle.rule_model.specs.Rows.{argument}
-use Rattle.rule_model.specs.Tests.{results_hold}
-use Rattle.rule_model.specs.Tuples.{Bindings}
+use Rattle.fold_fn.specs.{Held.{Held}, Order.{in_rising_order}, Results.{fold_result}}
+use Rattle.row_delta.specs.declared.row.{Named.{Named}, Row.{Row}}
+use Rattle.rule_model.specs.{declared.condition.Accumulate.{Accumulate}, Lent.{bound_in}, Rows.{argument}, Tests.{results_hold}, Tuples.{Bindings}}
 use Rattle.join_tests.specs.Joins.{Look}
 use Rattle.pair_memory.specs.Joined.{has_name, AreDistinct}
 

@@ -1,30 +1,17 @@
 -- What a step, forgetting and a change of the store are for the whole sets of rows and candidates that a node stands for, and which
 -- rows the node then has.
-use Rattle.std.specs.Prelude.{◌≡◌, ◌&&◌, ◌||◌, not, true, false, cond, map, Bool, List, Option, Some, None, ℤ}
-use Rattle.std.specs.List.{list_any}
+use Rattle.std.specs.{Prelude.{◌≡◌, ◌&&◌, ◌||◌, not, true, false, cond, map, Bool, List, Option, Some, None, ℤ}, List.{list_any}}
 use Rattle.fx_base.specs.declared.fact.Fact.{Fact}
 use Rattle.fold_fn.specs.Held.{Held}
-use Rattle.row_delta.specs.declared.extra.Extra.{Extra}
-use Rattle.row_delta.specs.declared.row.Named.{Named}
-use Rattle.row_delta.specs.declared.row.Row.{Row}
-use Rattle.row_delta.specs.declared.delta.Delta.{Delta}
-use Rattle.row_delta.specs.Rows.{has, InOrder}
+use Rattle.row_delta.specs.{declared.{extra.Extra.{Extra}, row.{Named.{Named}, Row.{Row}}, delta.Delta.{Delta}}, Rows.{has, InOrder}}
 use Rattle.row_change.specs.Changes.{LeadsRows}
-use Rattle.rule_model.specs.declared.condition.Accumulate.{Accumulate}
-use Rattle.rule_model.specs.Lent.{Holds, bound_in}
-use Rattle.rule_model.specs.Rows.{result_of}
-use Rattle.rule_model.specs.Tuples.{name_of}
+use Rattle.rule_model.specs.{declared.condition.Accumulate.{Accumulate}, Lent.{Holds, bound_in}, Rows.{result_of}, Tuples.{name_of}}
 use Rattle.join_tests.specs.Joins.{Look}
-use Rattle.pair_memory.specs.declared.memories.Memories.{Memories}
-use Rattle.pair_memory.specs.Joined.{has_name, AreDistinct}
-use Rattle.pair_memory.specs.Memories.{left_at, has_left, has_right, KeepsMemories}
-use Rattle.pair_memory.specs.Standing.{clean, cleaned, either, remembered, no_rows, no_names, PassesAlike, StandsFor, LooksAlike}
-use Rattle.pair_memory.specs.Inputs.{IsNameDifference, IsStepped}
-use Rattle.pair_memory.specs.Valued.{without_value, shows_value, valued}
-use Rattle.tally_node.specs.Extras.{AreApart, IsExtraFor, IsTallyLaden, extra_for, rows_of_extras, AllLaden, CountsOthers}
-use Rattle.tally_node.specs.Gathers.{gathers, tested, result_for, is_result}
-use Rattle.tally_node.specs.Origins.{itself, shows_any}
-use Rattle.tally_node.specs.Tallies.{TallyStep, shown, SeeAlike}
+use Rattle.pair_memory.specs.{declared.memories.Memories.{Memories}, Joined.{has_name, AreDistinct}, Memories.{left_at, has_left, has_right, KeepsMemories}}
+use Rattle.pair_memory.specs.{Standing.{clean, cleaned, either, remembered, no_rows, no_names, PassesAlike, StandsFor, LooksAlike}, Inputs.{IsNameDifference}}
+use Rattle.pair_memory.specs.{Inputs.{IsStepped}, Valued.{without_value, shows_value, valued}}
+use Rattle.tally_node.specs.{Extras.{AreApart, IsExtraFor, IsTallyLaden, extra_for, rows_of_extras, AllLaden, CountsOthers}, Gathers.{gathers, tested}}
+use Rattle.tally_node.specs.{Gathers.{result_for, is_result}, Origins.{itself, shows_any}, Tallies.{TallyStep, shown, SeeAlike}}
 
 -- the candidates of the world that pass for a row, forgotten ones too
 abbrev pub all_passing : (Row → Named → Bool) → (Named → Bool) → Row → Named → Bool

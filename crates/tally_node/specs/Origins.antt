@@ -1,8 +1,6 @@
 -- From which left row a row of a node comes, and which number it shows. Rows with a value more are those of the memories' crate.
-use Rattle.std.specs.Prelude.{Bool, true, false, Option, Some, None, ℤ}
-use Rattle.std.specs.Ordering.{eq_by_cmp}
-use Rattle.row_delta.specs.declared.row.Row.{Row}
-use Rattle.row_delta.specs.Rows.{row_cmp}
+use Rattle.std.specs.{Prelude.{Bool, true, false, Option, Some, None, ℤ}, Ordering.{eq_by_cmp}}
+use Rattle.row_delta.specs.{declared.row.Row.{Row}, Rows.{row_cmp}}
 
 -- the row comes from this left row
 abbrev pub is_from : Option Row → Row → Bool

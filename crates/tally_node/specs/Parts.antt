@@ -1,17 +1,10 @@
 -- What a part of a step does to a node: to what it keeps, to its tallies and to what has changed so far.
 use Rattle.std.specs.Prelude.{◌≡◌, cond, Bool, true, List, Option, None}
-use Rattle.row_delta.specs.declared.extra.Extra.{Extra}
-use Rattle.row_delta.specs.declared.row.Named.{Named}
-use Rattle.row_delta.specs.declared.row.Row.{Row}
-use Rattle.row_change.specs.declared.change.Change.{Change}
-use Rattle.row_change.specs.Changes.{LeadsRows}
+use Rattle.row_delta.specs.declared.{extra.Extra.{Extra}, row.{Named.{Named}, Row.{Row}}}
+use Rattle.row_change.specs.{declared.change.Change.{Change}, Changes.{LeadsRows}}
 use Rattle.join_tests.specs.Joins.{Look, joins}
-use Rattle.pair_memory.specs.declared.memories.Memories.{Memories}
-use Rattle.pair_memory.specs.Handed.{moved, MayMove}
-use Rattle.pair_memory.specs.Joined.{has_name}
-use Rattle.pair_memory.specs.Memories.{left_at, has_right, KeepsMemories}
-use Rattle.tally_node.specs.Extras.{IsTallyLaden}
-use Rattle.tally_node.specs.Tallies.{TurnedIf, StepsTally, SeeAlike, FollowsCandidates, Arrives, passing}
+use Rattle.pair_memory.specs.{declared.memories.Memories.{Memories}, Handed.{moved, MayMove}, Joined.{has_name}, Memories.{left_at, has_right, KeepsMemories}}
+use Rattle.tally_node.specs.{Extras.{IsTallyLaden}, Tallies.{TurnedIf, StepsTally, SeeAlike, FollowsCandidates, Arrives, passing}}
 
 -- The memories then keep these rows and candidates, their tallies have become what the relation says, and what has changed so far leads
 -- on to the rows that the node has then.

@@ -1,16 +1,9 @@
 -- What a node keeps for each left row of the candidates that pass there, and which rows the node has.
-use Rattle.std.specs.Prelude.{◌≡◌, ◌&&◌, ◌||◌, not, cond, Bool, true, false, Option, Some, None, ℤ}
-use Rattle.std.specs.Ordering.{eq_by_cmp}
-use Rattle.row_delta.specs.declared.row.Named.{Named}
-use Rattle.row_delta.specs.declared.row.Row.{Row}
-use Rattle.row_delta.specs.declared.delta.Delta.{Delta}
-use Rattle.row_delta.specs.Rows.{has}
-use Rattle.row_delta.specs.NameOrder.{name_cmp}
+use Rattle.std.specs.{Prelude.{◌≡◌, ◌&&◌, ◌||◌, not, cond, Bool, true, false, Option, Some, None, ℤ}, Ordering.{eq_by_cmp}}
+use Rattle.row_delta.specs.{declared.{row.{Named.{Named}, Row.{Row}}, delta.Delta.{Delta}}, Rows.{has}, NameOrder.{name_cmp}}
 use Rattle.rule_model.specs.declared.condition.Pattern.{Pattern}
 use Rattle.join_tests.specs.Joins.{Look, joins}
-use Rattle.pair_memory.specs.declared.memories.Memories.{Memories}
-use Rattle.pair_memory.specs.Memories.{left_at, has_left, has_right}
-use Rattle.pair_memory.specs.Inputs.{row_naming}
+use Rattle.pair_memory.specs.{declared.memories.Memories.{Memories}, Memories.{left_at, has_left, has_right}, Inputs.{row_naming}}
 use Rattle.tally_node.specs.Origins.{is_from}
 
 -- ---- one tally

@@ -2,8 +2,7 @@
 use Rattle.temporal_net.proofs.Common.{◌≡◌, ◌≢◌, ℕ, ◌<◌, ◌⊎◌, ℤ, pos, ◌≤ℤ◌, List, [], ◌∷◌, ◌++◌, Some, sym, ◌∙◌, ap, subst, inl, inr, arith, Contains, ints}
 use Rattle.temporal_net.proofs.Common.{cases_eq, All-contains, NetEdge, Distance, HasItsPoints, IsSmallEdge, Table, edge_cost, edge_distance, zero_distance}
 use Rattle.temporal_net.proofs.Common.{lesser, ReachesWithin, Begins, IsDistanceTable, All-push, Contains-append_left, Contains-push, Contains-push_cases}
-use Rattle.temporal_net.proofs.Costs.{lesser_keeps, lesser_reaches, lesser_from, zero_kept}
-use Rattle.temporal_net.proofs.Ways.{same_distance}
+use Rattle.temporal_net.proofs.{Costs.{lesser_keeps, lesser_reaches, lesser_from, zero_kept}, Ways.{same_distance}}
 
 module _ (points : ℕ) (edges : List NetEdge) (t u : Table) (old : IsDistanceTable points 0 edges t)
     (e : NetEdge) (among : HasItsPoints points e) (small : IsSmallEdge e) (loop : e.x ≡ e.y → pos 0 ≤ℤ e.most)

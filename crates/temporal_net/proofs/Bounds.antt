@@ -1,10 +1,8 @@
 -- A table's distances are the greatest differences, and where it has none there is no greatest.
 use Rattle.temporal_net.proofs.Common.{◌≡◌, ◌≢◌, ℕ, ◌<◌, ℤ, pos, ◌+ℤ◌, ◌-ℤ◌, ◌≤ℤ◌, List, true, false, cond, eqb, Some, None, refl, ap, subst, inl, inr, arith}
 use Rattle.temporal_net.proofs.Common.{ints, clamps, eqb_tells, NetEdge, Distance, IsSolvable, IsGreatest, IsUnboundedDifference, HasGreatest, Table}
-use Rattle.temporal_net.proofs.Common.{zero_distance, IsDistanceTable, int_max}
-use Rattle.temporal_net.proofs.Ways.{same_distance, way_of, follows_leads, follows_members, measured, short}
-use Rattle.temporal_net.proofs.Sums.{adds_up}
-use Rattle.temporal_net.proofs.Heights.{height, lowest, below, solves}
+use Rattle.temporal_net.proofs.{Common.{zero_distance, IsDistanceTable, int_max}, Ways.{same_distance, way_of, follows_leads, follows_members, measured, short}}
+use Rattle.temporal_net.proofs.{Sums.{adds_up}, Heights.{height, lowest, below, solves}}
 
 -- more than any distance
 far : ℤ

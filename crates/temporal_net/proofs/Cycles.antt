@@ -2,10 +2,8 @@
 use Rattle.temporal_net.proofs.Common.{◌≡◌, ℕ, ◌+◌, ◌<◌, ◌≤◌, pos, ◌+ℤ◌, ◌≤ℤ◌, ◌<ℤ◌, List, [], ◌∷◌, ◌++◌, map, length, true, false, Option, Some, None, refl}
 use Rattle.temporal_net.proofs.Common.{sym, subst, arith, ints, All-from_recursion, All-cons, All-nil, NetEdge, Distance, LeadsWay, total, edge_at}
 use Rattle.temporal_net.proofs.Common.{IsNegativeCycle, Table, cell, lowered, loses_over, AllShort, AreTable, HasWays, FollowsWay, map-append, All-append}
-use Rattle.temporal_net.proofs.Common.{loses}
-use Rattle.temporal_net.proofs.Phases.{next_table}
-use Rattle.temporal_net.proofs.Sums.{leads_on, total-append}
-use Rattle.temporal_net.proofs.Ways.{follows_known, follows_leads, measured, short, widened}
+use Rattle.temporal_net.proofs.{Common.{loses}, Phases.{next_table}, Sums.{leads_on, total-append}, Ways.{follows_known, follows_leads, measured, short}}
+use Rattle.temporal_net.proofs.Ways.{widened}
 
 -- an edge from a point to itself that allows less than 0
 pub self_cycle : (edges : List NetEdge) (n : ℕ) → n < length edges → (edge_at edges n).x ≡ (edge_at edges n).y → (edge_at edges n).most <ℤ pos 0 → IsNegativeCycle edges (n ∷ [])

@@ -1,9 +1,7 @@
 -- Each way has at least the sum of the table's distance, and where it has the same sum, at least as many edges.
 use Rattle.temporal_net.proofs.Common.{◌≡◌, ℕ, suc, ◌<◌, ◌≤◌, ◌⊎◌, ℤ, ◌+ℤ◌, ◌≤ℤ◌, ◌<ℤ◌, List, [], ◌∷◌, length, Some, refl, sym, subst, inl, inr, arith}
 use Rattle.temporal_net.proofs.Common.{AllByRecursion, Contains, ints, by_lt_z, NetEdge, Distance, LeadsWay, total, Table, cost, edge_cost, zero_distance}
-use Rattle.temporal_net.proofs.Common.{ReachesWithin, IsDistanceTable}
-use Rattle.temporal_net.proofs.Costs.{reaches_known, known_of}
-use Rattle.temporal_net.proofs.Ways.{ends_among, short}
+use Rattle.temporal_net.proofs.{Common.{ReachesWithin, IsDistanceTable}, Costs.{reaches_known, known_of}, Ways.{ends_among, short}}
 
 -- a lesser sum, or the same sum and no more edges
 abbrev pub IsNoMore : Distance → ℤ → ℕ → Type 0

@@ -1,9 +1,7 @@
 -- Solutions from a table: each point as high as its least way to a weighted point.
 use Rattle.temporal_net.proofs.Common.{◌≡◌, ℕ, zero, suc, ◌<◌, ◌⊎◌, ℤ, ◌+ℤ◌, ◌≤ℤ◌, int_lt, List, Option, Some, None, true, false, cond, refl, sym, ◌∙◌, subst}
 use Rattle.temporal_net.proofs.Common.{inl, inr, arith, int_min, Contains, ints, clamps, cases_eq, Contains-get_or, NetEdge, Distance, MeetsEdge, SolvesEdges}
-use Rattle.temporal_net.proofs.Common.{Table, cost, edge_cost, zero_distance, IsDistanceTable}
-use Rattle.temporal_net.proofs.Costs.{reaches_known, known_of}
-use Rattle.temporal_net.proofs.Ways.{ends_among, short}
+use Rattle.temporal_net.proofs.{Common.{Table, cost, edge_cost, zero_distance, IsDistanceTable}, Costs.{reaches_known, known_of}, Ways.{ends_among, short}}
 
 dip : Option Distance → ℤ → ℤ → ℤ
 dip None w z = z

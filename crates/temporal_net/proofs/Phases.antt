@@ -1,10 +1,8 @@
 -- Lowering each distance by the way over the point k turns a table of ways below k into one below k + 1.
 use Rattle.temporal_net.proofs.Common.{◌≡◌, ◌≢◌, ℕ, ◌+◌, ◌<◌, ◌≤◌, ◌⊎◌, ℤ, pos, ◌+ℤ◌, ◌≤ℤ◌, List, Option, Some, sym, ◌∙◌, ap, subst, inl, inr, arith, Contains}
 use Rattle.temporal_net.proofs.Common.{ints, cases_eq, NetEdge, Distance, Table, cost, edge_cost, zero_distance, joined, lowered, ReachesWithin, Begins}
-use Rattle.temporal_net.proofs.Common.{HasWays, IsDistanceTable}
-use Rattle.temporal_net.proofs.Costs.{reaches_more, reaches_known, known_of, cost-joined, lowered_keeps, lowered_joins, Over, lowered_from, zero_stays}
-use Rattle.temporal_net.proofs.Costs.{zero_first}
-use Rattle.temporal_net.proofs.Ways.{same_distance, ends_among, widened, short}
+use Rattle.temporal_net.proofs.{Common.{HasWays, IsDistanceTable}, Costs.{reaches_more, reaches_known, known_of, cost-joined, lowered_keeps, lowered_joins}}
+use Rattle.temporal_net.proofs.{Costs.{Over, lowered_from, zero_stays, zero_first}, Ways.{same_distance, ends_among, widened, short}}
 
 -- a way over a third point, by its costs
 record Through (first second : Option Distance) (c : ℤ) : Type 0 where

@@ -2,8 +2,7 @@
 use Rattle.temporal_net.proofs.Common.{◌≡◌, ℕ, zero, suc, ◌+◌, ◌<◌, pos, ◌≤ℤ◌, List, [], ◌∷◌, ◌++◌, length, get_or, set, take, replicate, cond, eqb, eq-eqb}
 use Rattle.temporal_net.proofs.Common.{Option, Some, None, refl, sym, ◌∙◌, ap, subst, inl, inr, arith, cases_eq, eqb_tells, NetEdge, Distance, edge_at}
 use Rattle.temporal_net.proofs.Common.{HasItsPoints, IsSmallEdge, cell, edge_distance, lesser, zero_distance, AreTable, IsDistanceTable, length-set}
-use Rattle.temporal_net.proofs.Common.{get_or-set_same, get_or-set_other, get_or_append_left, get_or_push, length-replicate, take_more}
-use Rattle.temporal_net.proofs.Adding.{added}
+use Rattle.temporal_net.proofs.{Common.{get_or-set_same, get_or-set_other, get_or_append_left, get_or_push, length-replicate, take_more}, Adding.{added}}
 
 module _ (rows : List (List (Option Distance))) (x y : ℕ) (v : Option Distance) where
   written : List (List (Option Distance))

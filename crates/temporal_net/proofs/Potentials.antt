@@ -3,12 +3,8 @@ use Rattle.temporal_net.proofs.Common.{◌≡◌, ℕ, zero, suc, ◌<◌, ◌�
 use Rattle.temporal_net.proofs.Common.{eq-eqb, refl, sym, ◌∙◌, subst, inl, inr, arith, int_min, All, AllByRecursion, Contains, eqb-true, eqb_tells, ints}
 use Rattle.temporal_net.proofs.Common.{clamps, by_lt_z, All-nil, All-cons, All-contains, All-from_recursion, length-le_from_distinct_below, NetEdge}
 use Rattle.temporal_net.proofs.Common.{HasItsPoints, IsSolvable, MeetsEdge, SolvesEdges, list_all, Decides-by_and, Decides-like, All-weaker}
-use Rattle.temporal_net.proofs.Common.{Contains-append_right}
-use Rattle.std.specs.Bool.{Decides, if◌then◌else◌}
-use Rattle.std.specs.List.{IsDistinct}
-use Rattle.std.proofs.lemmas.Map.Views.{Contains-from_any}
-use Rattle.temporal_net.specs.Potentials.{is_met, is_solvable, potentials, relaxed}
-use Rattle.temporal_net.proofs.Ways.{ends_among}
+use Rattle.temporal_net.{proofs.{Common.{Contains-append_right}, Ways.{ends_among}}, specs.Potentials.{is_met, is_solvable, potentials, relaxed}}
+use Rattle.std.{specs.{Bool.{Decides, if◌then◌else◌}, List.{IsDistinct}}, proofs.lemmas.Map.Views.{Contains-from_any}}
 
 -- ---- one round
 

@@ -1,8 +1,7 @@
 -- Networks of difference constraints, their solutions, the greatest differences, and ways along the edges.
-use Rattle.std.specs.Prelude.{◌≡◌, ◌≢◌, ℕ, ◌<◌, ◌≤◌, ℤ, pos, negsuc, ◌+ℤ◌, ◌-ℤ◌, ◌*ℤ◌, ◌≤ℤ◌, ◌<ℤ◌, List, [], ◌∷◌, map, length, slice_index_or}
-use Rattle.std.specs.List.{All, AllPairs, Contains}
-use Rattle.fx_base.specs.declared.bound.Bound.{Bound}
-use Rattle.fx_base.specs.declared.bound.Bound.TheVariants.{Finite, Infinite}
+use Rattle.std.specs.{Prelude.{◌≡◌, ◌≢◌, ℕ, ◌<◌, ◌≤◌, ℤ, pos, negsuc, ◌+ℤ◌, ◌-ℤ◌, ◌*ℤ◌, ◌≤ℤ◌, ◌<ℤ◌, List, [], ◌∷◌, map, length, slice_index_or}, List.{All}}
+use Rattle.std.specs.List.{AllPairs, Contains}
+use Rattle.fx_base.specs.declared.bound.Bound.{Bound, TheVariants.{Finite, Infinite}}
 use Rattle.temporal_net.specs.declared.edge.NetEdge.{NetEdge}
 
 -- the points 0, 1 .. below `points`, and the edges among them

@@ -1,8 +1,6 @@
 -- Whether a network has a solution, as a function of its edges: the algorithm of Bellman and Ford. That it decides `IsSolvable`
 -- is a law (src/laws.rt).
-use Rattle.std.specs.Prelude.{ℕ, zero, suc, ◌==◌, ℤ, pos, ◌+ℤ◌, ◌-ℤ◌, int_le, Bool, if◌then◌else◌, List, [], ◌∷◌}
-use Rattle.std.specs.Int.{int_min}
-use Rattle.std.specs.List.{list_all}
+use Rattle.std.specs.{Prelude.{ℕ, zero, suc, ◌==◌, ℤ, pos, ◌+ℤ◌, ◌-ℤ◌, int_le, Bool, if◌then◌else◌, List, [], ◌∷◌}, Int.{int_min}, List.{list_all}}
 use Rattle.temporal_net.specs.declared.edge.NetEdge.{NetEdge}
 
 -- whether the edge holds of these numbers

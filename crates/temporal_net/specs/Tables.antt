@@ -1,12 +1,7 @@
 -- Tables of least distances between points, by the points that ways may go through.
 use Rattle.std.specs.Prelude.{◌≡◌, ◌≢◌, ℕ, ◌+◌, ◌<◌, ◌≤◌, ◌⊎◌, ℤ, pos, negsuc, ◌+ℤ◌, ◌*ℤ◌, ◌≤ℤ◌, List, [], ◌∷◌, length, Bool, false, ◌&&◌, eqb, cond, get_or}
-use Rattle.std.specs.Prelude.{Option, Some, None}
-use Rattle.std.specs.List.{All, Contains}
-use Rattle.std.specs.Int.Signed.{lt_z}
-use Rattle.std.specs.Ordering.{int_eq}
-use Rattle.temporal_net.specs.declared.edge.NetEdge.{NetEdge}
-use Rattle.temporal_net.specs.declared.distance.Distance.{Distance}
-use Rattle.temporal_net.specs.Networks.{HasItsPoints, IsSmallEdge, edge_at}
+use Rattle.std.specs.{Prelude.{Option, Some, None}, List.{All, Contains}, Int.Signed.{lt_z}, Ordering.{int_eq}}
+use Rattle.temporal_net.specs.{declared.{edge.NetEdge.{NetEdge}, distance.Distance.{Distance}}, Networks.{HasItsPoints, IsSmallEdge, edge_at}}
 
 abbrev pub Table : Type 0
 Table = ℕ → ℕ → Option Distance

@@ -4,8 +4,7 @@ use Rattle.temporal_ops.proofs.Common.{length-map, int_max, ints, clamps, Corner
 use Rattle.temporal_ops.proofs.Common.{Includes, Finishes, FinishedBy, Starts, StartedBy, Meets, MetBy, Overlaps, OverlappedBy, is_tested, IsOp, near}
 use Rattle.temporal_ops.proofs.Common.{tolerance, gap_edges, coincide_edges, during_edges, order_edges, overlaps_edges, opposite, opposite_edge, int_min}
 use Rattle.temporal_ops.proofs.Common.{AllByRecursion, All-from_recursion, recursion_from_All, All-map, All-weaker, IsWithin, IsOpEdge, EdgesAreOps, at_most}
-use Rattle.temporal_ops.proofs.Common.{least_difference, earlier}
-use Rattle.temporal_ops.specs.Operators.{edges_of}
+use Rattle.temporal_ops.{proofs.Common.{least_difference, earlier}, specs.Operators.{edges_of}}
 
 pub upper : (x y : Corner) (most : ℤ) → is_tested x ≡ not (is_tested y) → IsWithin (2 ^ 53) most → IsOpEdge (at_most x y most)
 upper x y most j h = record { joins = j; sized = (omega (arith, ints), omega (arith, ints)) }

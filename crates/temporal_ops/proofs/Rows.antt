@@ -3,10 +3,8 @@ use Rattle.temporal_ops.proofs.Common.{◌≡◌, ℤ, ◌-ℤ◌, ◌≤ℤ◌,
 use Rattle.temporal_ops.proofs.Common.{clamps, Times, Corner, AStart, AEnd, BStart, BEnd, OpEdge, After, Before, Coincides, During, Includes, Finishes}
 use Rattle.temporal_ops.proofs.Common.{FinishedBy, Starts, StartedBy, Meets, MetBy, Overlaps, OverlappedBy, corner, Means, near, tolerance, gap_edges}
 use Rattle.temporal_ops.proofs.Common.{coincide_edges, during_edges, order_edges, overlaps_edges, opposite, opposite_edge, Row, says, no_row, table_row_of}
-use Rattle.temporal_ops.proofs.Common.{EdgesMeanRows, exchanged, during, overlaps}
+use Rattle.temporal_ops.{proofs.Common.{EdgesMeanRows, exchanged, during, overlaps}, specs.{Edges.{edge_holds, edges_hold}, Operators.{edges_of}}}
 use Rattle.std.proofs.lemmas.Bool.{and_from, and_parts}
-use Rattle.temporal_ops.specs.Edges.{edge_holds, edges_hold}
-use Rattle.temporal_ops.specs.Operators.{edges_of}
 
 -- the edges as bounds on numbers
 abbrev pub Bounds : List OpEdge → Times → Times → Type 0

@@ -2,12 +2,10 @@
 use Rattle.temporal_ops.proofs.Common.{◌≡◌, ◌↔◌, ℤ, ◌≤ℤ◌, Bool, true, false, not, ◌||◌, List, [], ◌∷◌, Option, Some, None, refl, arith, list_all, ints, clamps}
 use Rattle.temporal_ops.proofs.Common.{Times, Corner, AStart, AEnd, BStart, BEnd, OpEdge, Limits, Room, is_tested, edge_holds, all_hold, AreStarts}
 use Rattle.temporal_ops.proofs.Common.{ArePossibleTimes, is_empty, IsAboveLimit, IsBelow, LiesBetweenLimits, FitsRoom, FitsEvent, AreStartLimits, All, All-head}
-use Rattle.temporal_ops.proofs.Common.{All-tail, Joins, WindowIsOfEdges}
+use Rattle.temporal_ops.{proofs.Common.{All-tail, Joins, WindowIsOfEdges}, specs.{Edges.{edges_hold}, Starts.{higher, lower, begun, ended, edge_room}}}
+use Rattle.temporal_ops.{specs.Starts.{edges_room, room_of, starts_of, window_by, window_in, starts_window}, proofs.Rooms.{start_end_by, end_end_by}}
+use Rattle.temporal_ops.proofs.{Rooms.{start_begin_at, end_begin_at, event_starts, endless_starts, latest_start}, Windows.{starts_too}}
 use Rattle.std.proofs.lemmas.Bool.{and_from, and_parts}
-use Rattle.temporal_ops.specs.Edges.{edges_hold}
-use Rattle.temporal_ops.specs.Starts.{higher, lower, begun, ended, edge_room, edges_room, room_of, starts_of, window_by, window_in, starts_window}
-use Rattle.temporal_ops.proofs.Rooms.{start_end_by, end_end_by, start_begin_at, end_begin_at, event_starts, endless_starts, latest_start}
-use Rattle.temporal_ops.proofs.Windows.{starts_too}
 
 above_higher : (a b : Option ℤ) (z : ℤ) → IsAboveLimit (higher a b) z ↔ (IsAboveLimit a z × IsAboveLimit b z)
 above_higher None b z = (λ h. (tt, h), λ h. h.1)

@@ -1,7 +1,6 @@
 -- Whether events of one kind are of another, their starts are the same; and no events have two windows.
 use Rattle.temporal_ops.proofs.Common.{◌≡◌, ◌↔◌, ℤ, pos, ◌+ℤ◌, refl, subst, ap, arith, ints, Times, Never, UpTo, Unbounded, AreStarts, IsLatest}
-use Rattle.temporal_ops.proofs.Common.{ArePossibleTimes, AreStartsUnbounded, OneWindow}
-use Rattle.temporal_ops.specs.declared.window.Window.{Window}
+use Rattle.temporal_ops.{proofs.Common.{ArePossibleTimes, AreStartsUnbounded, OneWindow}, specs.declared.window.Window.{Window}}
 
 pub starts_too : (P Q : Times → Type 0) → ((y : Times) → P y ↔ Q y) → (window : Window) → AreStarts P window → AreStarts Q window
 starts_too P Q same Never h = λ y q. h y ((same y).1 q)

@@ -1,11 +1,7 @@
 -- Upper bounds on the differences of the four points of a tested event and a bound event.
-use Rattle.std.specs.Prelude.{◌≡◌, ℕ, ℤ, pos, ◌+◌, ◌-ℤ◌, ◌≤◌, ◌≤ℤ◌, ◌^◌, neg_ℤ, Bool, true, false, not, List, length}
-use Rattle.std.specs.Int.Signed.{le_z}
-use Rattle.std.specs.List.{All, list_all}
+use Rattle.std.specs.{Prelude.{◌≡◌, ℕ, ℤ, pos, ◌+◌, ◌-ℤ◌, ◌≤◌, ◌≤ℤ◌, ◌^◌, neg_ℤ, Bool, true, false, not, List, length}, Int.Signed.{le_z}, List.{All, list_all}}
 use Rattle.fx_base.specs.declared.times.Times.{Times}
-use Rattle.temporal_ops.specs.declared.edge.Corner.{Corner}
-use Rattle.temporal_ops.specs.declared.edge.Corner.TheVariants.{AStart, AEnd, BStart, BEnd}
-use Rattle.temporal_ops.specs.declared.edge.OpEdge.{OpEdge}
+use Rattle.temporal_ops.specs.declared.edge.{Corner.{Corner, TheVariants.{AStart, AEnd, BStart, BEnd}}, OpEdge.{OpEdge}}
 
 -- a point of the tested event a or of the bound event b
 abbrev pub corner : Corner → Times → Times → ℤ

@@ -1,15 +1,8 @@
 -- Laws on the edges of the operators and on the starts of possible events.
-use Rattle.std.specs.Prelude.{◌≡◌, ℤ, Bool, ◌^◌, ◌↔◌, IsTrue, List, Option, Some, None, IfSome}
-use Rattle.std.specs.List.{All}
+use Rattle.std.specs.{Prelude.{◌≡◌, ℤ, Bool, ◌^◌, ◌↔◌, IsTrue, List, Option, Some, None, IfSome}, List.{All}}
 use Rattle.fx_base.specs.declared.times.Times.{Times}
-use Rattle.temporal_ops.specs.declared.edge.OpEdge.{OpEdge}
-use Rattle.temporal_ops.specs.declared.word.OpWord.{OpWord}
-use Rattle.temporal_ops.specs.declared.window.Window.{Window}
-use Rattle.temporal_ops.specs.Edges.{edges_hold, IsOp, IsWithin, Joins}
-use Rattle.temporal_ops.specs.Operators.{edges_of}
-use Rattle.temporal_ops.specs.Possible.{IsStartWindow}
-use Rattle.temporal_ops.specs.Starts.{starts_window}
-use Rattle.temporal_ops.specs.Table.{Row, says, no_row, table_row_of}
+use Rattle.temporal_ops.specs.{declared.{edge.OpEdge.{OpEdge}, word.OpWord.{OpWord}, window.Window.{Window}}, Edges.{edges_hold, IsOp, IsWithin, Joins}}
+use Rattle.temporal_ops.specs.{Operators.{edges_of}, Possible.{IsStartWindow}, Starts.{starts_window}, Table.{Row, says, no_row, table_row_of}}
 
 -- the edges hold of exactly the events of which the row says so, and there are none where there is no row
 abbrev pub Means : Option (List OpEdge) → Row → Type 0

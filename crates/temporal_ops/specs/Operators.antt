@@ -1,10 +1,6 @@
 -- An operator as its list of edges.
-use Rattle.std.specs.Prelude.{ℤ, pos, negsuc, neg_ℤ, List, [], ◌∷◌, Option, Some, None, option_map, map}
-use Rattle.std.specs.Int.{int_max, int_min}
-use Rattle.temporal_ops.specs.declared.edge.Corner.{Corner}
-use Rattle.temporal_ops.specs.declared.edge.Corner.TheVariants.{AStart, AEnd, BStart, BEnd}
-use Rattle.temporal_ops.specs.declared.edge.OpEdge.{OpEdge}
-use Rattle.temporal_ops.specs.declared.word.OpWord.{OpWord}
+use Rattle.std.specs.{Prelude.{ℤ, pos, negsuc, neg_ℤ, List, [], ◌∷◌, Option, Some, None, option_map, map}, Int.{int_max, int_min}}
+use Rattle.temporal_ops.specs.declared.{edge.{Corner.{Corner, TheVariants.{AStart, AEnd, BStart, BEnd}}, OpEdge.{OpEdge}}, word.OpWord.{OpWord}}
 use Rattle.temporal_ops.specs.declared.word.OpWord.TheVariants.{After, Before, Coincides, During, Includes, Finishes, FinishedBy, Starts, StartedBy, Meets}
 use Rattle.temporal_ops.specs.declared.word.OpWord.TheVariants.{MetBy, Overlaps, OverlappedBy}
 

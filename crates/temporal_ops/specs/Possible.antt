@@ -1,12 +1,8 @@
 -- Possible events of a negative pattern, and the starts that they have (Drools Fusion 5 User Guide, negative
 -- patterns with temporal constraints). They range over all pairs of whole numbers.
-use Rattle.std.specs.Prelude.{◌≡◌, ℤ, ◌≤ℤ◌, Bool, true, List}
-use Rattle.std.specs.List.{list_all}
+use Rattle.std.specs.{Prelude.{◌≡◌, ℤ, ◌≤ℤ◌, Bool, true, List}, List.{list_all}}
 use Rattle.fx_base.specs.declared.times.Times.{Times}
-use Rattle.temporal_ops.specs.declared.edge.OpEdge.{OpEdge}
-use Rattle.temporal_ops.specs.declared.window.Window.{Window}
-use Rattle.temporal_ops.specs.declared.window.Window.TheVariants.{Never, UpTo, Unbounded}
-use Rattle.temporal_ops.specs.Edges.{edges_hold}
+use Rattle.temporal_ops.specs.{declared.{edge.OpEdge.{OpEdge}, window.Window.{Window, TheVariants.{Never, UpTo, Unbounded}}}, Edges.{edges_hold}}
 
 -- each operator holds of the tested event y and its own bound event
 abbrev pub all_hold : List (List OpEdge × Times) → Times → Bool

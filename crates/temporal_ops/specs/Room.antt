@@ -1,10 +1,7 @@
 -- The room that edges leave for the start and the end of an event.
-use Rattle.std.specs.Prelude.{◌≡◌, ◌↔◌, ℤ, ◌≤ℤ◌, Bool, true, false, Option, Some, None}
-use Rattle.std.specs.Int.Signed.{lt_z}
+use Rattle.std.specs.{Prelude.{◌≡◌, ◌↔◌, ℤ, ◌≤ℤ◌, Bool, true, false, Option, Some, None}, Int.Signed.{lt_z}}
 use Rattle.fx_base.specs.declared.times.Times.{Times}
-use Rattle.temporal_ops.specs.declared.room.Limits.{Limits}
-use Rattle.temporal_ops.specs.declared.room.Room.{Room}
-use Rattle.temporal_ops.specs.Possible.{IsEvent}
+use Rattle.temporal_ops.specs.{declared.room.{Limits.{Limits}, Room.{Room}}, Possible.{IsEvent}}
 
 abbrev pub IsAboveLimit : Option ℤ → ℤ → Type 0
 IsAboveLimit None z = Unit {0}

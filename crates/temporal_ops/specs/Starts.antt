@@ -1,15 +1,8 @@
 -- The starts of possible events as a function of the edges, for definitions that have to compute.
-use Rattle.std.specs.Prelude.{ℤ, ◌+ℤ◌, ◌-ℤ◌, Bool, true, false, cond, ◌||◌, List, [], ◌∷◌, Option, Some, None}
-use Rattle.std.specs.Int.{int_max, int_min}
+use Rattle.std.specs.{Prelude.{ℤ, ◌+ℤ◌, ◌-ℤ◌, Bool, true, false, cond, ◌||◌, List, [], ◌∷◌, Option, Some, None}, Int.{int_max, int_min}}
 use Rattle.fx_base.specs.declared.times.Times.{Times}
-use Rattle.temporal_ops.specs.declared.edge.Corner.{Corner}
-use Rattle.temporal_ops.specs.declared.edge.Corner.TheVariants.{AStart, AEnd, BStart, BEnd}
-use Rattle.temporal_ops.specs.declared.edge.OpEdge.{OpEdge}
-use Rattle.temporal_ops.specs.declared.room.Limits.{Limits}
-use Rattle.temporal_ops.specs.declared.room.Room.{Room}
-use Rattle.temporal_ops.specs.declared.window.Window.{Window}
-use Rattle.temporal_ops.specs.declared.window.Window.TheVariants.{Never, UpTo, Unbounded}
-use Rattle.temporal_ops.specs.Room.{is_empty}
+use Rattle.temporal_ops.specs.declared.{edge.{Corner.{Corner, TheVariants.{AStart, AEnd, BStart, BEnd}}, OpEdge.{OpEdge}}, room.{Limits.{Limits}, Room.{Room}}}
+use Rattle.temporal_ops.specs.{declared.window.Window.{Window, TheVariants.{Never, UpTo, Unbounded}}, Room.{is_empty}}
 
 -- the greater of two lower limits
 abbrev pub higher : Option ℤ → Option ℤ → Option ℤ

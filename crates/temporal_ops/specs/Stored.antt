@@ -1,10 +1,7 @@
 -- How an operator stores its edges: at the front of five items, of which the others are blank.
-use Rattle.std.specs.Prelude.{pos, List, replicate}
-use Rattle.std.proofs.Common.{◌≡◌, ◌-◌, ◌≤◌, ◌++◌, length, take, drop, ap, sym, ◌∙◌, arith, take-append-drop, length-take-le}
-use Rattle.temporal_ops.specs.declared.edge.Corner.TheVariants.{AStart}
-use Rattle.temporal_ops.specs.declared.edge.OpEdge.{OpEdge}
-use Rattle.temporal_ops.specs.declared.edge.Edges.{Edges}
-use Rattle.temporal_ops.specs.Edges.{IsOp}
+use Rattle.std.{specs.Prelude.{pos, List, replicate}, proofs.Common.{◌≡◌, ◌-◌, ◌≤◌, ◌++◌, length, take, drop, ap, sym, ◌∙◌, arith, take-append-drop}}
+use Rattle.std.proofs.Common.{length-take-le}
+use Rattle.temporal_ops.specs.{declared.edge.{Corner.TheVariants.{AStart}, OpEdge.{OpEdge}, Edges.{Edges}}, Edges.{IsOp}}
 
 -- an item that means nothing
 abbrev pub blank : OpEdge

@@ -1,12 +1,10 @@
 -- The table of the thirteen operators: what each word with its parameters says of the tested event a and
 -- the bound event b. The words are those of the Drools Fusion 5 User Guide; the rows with parameters are
 -- this project's own.
-use Rattle.std.specs.Prelude.{◌≡◌, ℤ, pos, Bool, true, false, ◌-ℤ◌, ◌≤ℤ◌, ◌<ℤ◌, List, [], ◌∷◌}
-use Rattle.std.specs.Int.{int_max, int_min}
+use Rattle.std.specs.{Prelude.{◌≡◌, ℤ, pos, Bool, true, false, ◌-ℤ◌, ◌≤ℤ◌, ◌<ℤ◌, List, [], ◌∷◌}, Int.{int_max, int_min}}
 use Rattle.fx_base.specs.declared.times.Times.{Times}
-use Rattle.temporal_ops.specs.declared.word.OpWord.{OpWord}
-use Rattle.temporal_ops.specs.declared.word.OpWord.TheVariants.{After, Before, Coincides, During, Includes, Finishes, FinishedBy, Starts, StartedBy, Meets}
-use Rattle.temporal_ops.specs.declared.word.OpWord.TheVariants.{MetBy, Overlaps, OverlappedBy}
+use Rattle.temporal_ops.specs.declared.word.OpWord.{OpWord, TheVariants.{After, Before, Coincides, During, Includes, Finishes, FinishedBy, Starts, StartedBy}}
+use Rattle.temporal_ops.specs.declared.word.OpWord.TheVariants.{Meets, MetBy, Overlaps, OverlappedBy}
 
 -- what a word says of a and b, or that the table has no row for that many parameters
 pub data Row : Type 1 where

@@ -3,8 +3,7 @@ use Rattle.window_gate.proofs.Common.{◌≡◌, ◌∙◌, sym, ap, refl, subst
 use Rattle.window_gate.proofs.Common.{◌||◌, Option, Some, None, option_map, arith, option_or, ints, int_lt, int_le, IfSome, IsSomeAnd, is_at, list_any, nat_cmp}
 use Rattle.window_gate.proofs.Common.{int_cmp, eq_by_cmp, unsigned_tied, Decides-eqb, list_any-append, FactId, name_cmp, Named, GateChange, Come, Gone, Clock}
 use Rattle.window_gate.proofs.Common.{TimeWindow, Arrival, has_tag, has_version, HeldArrivals, HoldsArrivals, leaves_at, is_id, has_time_come, takes_out}
-use Rattle.window_gate.proofs.Common.{brings, Leave, Enter, and-false, or-false, eqb-flip, Included, found, is_due, come}
-use Rattle.window_gate.proofs.Names.{same_name, same_name-parts}
+use Rattle.window_gate.proofs.{Common.{brings, Leave, Enter, and-false, or-false, eqb-flip, Included, found, is_due, come}, Names.{same_name, same_name-parts}}
 use Rattle.window_gate.proofs.Wholes.{only_it}
 
 -- what is held is what is held under each tag

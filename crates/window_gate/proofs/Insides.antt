@@ -2,8 +2,7 @@
 use Rattle.window_gate.proofs.Common.{◌≡◌, ◌∙◌, sym, ap, refl, subst, ℕ, ℤ, ◌+◌, ◌-ℤ◌, ◌<◌, ◌≤◌, min, List, [], ◌∷◌, ◌++◌, map, filter, length, Bool, true}
 use Rattle.window_gate.proofs.Common.{false, cond, not, arith, int_lt, nat_lt, nat_tests, length-map, length-append, map-append, Named, Whole, Time, Length}
 use Rattle.window_gate.proofs.Common.{GateChange, Come, Gone, Clock, Arrival, named_of, has_tag, inside, after, TagsDiffer, MayChange}
-use Rattle.window_gate.specs.declared.change.WindowKind.{WindowKind}
-use Rattle.window_gate.proofs.Names.{without, differ_push, differ_without}
+use Rattle.window_gate.{specs.declared.change.WindowKind.{WindowKind}, proofs.Names.{without, differ_push, differ_without}}
 
 -- all are inside a whole window
 pub inside_whole : (now : ℤ) (arrivals : List Arrival) → inside Whole now arrivals ≡ arrivals

@@ -5,15 +5,12 @@ use Rattle.window_gate.proofs.Common.{MatchOption, insert_entry, is_at, get, BTr
 use Rattle.window_gate.proofs.Common.{nat_cmp, eq_by_cmp, Decides-eqb, nat_tests, length-append, length-map, list_any-append, name_cmp, IsBetween, Named, Delta}
 use Rattle.window_gate.proofs.Common.{Length, Come, Gone, Arrival, named_of, has_tag, single, inside, after, rows_inside, has_version, TagsDiffer, number_of}
 use Rattle.window_gate.proofs.Common.{KeepsLength, numbered, Numbered, MakesRoom, BringsBack, Removes, and_not_self}
-use Rattle.window_gate.specs.declared.length_window.LengthWindow.{LengthWindow}
-use Rattle.window_gate.proofs.Names.{same_name, same_itself, equal_names, none_with_tag, names_apart, names-without, only_one, without, differ_right}
-use Rattle.window_gate.proofs.Names.{absent_right}
-use Rattle.window_gate.proofs.Singles.{between_names}
-use Rattle.window_gate.proofs.Insides.{latest, length-latest, latest_split, inside_length, named-filter, named-push}
-use Rattle.window_gate.proofs.Wholes.{one_in_order, none_in_order, only_it, nothing_goes, one_comes}
-use Rattle.window_gate.proofs.Numbers.{others, values-others, others-append, others-absent, others_rise, head_rise, keys-append, values-append, put_behind}
-use Rattle.window_gate.proofs.Numbers.{put_before, rising_left, rising_right, rising_next, less_next, number_of-append, number_of-others, none_numbered}
-use Rattle.window_gate.proofs.Numbers.{not_numbered, InOlder, InNewer, in_either}
+use Rattle.window_gate.{specs.declared.length_window.LengthWindow.{LengthWindow}, proofs.Names.{same_name, same_itself, equal_names, none_with_tag}}
+use Rattle.window_gate.proofs.{Names.{names_apart, names-without, only_one, without, differ_right, absent_right}, Singles.{between_names}, Insides.{latest}}
+use Rattle.window_gate.proofs.{Insides.{length-latest, latest_split, inside_length, named-filter, named-push}, Wholes.{one_in_order, none_in_order, only_it}}
+use Rattle.window_gate.proofs.{Wholes.{nothing_goes, one_comes}, Numbers.{others, values-others, others-append, others-absent, others_rise, head_rise}}
+use Rattle.window_gate.proofs.Numbers.{keys-append, values-append, put_behind, put_before, rising_left, rising_right, rising_next, less_next, number_of-append}
+use Rattle.window_gate.proofs.Numbers.{number_of-others, none_numbered, not_numbered, InOlder, InNewer, in_either}
 
 -- a list of one or none is in order
 pub few_in_order : (o : Option Named) → IsStrictlySortedBy name_cmp (option_to_list o)

@@ -2,12 +2,10 @@
 use Rattle.window_gate.proofs.Common.{◌≡◌, ◌∙◌, sym, ap, refl, inl, inr, ℕ, ℤ, ◌≤ℤ◌, ◌<ℤ◌, List, [], ◌∷◌, map, Bool, true, false, cond, not, ◌&&◌, ◌||◌, Option}
 use Rattle.window_gate.proofs.Common.{Some, None, option_map, arith, ◌+ℤ◌, ints, nat_cmp, int_cmp, eq_by_cmp, is_eq, is_gt, IsBetween, has, Delta, Row, Clock}
 use Rattle.window_gate.proofs.Common.{Time, TimeWindow, FactId, KeepsTime, TagsDiffer, with_tag, leaves_at, LeavesAt, Arrival, named_of, has_tag, inside}
-use Rattle.window_gate.proofs.Common.{rows_inside, leaves, brings, Leave, Enter, IfSome, IsSomeAnd, found, is_moment, pair_cmp, not_later}
+use Rattle.window_gate.proofs.{Common.{rows_inside, leaves, brings, Leave, Enter, IfSome, IsSomeAnd, found, is_moment, pair_cmp, not_later}, Times.{step_keeps}}
+use Rattle.window_gate.proofs.{Times.{step_between}, Holding.{leave_none, enter_none, none_due}, Wholes.{none_in_order}}
 use Rattle.std.proofs.lemmas.Cmp.{tied_itself, int_cmp_total}
 use Rattle.fx_base.specs.Lists.{In}
-use Rattle.window_gate.proofs.Times.{step_keeps, step_between}
-use Rattle.window_gate.proofs.Holding.{leave_none, enter_none, none_due}
-use Rattle.window_gate.proofs.Wholes.{none_in_order}
 
 -- sets of which neither has what the other lacks answer alike
 alike : (a b : Bool) → false ≡ (a && not b) → false ≡ (b && not a) → b ≡ a

@@ -3,8 +3,7 @@ use Rattle.window_gate.proofs.Common.{◌≡◌, ◌∙◌, sym, ap, refl, subst
 use Rattle.window_gate.proofs.Common.{nat_cmp, ordering_then, eq_by_cmp, is_eq, int_cmp, AllByRecursion, name_cmp, has, row_cmp, InOrder, IsBetween, Named, Row}
 use Rattle.window_gate.proofs.Common.{Delta, single, has_version}
 use mathlib.Core.Path.{fun_ext}
-use Rattle.std.specs.Cmp.Lexicographic.{slice_cmp}
-use Rattle.std.specs.List.Sorted.{IsStrictlySortedBy}
+use Rattle.std.specs.{Cmp.Lexicographic.{slice_cmp}, List.Sorted.{IsStrictlySortedBy}}
 
 -- the row of these facts and values
 abbrev row_of : List Named → List ℤ → Row

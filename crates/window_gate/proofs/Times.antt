@@ -4,13 +4,10 @@ use Rattle.window_gate.proofs.Common.{cond, not, ◌==◌, ◌&&◌, ◌||◌, O
 use Rattle.window_gate.proofs.Common.{list_any, option_or, option_to_list, Decides-eqb, ints, IsBetween, name_cmp, Delta, Named, Time, GateChange, Come, Gone}
 use Rattle.window_gate.proofs.Common.{Clock, TimeWindow, Arrival, named_of, has_tag, inside, after, single, rows_inside, has_version, TagsDiffer, MayChange}
 use Rattle.window_gate.proofs.Common.{with_tag, KeepsTime, HoldsArrivals, most, is_id, has_time_come, leaves, brings, Leave, Enter, find-append, and-false}
-use Rattle.window_gate.proofs.Common.{or-false, eqb-flip, or_first_false, or_second_false}
+use Rattle.window_gate.proofs.{Common.{or-false, eqb-flip, or_first_false, or_second_false}, Names.{same_name, same_name-parts, none_with_tag, has_tag-same}}
+use Rattle.window_gate.proofs.{Insides.{is_recent, inside_time, differ_after}, Lengths.{few_in_order}, Singles.{between_names}, Holding.{holds_same}}
+use Rattle.window_gate.proofs.Holding.{arrival_of}
 use Rattle.std.specs.Int.{saturate_signed}
-use Rattle.window_gate.proofs.Names.{same_name, same_name-parts, none_with_tag, has_tag-same}
-use Rattle.window_gate.proofs.Insides.{is_recent, inside_time, differ_after}
-use Rattle.window_gate.proofs.Lengths.{few_in_order}
-use Rattle.window_gate.proofs.Singles.{between_names}
-use Rattle.window_gate.proofs.Holding.{holds_same, arrival_of}
 
 -- ---- the arrival with a tag, where it passes a test
 

@@ -1,16 +1,9 @@
 -- The steps of the two windows that keep something.
 use Rattle.std.specs.Prelude.{◌≡◌, ℕ, ℤ, ◌<◌, ◌≤◌, ◌+ℤ◌, ◌⊎◌, ◌==◌, ◌&&◌, ◌||◌, Bool, false, cond, List, [], ◌∷◌, ◌++◌, Option, Some, None, option_to_list}
-use Rattle.std.specs.Prelude.{length, int_le, int_lt}
-use Rattle.std.specs.BTreeMap.{insert_entry, is_at}
-use Rattle.std.specs.Map.{lookup, remove_entry}
-use Rattle.std.specs.Option.{option_or}
-use Rattle.std.specs.Ordering.{nat_cmp}
+use Rattle.std.specs.{Prelude.{length, int_le, int_lt}, BTreeMap.{insert_entry, is_at}, Map.{lookup, remove_entry}, Option.{option_or}, Ordering.{nat_cmp}}
 use Rattle.row_delta.specs.declared.row.Named.{Named}
-use Rattle.window_gate.specs.declared.change.GateChange.{GateChange}
-use Rattle.window_gate.specs.declared.change.GateChange.TheVariants.{Come, Gone, Clock}
-use Rattle.window_gate.specs.declared.time_window.TimeWindow.{TimeWindow}
-use Rattle.window_gate.specs.Windows.{Arrival}
-use Rattle.window_gate.specs.Standing.{HeldArrivals, HoldsArrivals, has_version}
+use Rattle.window_gate.specs.declared.{change.GateChange.{GateChange, TheVariants.{Come, Gone, Clock}}, time_window.TimeWindow.{TimeWindow}}
+use Rattle.window_gate.specs.{Windows.{Arrival}, Standing.{HeldArrivals, HoldsArrivals, has_version}}
 
 -- versions under their numbers
 abbrev pub Numbered : Type 0

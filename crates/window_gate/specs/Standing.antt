@@ -1,24 +1,14 @@
 -- For which arrivals a gate stands, and which changes it takes.
 use Rattle.std.specs.Prelude.{◌≡◌, ℕ, ℤ, pos, ◌+ℤ◌, ◌≤ℤ◌, ◌^◌, Bool, true, false, List, [], ◌∷◌, ◌++◌, Option, Some, None, map, option_map, cond}
-use Rattle.std.specs.BTreeMap.{get}
-use Rattle.std.specs.List.{list_any, find}
-use Rattle.std.specs.List.Sorted.{IsStrictlySortedBy}
-use Rattle.std.specs.Map.{keys_of, values_of}
-use Rattle.std.specs.Ordering.{nat_cmp, eq_by_cmp}
+use Rattle.std.specs.{BTreeMap.{get}, List.{list_any, find, Sorted.{IsStrictlySortedBy}}, Map.{keys_of, values_of}, Ordering.{nat_cmp, eq_by_cmp}}
 use Rattle.due_queue.specs.Moments.{found}
 use Rattle.fx_base.specs.declared.ids.FactId.{FactId}
-use Rattle.row_delta.specs.NameOrder.{name_cmp}
-use Rattle.row_delta.specs.declared.row.Named.{Named}
-use Rattle.window_gate.specs.declared.change.WindowKind.{WindowKind}
-use Rattle.window_gate.specs.declared.change.WindowKind.TheVariants.{Whole, Time, Length}
-use Rattle.window_gate.specs.declared.change.GateChange.{GateChange}
-use Rattle.window_gate.specs.declared.change.GateChange.TheVariants.{Come, Gone, Clock}
-use Rattle.window_gate.specs.declared.gate.Gate.{Gate}
-use Rattle.window_gate.specs.declared.gate.Kept.{Kept}
+use Rattle.row_delta.specs.{NameOrder.{name_cmp}, declared.row.Named.{Named}}
+use Rattle.window_gate.specs.declared.change.{WindowKind.{WindowKind, TheVariants.{Whole, Time, Length}}, GateChange.{GateChange, TheVariants.{Come, Gone}}}
+use Rattle.window_gate.specs.declared.{change.GateChange.TheVariants.{Clock}, gate.{Gate.{Gate}, Kept.{Kept}}}
 use Rattle.window_gate.specs.declared.gate.Kept.TheVariants as kept
-use Rattle.window_gate.specs.declared.length_window.LengthWindow.{LengthWindow}
-use Rattle.window_gate.specs.declared.time_window.TimeWindow.{TimeWindow}
-use Rattle.window_gate.specs.Windows.{Arrival, named_of, has_tag, inside}
+use Rattle.window_gate.specs.{declared.{length_window.LengthWindow.{LengthWindow}, time_window.TimeWindow.{TimeWindow}}, Windows.{Arrival, named_of, has_tag}}
+use Rattle.window_gate.specs.Windows.{inside}
 
 -- whether a version stands in a list
 abbrev pub has_version : List Named → Named → Bool

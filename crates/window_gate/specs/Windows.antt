@@ -1,11 +1,8 @@
 -- Which of the facts that came are inside a window, and what a change makes of them.
 use Rattle.std.specs.Prelude.{ℕ, ℤ, ◌-ℤ◌, ◌==◌, Bool, true, cond, not, List, [], ◌∷◌, ◌++◌, map, filter, length, nat_lt, int_lt}
-use Rattle.row_delta.specs.declared.row.Named.{Named}
-use Rattle.row_delta.specs.declared.row.Row.{Row}
-use Rattle.window_gate.specs.declared.change.WindowKind.{WindowKind}
-use Rattle.window_gate.specs.declared.change.WindowKind.TheVariants.{Whole, Time, Length}
-use Rattle.window_gate.specs.declared.change.GateChange.{GateChange}
-use Rattle.window_gate.specs.declared.change.GateChange.TheVariants.{Come, Gone, Clock}
+use Rattle.row_delta.specs.declared.row.{Named.{Named}, Row.{Row}}
+use Rattle.window_gate.specs.declared.change.{WindowKind.{WindowKind, TheVariants.{Whole, Time, Length}}, GateChange.{GateChange, TheVariants.{Come, Gone}}}
+use Rattle.window_gate.specs.declared.change.GateChange.TheVariants.{Clock}
 
 -- a version that came, with its start
 pub record Arrival : Type 0 where

@@ -1,5 +1,4 @@
-use Rattle.rule_lives.proofs.Keeps.{tuple_names_kept, tuple_meets_kept}
-use Rattle.rule_lives.proofs.Remains.{match_names_kept, kept_before}
+use Rattle.rule_lives.proofs.{Keeps.{tuple_names_kept, tuple_meets_kept}, Remains.{match_names_kept, kept_before}}
 use Rattle.rule_lives.proofs.what_comes_is_kept.Goals as goal
 
 pub returns-clause-tuples : goal.returns-clause-tuples

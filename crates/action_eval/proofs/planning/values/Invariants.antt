@@ -1,6 +1,5 @@
 use Rattle.std.proofs.Common.{◌≡◌, Some, take}
-use Rattle.rule_model.specs.Lent.{bound_in}
-use Rattle.rule_model.specs.Numbers.{values_of}
+use Rattle.rule_model.specs.{Lent.{bound_in}, Numbers.{values_of}}
 use Rattle.action_eval.proofs.planning.values.Given as goal
 
 -- what stands is the values of the expressions before this one

@@ -1,5 +1,4 @@
-use Rattle.agenda.proofs.Common.{◌==◌, refl, match_of}
-use Rattle.agenda.proofs.Steps.{fired_taken, taken_next}
+use Rattle.agenda.proofs.{Common.{◌==◌, refl, match_of}, Steps.{fired_taken, taken_next}}
 use Rattle.agenda.proofs.agenda.drop_rows.Goals as goal
 
 pub loop-row-preserved : goal.loop-row-preserved

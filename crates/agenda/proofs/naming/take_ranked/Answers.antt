@@ -1,5 +1,4 @@
-use Rattle.agenda.proofs.Ranks.{well_removed}
-use Rattle.agenda.proofs.Namings.{take_counts}
+use Rattle.agenda.proofs.{Ranks.{well_removed}, Namings.{take_counts}}
 use Rattle.agenda.proofs.naming.take_ranked.Goals as goal
 
 pub returns-in-Some-clause-well : goal.returns-in-Some-clause-well

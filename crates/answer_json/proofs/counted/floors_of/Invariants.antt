@@ -1,6 +1,5 @@
 use Rattle.std.proofs.Common.{◌≡◌, drop}
-use Rattle.serde_json.specs.Data.{no_members}
-use Rattle.serde_json.specs.View.{members_view}
+use Rattle.serde_json.specs.{Data.{no_members}, View.{members_view}}
 use Rattle.answer_json.specs.Answers.{with_floors}
 use Rattle.answer_json.proofs.counted.floors_of.Given as goal
 

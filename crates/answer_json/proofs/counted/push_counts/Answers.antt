@@ -1,9 +1,6 @@
 use Rattle.std.proofs.Common.{◌≡◌, ◌≤◌, false, sym, subst}
-use Rattle.serde_json.specs.Data.{Data, depth}
-use Rattle.serde_json.specs.Read.{max_depth}
-use Rattle.serde_json.specs.Written.{has_float}
-use Rattle.answer_json.proofs.Floats.{counted_has_none}
-use Rattle.answer_json.proofs.Depths.{counted_is_shallow}
+use Rattle.serde_json.specs.{Data.{Data, depth}, Read.{max_depth}, Written.{has_float}}
+use Rattle.answer_json.proofs.{Floats.{counted_has_none}, Depths.{counted_is_shallow}}
 use Rattle.answer_json.proofs.counted.push_counts.Goals as goal
 
 pub push_value-requires-clause-exact : goal.push_value-requires-clause-exact

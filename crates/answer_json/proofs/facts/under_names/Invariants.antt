@@ -1,6 +1,5 @@
 use Rattle.std.proofs.Common.{◌≡◌, drop}
-use Rattle.serde_json.specs.Data.{no_members}
-use Rattle.serde_json.specs.View.{members_view}
+use Rattle.serde_json.specs.{Data.{no_members}, View.{members_view}}
 use Rattle.answer_json.specs.Facts.{with_fields}
 use Rattle.answer_json.proofs.facts.under_names.Given as goal
 

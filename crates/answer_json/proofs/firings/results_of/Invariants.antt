@@ -1,5 +1,4 @@
-use Rattle.std.proofs.Common.{◌≡◌, ◌++◌, drop}
-use Rattle.std.specs.Prelude.{map}
+use Rattle.std.{proofs.Common.{◌≡◌, ◌++◌, drop}, specs.Prelude.{map}}
 use Rattle.serde_json.specs.View.{view}
 use Rattle.answer_json.specs.Firings.{bound_results}
 use Rattle.answer_json.proofs.firings.results_of.Given as goal

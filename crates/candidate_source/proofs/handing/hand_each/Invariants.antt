@@ -1,6 +1,5 @@
 use Rattle.candidate_source.proofs.Common.{ℕ, ◌&&◌, not, option_map, nat_cmp, BTreeMap, Handed, IsHandedTo, has_place, is_under_given}
-use Rattle.std.specs.List.Sorted.{IsStrictlySortedBy}
-use Rattle.std.specs.Map.{keys_of}
+use Rattle.std.specs.{List.Sorted.{IsStrictlySortedBy}, Map.{keys_of}}
 use Rattle.candidate_source.proofs.handing.hand_each.Given as goal
 
 -- to whom the places that are left are handed, to them all are

@@ -1,10 +1,6 @@
-use Rattle.candidate_source.proofs.Common.{◌∙◌, ap, sym, ℕ, Option, Some, ◌&&◌, not, option_map, is_under_given}
-use Rattle.std.proofs.lemmas.Result.{on_ok_weaker}
-use Rattle.std.specs.Borrow.{Bor}
-use Rattle.alpha_memory.specs.Bucket.{entries}
-use Rattle.alpha_memory.specs.declared.bucket.Bucket.{Bucket}
-use Rattle.candidate_source.proofs.Behind.{handed_alike}
-use Rattle.candidate_source.proofs.Places.{under_bucket}
+use Rattle.candidate_source.proofs.{Common.{◌∙◌, ap, sym, ℕ, Option, Some, ◌&&◌, not, option_map, is_under_given}, Behind.{handed_alike}, Places.{under_bucket}}
+use Rattle.std.{proofs.lemmas.Result.{on_ok_weaker}, specs.Borrow.{Bor}}
+use Rattle.alpha_memory.specs.{Bucket.{entries}, declared.bucket.Bucket.{Bucket}}
 use Rattle.candidate_source.proofs.handing.hand_under.Goals as goal
 
 pub returns-in-Some-Many : goal.returns-in-Some-Many

@@ -1,5 +1,4 @@
-use Rattle.candidate_source.proofs.Common.{◌||◌, List, Named, subst, take_all, has_name, has_candidate, KeepsNames}
-use Rattle.candidate_source.proofs.Turning.{kept_more, kept_more_none}
+use Rattle.candidate_source.proofs.{Common.{◌||◌, List, Named, subst, take_all, has_name, has_candidate, KeepsNames}, Turning.{kept_more, kept_more_none}}
 use Rattle.candidate_source.proofs.source.put_all.Goals as goal
 
 pub loop-who-init : goal.loop-who-init

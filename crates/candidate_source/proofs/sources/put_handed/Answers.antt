@@ -1,5 +1,4 @@
-use Rattle.candidate_source.proofs.Common.{◌≡◌, subst, ℕ, List, true, false, has_place}
-use Rattle.candidate_source.proofs.Resting.{due_next, due_still}
+use Rattle.candidate_source.proofs.{Common.{◌≡◌, subst, ℕ, List, true, false, has_place}, Resting.{due_next, due_still}}
 use Rattle.candidate_source.proofs.sources.put_handed.Goals as goal
 
 pub loop-place-preserved : goal.loop-place-preserved

@@ -1,7 +1,5 @@
-use Rattle.change_read.proofs.Common.{refl, ap, set, rules, arith}
+use Rattle.change_read.proofs.{Common.{refl, ap, set, rules, arith}, Merging.{with_found, with_missing}, merge.fields_named.Goals.{in-Some, in-None}}
 use Rattle.std.proofs.lemmas.Grind.{common_steps}
-use Rattle.change_read.proofs.Merging.{with_found, with_missing}
-use Rattle.change_read.proofs.merge.fields_named.Goals.{in-Some, in-None}
 use Rattle.change_read.proofs.merge.fields_named.Goals as goal
 
 pub loop-place-preserved : goal.loop-place-preserved

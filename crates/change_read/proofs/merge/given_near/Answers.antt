@@ -1,5 +1,4 @@
-use Rattle.change_read.proofs.Common.{sym}
-use Rattle.change_read.proofs.Merging.{given_at}
+use Rattle.change_read.proofs.{Common.{sym}, Merging.{given_at}}
 use Rattle.change_read.proofs.merge.given_near.Goals as goal
 
 pub returns-in-Some : goal.returns-in-Some

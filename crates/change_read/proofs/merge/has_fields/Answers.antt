@@ -1,5 +1,4 @@
-use Rattle.change_read.proofs.Common.{◌∙◌}
-use Rattle.change_read.proofs.Merging.{are_whole}
+use Rattle.change_read.proofs.{Common.{◌∙◌}, Merging.{are_whole}}
 use Rattle.change_read.proofs.merge.has_fields.Goals as goal
 
 pub returns : goal.returns

@@ -1,5 +1,4 @@
-use Rattle.change_read.proofs.Common.{rules, answers_always, is_lt, name_cmp}
-use Rattle.change_read.proofs.Merging.{rising_by}
+use Rattle.change_read.proofs.{Common.{rules, answers_always, is_lt, name_cmp}, Merging.{rising_by}}
 use Rattle.change_read.proofs.merge.is_rising.Goals as goal
 
 pub returns : goal.returns

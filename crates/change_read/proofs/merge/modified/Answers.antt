@@ -1,5 +1,4 @@
-use Rattle.change_read.proofs.Common.{◌∙◌, sym, Some, None}
-use Rattle.change_read.proofs.Merging.{are_part, no_fields, some_fields}
+use Rattle.change_read.proofs.{Common.{◌∙◌, sym, Some, None}, Merging.{are_part, no_fields, some_fields}}
 use Rattle.change_read.proofs.merge.modified.Goals as goal
 
 pub returns-then-not-are_some : goal.returns-then-not-are_some

@@ -1,5 +1,4 @@
-use Rattle.change_read.proofs.Common.{◌≡◌, ◌∙◌, ◌<◌, ◌≤◌, ◌∷◌, [], None, sym, ap, subst, length, take, arith, length-append, fields_of}
-use Rattle.change_read.proofs.Merging.{none_more}
+use Rattle.change_read.proofs.{Common.{◌≡◌, ◌∙◌, ◌<◌, ◌≤◌, ◌∷◌, [], None, sym, ap, subst, length, take, arith, length-append, fields_of}, Merging.{none_more}}
 use Rattle.change_read.proofs.merge.none_named.Goals as goal
 
 pub fill-preserved : goal.fill-preserved

@@ -1,6 +1,5 @@
-use Rattle.change_read.proofs.Common.{rules, of_calls, slice_cmp, nat_cmp}
+use Rattle.change_read.proofs.{Common.{rules, of_calls, slice_cmp, nat_cmp}, Merging.{Member, equal_is, none_found}}
 use Rattle.std.proofs.lemmas.Fn.{always_returns_same}
-use Rattle.change_read.proofs.Merging.{Member, equal_is, none_found}
 use Rattle.change_read.proofs.merge.searched.Goals as goal
 
 pub returns-in-Ok-clause-named : goal.returns-in-Ok-clause-named

@@ -1,5 +1,4 @@
-use Rattle.change_read.proofs.Common.{◌∙◌, sym, ap, set_for}
-use Rattle.change_read.proofs.Merging.{one_set}
+use Rattle.change_read.proofs.{Common.{◌∙◌, sym, ap, set_for}, Merging.{one_set}}
 use Rattle.change_read.proofs.merge.sets_named.Goals as goal
 
 pub loop-place-preserved : goal.loop-place-preserved

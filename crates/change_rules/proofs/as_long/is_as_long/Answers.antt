@@ -1,7 +1,5 @@
-use Rattle.change_rules.proofs.Common.{ap₂, arith, sym, ◌∙◌}
+use Rattle.change_rules.{proofs.{Common.{ap₂, arith, sym, ◌∙◌}, LongEnough.{differs, ends, goes_on, other_many}}, specs.AsLong.{are_lives_as_long}}
 use Rattle.rule_model.specs.declared.life.Life.TheVariants.{Plain}
-use Rattle.change_rules.specs.AsLong.{are_lives_as_long}
-use Rattle.change_rules.proofs.LongEnough.{differs, ends, goes_on, other_many}
 use Rattle.change_rules.proofs.as_long.is_as_long.Goals as goal
 
 pub returns-then-own-lives : goal.returns-then-own-lives

@@ -1,5 +1,4 @@
-use Rattle.change_rules.proofs.Common.{drop, ◌≡◌}
-use Rattle.change_rules.specs.AsLong.{are_lives_as_long}
+use Rattle.change_rules.{proofs.Common.{drop, ◌≡◌}, specs.AsLong.{are_lives_as_long}}
 use Rattle.change_rules.proofs.as_long.is_as_long.Given as goal
 
 abbrev pub invariant-loop-place : goal.invariant-loop-place

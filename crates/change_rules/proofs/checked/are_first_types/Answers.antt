@@ -1,6 +1,5 @@
-use Rattle.change_rules.proofs.Common.{Some, None, ap, arith, get_or, length, sym, ◌<◌, ◌∙◌, ◌≡◌}
+use Rattle.change_rules.proofs.{Common.{Some, None, ap, arith, get_or, length, sym, ◌<◌, ◌∙◌, ◌≡◌}, Apart.{one_type}}
 use Rattle.std.proofs.lemmas.Option.{slice_get-get_or, slice_get_within}
-use Rattle.change_rules.proofs.Apart.{one_type}
 use Rattle.change_rules.proofs.checked.are_first_types.Goals as goal
 
 pub returns-in_default-2-clause-none : goal.returns-in_default-2-clause-none

@@ -1,7 +1,6 @@
-use Rattle.change_rules.proofs.Common.{Some, ℕ, ◌<◌, ◌≡◌}
+use Rattle.change_rules.{proofs.Common.{Some, ℕ, ◌<◌, ◌≡◌}, specs.Checked.{HasPlacesIn}}
 use Rattle.rule_model.specs.declared.condition.Condition.{Condition}
 use Rattle.std.proofs.Common.{slice_get}
-use Rattle.change_rules.specs.Checked.{HasPlacesIn}
 use Rattle.change_rules.proofs.checked.rule_has_places.Given as goal
 
 abbrev pub invariant-loop-place : goal.invariant-loop-place

@@ -1,5 +1,4 @@
-use Rattle.change_rules.proofs.Common.{IsCountedAnew, ap, arith, below_more, length, place_in, rules, ℕ}
-use Rattle.change_rules.proofs.Longer.{type_within}
+use Rattle.change_rules.proofs.{Common.{IsCountedAnew, ap, arith, below_more, length, place_in, rules, ℕ}, Longer.{type_within}}
 use Rattle.change_rules.proofs.counted.first_counted_anew.Goals as goal
 
 pub loop-ty-preserved : goal.loop-ty-preserved

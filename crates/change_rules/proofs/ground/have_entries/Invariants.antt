@@ -1,7 +1,6 @@
-use Rattle.change_rules.proofs.Common.{Some, ℕ, ◌<◌, ◌≡◌}
+use Rattle.change_rules.{proofs.Common.{Some, ℕ, ◌<◌, ◌≡◌}, specs.Judged.{HasEntry}}
 use Rattle.rule_model.specs.declared.program.EntryInfo.{EntryInfo}
 use Rattle.std.proofs.Common.{slice_get}
-use Rattle.change_rules.specs.Judged.{HasEntry}
 use Rattle.change_rules.proofs.ground.have_entries.Given as goal
 
 abbrev pub invariant-loop-place : goal.invariant-loop-place

@@ -1,5 +1,4 @@
-use Rattle.change_rules.proofs.Common.{Life, LifeTable, List, ap, arith, length, ◌∙◌}
-use Rattle.change_rules.proofs.Longer.{carried_few, first_is}
+use Rattle.change_rules.proofs.{Common.{Life, LifeTable, List, ap, arith, length, ◌∙◌}, Longer.{carried_few, first_is}}
 use Rattle.change_rules.proofs.lives.longer_type.Goals as goal
 
 pub first_longer-requires : goal.first_longer-requires

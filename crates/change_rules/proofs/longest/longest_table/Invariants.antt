@@ -1,5 +1,4 @@
-use Rattle.change_rules.proofs.Common.{drop, ◌++◌, ◌≡◌}
-use Rattle.change_rules.specs.Longest.{longest_lives}
+use Rattle.change_rules.{proofs.Common.{drop, ◌++◌, ◌≡◌}, specs.Longest.{longest_lives}}
 use Rattle.change_rules.proofs.longest.longest_table.Given as goal
 
 abbrev pub invariant-loop-place : goal.invariant-loop-place

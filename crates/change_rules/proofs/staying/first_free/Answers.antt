@@ -1,5 +1,4 @@
-use Rattle.change_rules.proofs.Common.{ap, arith, length, rules, slice_get_within}
-use Rattle.change_rules.proofs.Finding.{one_passed}
+use Rattle.change_rules.proofs.{Common.{ap, arith, length, rules, slice_get_within}, Finding.{one_passed}}
 use Rattle.change_rules.proofs.staying.first_free.Goals as goal
 use Rattle.change_rules.proofs.staying.first_free.Goals.{else-branch-via-else-branch, else-branch-via-then-branch+else-not-is_taken}
 

@@ -1,5 +1,4 @@
-use Rattle.change_rules.proofs.Common.{length, ◌≡◌}
-use Rattle.change_rules.proofs.Finding.{AreSoFar}
+use Rattle.change_rules.proofs.{Common.{length, ◌≡◌}, Finding.{AreSoFar}}
 use Rattle.change_rules.proofs.staying.staying_rules.Given as goal
 
 abbrev pub invariant-loop-rule : goal.invariant-loop-rule

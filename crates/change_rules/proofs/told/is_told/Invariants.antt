@@ -1,6 +1,5 @@
-use Rattle.change_rules.proofs.Common.{drop, list_any, ◌≡◌}
+use Rattle.change_rules.{proofs.Common.{drop, list_any, ◌≡◌}, specs.Told.{told_list}}
 use Rattle.rule_change.specs.Told.{is_same_told}
-use Rattle.change_rules.specs.Told.{told_list}
 use Rattle.change_rules.proofs.told.is_told.Given as goal
 
 abbrev pub invariant-loop-rule : goal.invariant-loop-rule

@@ -1,5 +1,4 @@
-use Rattle.checkpoint.proofs.Common.{arith}
-use Rattle.checkpoint.proofs.Whole.{is_found, is_only, is_bad}
+use Rattle.checkpoint.proofs.{Common.{arith}, Whole.{is_found, is_only, is_bad}}
 use Rattle.checkpoint.proofs.codec.decode.Goals as goal
 
 pub returns-clause-found : goal.returns-clause-found

@@ -1,5 +1,4 @@
-use Rattle.checkpoint.proofs.Common.{ap, sym, ◌∙◌, decoded}
-use Rattle.checkpoint.proofs.Whole.{decoded_takes, decoded_again}
+use Rattle.checkpoint.proofs.{Common.{ap, sym, ◌∙◌, decoded}, Whole.{decoded_takes, decoded_again}}
 use Rattle.checkpoint.proofs.laws.decoding_is_exact.Goals as goal
 
 pub returns : goal.returns

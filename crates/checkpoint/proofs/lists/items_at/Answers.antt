@@ -1,5 +1,4 @@
-use Rattle.checkpoint.proofs.Common.{arith, TellsDecodeFault, read_items}
-use Rattle.checkpoint.proofs.Loops.{begins, goes_on, stops, passed_on, ends}
+use Rattle.checkpoint.proofs.{Common.{arith, TellsDecodeFault, read_items}, Loops.{begins, goes_on, stops, passed_on, ends}}
 use Rattle.checkpoint.proofs.lists.items_at.Goals as goal
 
 pub loop-init : goal.loop-init

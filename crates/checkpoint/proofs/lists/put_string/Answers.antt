@@ -1,5 +1,4 @@
-use Rattle.checkpoint.proofs.Common.{arith}
-use Rattle.checkpoint.proofs.ListsExact.{each_octet}
+use Rattle.checkpoint.proofs.{Common.{arith}, ListsExact.{each_octet}}
 use Rattle.checkpoint.proofs.lists.put_string.Goals as goal
 
 pub returns-clause-fits : goal.returns-clause-fits

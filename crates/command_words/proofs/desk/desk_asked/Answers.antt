@@ -1,9 +1,6 @@
-use Rattle.command_words.proofs.Common.{IfSome, Option, ap, ◌∙◌, subst, sym, found_of, rows_of, is_simple, is_simple_and_free}
+use Rattle.command_words.{proofs.Common.{IfSome, Option, ap, ◌∙◌, subst, sym, found_of, rows_of, is_simple, is_simple_and_free}, specs.Desk.{HasLimit}}
+use Rattle.command_words.{specs.declared.desk.DeskWords.{DeskWords}, proofs.{Faults.{desk_simple, desk_simple_and_free}, Limits.{desk_within}}}
 use Rattle.std.proofs.lemmas.Result.{IfOk-weaker}
-use Rattle.command_words.specs.Desk.{HasLimit}
-use Rattle.command_words.specs.declared.desk.DeskWords.{DeskWords}
-use Rattle.command_words.proofs.Faults.{desk_simple, desk_simple_and_free}
-use Rattle.command_words.proofs.Limits.{desk_within}
 use Rattle.command_words.proofs.desk.desk_asked.Goals as goal
 
 pub parse-requires-clause-simple : goal.parse-requires-clause-simple

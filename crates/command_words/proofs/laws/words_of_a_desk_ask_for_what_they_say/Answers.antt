@@ -1,8 +1,5 @@
-use Rattle.command_words.proofs.Common.{refl}
+use Rattle.command_words.{proofs.Common.{refl}, specs.{Asked.{number_in_digits, limit_written}, Command.{desk_app, matched_by}, Desk.{desk_rows, desk_words}}}
 use Rattle.clap.proofs.OnLiterals.{clap_on_literals}
-use Rattle.command_words.specs.Asked.{number_in_digits, limit_written}
-use Rattle.command_words.specs.Command.{desk_app, matched_by}
-use Rattle.command_words.specs.Desk.{desk_rows, desk_words}
 use Rattle.command_words.proofs.laws.words_of_a_desk_ask_for_what_they_say.Goals as goal
 
 pub returns : goal.returns

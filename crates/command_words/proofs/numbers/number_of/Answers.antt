@@ -1,5 +1,4 @@
-use Rattle.command_words.proofs.Common.{◌≤◌, ◌∙◌, length, rules, arith, sym}
-use Rattle.command_words.proofs.Digits.{number_read}
+use Rattle.command_words.proofs.{Common.{◌≤◌, ◌∙◌, length, rules, arith, sym}, Digits.{number_read}}
 use Rattle.command_words.proofs.numbers.number_of.Goals as goal
 
 pub returns : goal.returns

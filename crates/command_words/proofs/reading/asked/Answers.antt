@@ -1,8 +1,6 @@
 use Rattle.command_words.proofs.Common.{IfSome, Option, ap, ◌∙◌, subst, sym, found_of, rows_of, is_simple, is_simple_and_free, IsWithinBounds}
+use Rattle.command_words.{specs.declared.asking.Asked.{Asked}, proofs.{Faults.{simple, simple_and_free}, Limits.{rows_within}}}
 use Rattle.std.proofs.lemmas.Result.{IfOk-weaker}
-use Rattle.command_words.specs.declared.asking.Asked.{Asked}
-use Rattle.command_words.proofs.Faults.{simple, simple_and_free}
-use Rattle.command_words.proofs.Limits.{rows_within}
 use Rattle.command_words.proofs.reading.asked.Goals as goal
 
 pub returns-in-Some-clause-within : goal.returns-in-Some-clause-within

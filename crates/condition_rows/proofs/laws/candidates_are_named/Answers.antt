@@ -1,5 +1,4 @@
-use Rattle.condition_rows.proofs.Holding.{held_fact}
-use Rattle.condition_rows.proofs.Joined.{candidate_named, candidates_named}
+use Rattle.condition_rows.proofs.{Holding.{held_fact}, Joined.{candidate_named, candidates_named}}
 use Rattle.condition_rows.proofs.laws.candidates_are_named.Goals as goal
 
 pub returns-clause-held : goal.returns-clause-held

@@ -1,9 +1,6 @@
 use Rattle.std.proofs.Common.{Option, subst, arith}
 use Rattle.command_words.specs.declared.desk.DeskWords.{DeskWords}
-use Rattle.desk.specs.Meanings.{both}
-use Rattle.desk.specs.Report.{IsPrompt, IsServed, IsStopped, usage}
-use Rattle.desk.specs.Wanted.{help, version, wanted, wanted_by}
-use Rattle.desk.proofs.Said.{said}
+use Rattle.desk.{specs.{Meanings.{both}, Report.{IsPrompt, IsServed, IsStopped, usage}, Wanted.{help, version, wanted, wanted_by}}, proofs.Said.{said}}
 use Rattle.desk.proofs.serving.desk.Goals as goal
 
 pub serve-requires : goal.serve-requires

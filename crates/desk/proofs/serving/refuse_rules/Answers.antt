@@ -1,9 +1,6 @@
 use Rattle.std.proofs.Common.{◌≡◌, ◌∙◌, sym, subst, arith}
-use Rattle.replay.specs.declared.refusal.Refusal.{Refusal}
-use Rattle.replay.specs.Refusals.{refusal_text}
-use Rattle.desk.specs.declared.reading.RulesFault.TheVariants.{Refused}
-use Rattle.desk.specs.Report.{IsSaid}
-use Rattle.desk.proofs.Said.{said}
+use Rattle.replay.specs.{declared.refusal.Refusal.{Refusal}, Refusals.{refusal_text}}
+use Rattle.desk.{specs.{declared.reading.RulesFault.TheVariants.{Refused}, Report.{IsSaid}}, proofs.Said.{said}}
 use Rattle.desk.proofs.serving.refuse_rules.Goals as goal
 
 pub returns-in-Refused-clause-refused : goal.returns-in-Refused-clause-refused

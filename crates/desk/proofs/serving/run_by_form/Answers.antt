@@ -1,9 +1,7 @@
-use Rattle.std.proofs.Common.{inl, sym, subst}
-use Rattle.std.specs.Prelude.{IfSome}
+use Rattle.std.{proofs.Common.{inl, sym, subst}, specs.Prelude.{IfSome}}
 use Rattle.line_run.proofs.Ahead.{if_told}
 use Rattle.script_run.specs.declared.form.Form.{Form}
-use Rattle.desk.specs.Meanings.{both, meanings}
-use Rattle.desk.specs.Report.{IsRun, IsStoppedRun}
+use Rattle.desk.specs.{Meanings.{both, meanings}, Report.{IsRun, IsStoppedRun}}
 use Rattle.desk.proofs.serving.run_by_form.Goals as goal
 
 pub returns-in-Text-clause-served : goal.returns-in-Text-clause-served

@@ -1,12 +1,6 @@
-use Rattle.std.proofs.Common.{Err, ap, sym, subst, arith}
-use Rattle.replay.specs.declared.refused_checkpoint.CheckpointCode.TheVariants.{Unfit}
-use Rattle.replay.specs.Checkpoints.{checkpoint_text}
-use Rattle.desk.specs.Meanings.{both}
-use Rattle.desk.specs.Report.{IsPrompt, IsServed, IsStopped}
-use Rattle.std.specs.Prelude.{IfSome}
-use Rattle.desk.specs.Wanted.{Wanted, over_old}
-use Rattle.desk.proofs.Goings.{for_all}
-use Rattle.desk.proofs.Said.{said, unbegun}
+use Rattle.std.{proofs.Common.{Err, ap, sym, subst, arith}, specs.Prelude.{IfSome}}
+use Rattle.replay.specs.{declared.refused_checkpoint.CheckpointCode.TheVariants.{Unfit}, Checkpoints.{checkpoint_text}}
+use Rattle.desk.{specs.{Meanings.{both}, Report.{IsPrompt, IsServed, IsStopped}, Wanted.{Wanted, over_old}}, proofs.{Goings.{for_all}, Said.{said, unbegun}}}
 use Rattle.desk.proofs.serving.run_changed.Goals as goal
 
 pub run_over_by_form-requires-clause-prompt : goal.run_over_by_form-requires-clause-prompt

@@ -1,11 +1,8 @@
-use Rattle.std.proofs.Common.{inl, sym, subst}
-use Rattle.std.specs.Prelude.{IfSome}
+use Rattle.std.{proofs.Common.{inl, sym, subst}, specs.Prelude.{IfSome}}
 use Rattle.fx_io.specs.Outside.{append}
-use Rattle.desk.specs.Changes.{Changed, begun_over}
+use Rattle.desk.specs.{Changes.{Changed, begun_over}, Meanings.{both, meanings}, Report.{IsChange, IsPromptRun, IsStoppedRun}}
 use Rattle.line_run.proofs.Ahead.{if_told}
 use Rattle.script_run.specs.declared.form.Form.{Form}
-use Rattle.desk.specs.Meanings.{both, meanings}
-use Rattle.desk.specs.Report.{IsChange, IsPromptRun, IsStoppedRun}
 use Rattle.desk.proofs.serving.run_over_by_form.Goals as goal
 
 pub returns-in-Text-clause-served : goal.returns-in-Text-clause-served

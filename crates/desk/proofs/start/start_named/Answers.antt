@@ -1,9 +1,6 @@
-use Rattle.std.proofs.Common.{◌∙◌, ap, subst, sym}
-use Rattle.std.proofs.lemmas.Result.{IfErr-weaker, IfOk-weaker}
+use Rattle.std.proofs.{Common.{◌∙◌, ap, subst, sym}, lemmas.Result.{IfErr-weaker, IfOk-weaker}}
 use Rattle.replay.specs.Checkpoints.{image_limit}
-use Rattle.desk.specs.Starts.{TellsStartFault}
-use Rattle.desk.specs.Wanted.{Start, start_of}
-use Rattle.desk.proofs.Starts.{start_found}
+use Rattle.desk.{specs.{Starts.{TellsStartFault}, Wanted.{Start, start_of}}, proofs.Starts.{start_found}}
 use Rattle.desk.proofs.start.start_named.Goals as goal
 
 pub returns-in-Ok-clause-found : goal.returns-in-Ok-clause-found

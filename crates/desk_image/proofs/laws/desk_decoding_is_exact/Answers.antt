@@ -1,6 +1,4 @@
-use Rattle.desk_image.proofs.Common.{ap, sym, ◌∙◌}
-use Rattle.desk_image.specs.Reading.{desk_decoded}
-use Rattle.desk_image.proofs.DeskExact.{desk_again, desk_takes}
+use Rattle.desk_image.{proofs.{Common.{ap, sym, ◌∙◌}, DeskExact.{desk_again, desk_takes}}, specs.Reading.{desk_decoded}}
 use Rattle.desk_image.proofs.laws.desk_decoding_is_exact.Goals as goal
 
 pub returns : goal.returns

@@ -1,8 +1,6 @@
-use Rattle.desk_image.proofs.Common.{◌≡◌, ◌-◌, ◌≤◌}
+use Rattle.desk_image.{proofs.Common.{◌≡◌, ◌-◌, ◌≤◌}, specs.Reading.{life_at}}
 use Rattle.std.proofs.Common.{vec_len, vec_capacity}
-use Rattle.checkpoint.proofs.Loops.{with_front}
-use Rattle.checkpoint.specs.Reading.{read_items}
-use Rattle.desk_image.specs.Reading.{life_at}
+use Rattle.checkpoint.{proofs.Loops.{with_front}, specs.Reading.{read_items}}
 use Rattle.desk_image.proofs.reading.each_at.Given as goal
 
 abbrev pub invariant-loop : goal.invariant-loop

@@ -1,5 +1,4 @@
-use Rattle.desk_image.proofs.Common.{arith}
-use Rattle.desk_image.proofs.DeskExact.{is_bad, is_found, is_only}
+use Rattle.desk_image.proofs.{Common.{arith}, DeskExact.{is_bad, is_found, is_only}}
 use Rattle.desk_image.proofs.whole.decode_desk.Goals as goal
 
 pub returns-clause-found : goal.returns-clause-found

@@ -1,5 +1,4 @@
-use Rattle.desk_image.proofs.Common.{arith}
-use Rattle.desk_image.proofs.DeskExact.{image_bad, image_found}
+use Rattle.desk_image.proofs.{Common.{arith}, DeskExact.{image_bad, image_found}}
 use Rattle.desk_image.proofs.whole.image_of.Goals as goal
 
 pub returns-clause-found : goal.returns-clause-found

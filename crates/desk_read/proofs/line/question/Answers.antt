@@ -1,6 +1,4 @@
-use Rattle.desk_read.proofs.Common.{rules, ◌≡◌, None, IfOk}
-use Rattle.desk_read.specs.Questions.{question_of}
-use Rattle.desk_read.proofs.QuestionLaws.{asked_formless, told}
+use Rattle.desk_read.{proofs.{Common.{rules, ◌≡◌, None, IfOk}, QuestionLaws.{asked_formless, told}}, specs.Questions.{question_of}}
 use Rattle.desk_read.proofs.line.question.Goals as goal
 
 pub returns-in-Some-clause-form : goal.returns-in-Some-clause-form

@@ -1,5 +1,4 @@
-use Rattle.drl_check.proofs.Common.{length, sym, ap, ◌∙◌}
-use Rattle.drl_check.proofs.Solvable.{few_conditions}
+use Rattle.drl_check.proofs.{Common.{length, sym, ap, ◌∙◌}, Solvable.{few_conditions}}
 use Rattle.drl_check.proofs.refusal.failing.Goals as goal
 
 pub failing_use-requires : goal.failing_use-requires

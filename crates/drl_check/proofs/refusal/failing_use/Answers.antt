@@ -1,5 +1,4 @@
-use Rattle.drl_check.proofs.Common.{◌≡◌, false, sym, subst, ◌∙◌, lacks_type}
-use Rattle.drl_check.proofs.Solvable.{has_network}
+use Rattle.drl_check.proofs.{Common.{◌≡◌, false, sym, subst, ◌∙◌, lacks_type}, Solvable.{has_network}}
 use Rattle.drl_check.proofs.refusal.failing_use.Goals as goal
 
 pub failing_event-requires : goal.failing_event-requires

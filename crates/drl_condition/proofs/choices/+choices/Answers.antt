@@ -1,6 +1,6 @@
-use Rattle.drl_condition.proofs.Common.{sym, ◌∙◌, arith, IfOk-weaker}
-use Rattle.drl_condition.proofs.ChoiceSteps.{all_begins, any_begins, all_stops, all_ends, all_goes_on, all_no_turn, any_stops, any_ends, any_goes_on}
-use Rattle.drl_condition.proofs.ChoiceSteps.{any_no_turn, no_first, no_other, no_more, still_open, closes, too_deep, deeper, no_condition, one_condition}
+use Rattle.drl_condition.proofs.{Common.{sym, ◌∙◌, arith, IfOk-weaker}, ChoiceSteps.{all_begins, any_begins, all_stops, all_ends, all_goes_on, all_no_turn}}
+use Rattle.drl_condition.proofs.ChoiceSteps.{any_stops, any_ends, any_goes_on, any_no_turn, no_first, no_other, no_more, still_open, closes, too_deep, deeper}
+use Rattle.drl_condition.proofs.ChoiceSteps.{no_condition, one_condition}
 use Rattle.fx_base.proofs.Sequences.{map-none, map-some}
 use Rattle.drl_condition.proofs.choices.+choices.Goals as goal
 

@@ -1,5 +1,4 @@
-use Rattle.drl_condition.proofs.Common.{arith, IfOk-weaker, whole_found, whole_none}
-use Rattle.drl_condition.proofs.ConditionLaws.{condition_exact}
+use Rattle.drl_condition.proofs.{Common.{arith, IfOk-weaker, whole_found, whole_none}, ConditionLaws.{condition_exact}}
 use Rattle.drl_condition.proofs.conditions.condition.Goals as goal
 
 pub returns-clause-found : goal.returns-clause-found

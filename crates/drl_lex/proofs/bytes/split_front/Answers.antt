@@ -1,5 +1,4 @@
-use Rattle.drl_lex.proofs.Common.{length, arith, sym, ap, ◌∙◌, List, ℕ, take_all, in_class}
-use Rattle.drl_lex.proofs.FrontLaws.{longest_stop, longest_end, all_pass}
+use Rattle.drl_lex.proofs.{Common.{length, arith, sym, ap, ◌∙◌, List, ℕ, take_all, in_class}, FrontLaws.{longest_stop, longest_end, all_pass}}
 use Rattle.drl_lex.proofs.bytes.split_front.Goals as goal
 
 pub returns-then-not-contains : goal.returns-then-not-contains

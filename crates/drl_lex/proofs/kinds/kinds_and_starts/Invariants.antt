@@ -1,5 +1,4 @@
-use Rattle.drl_lex.proofs.Common.{◌≡◌, List, ℕ, Token, TokenKind}
-use Rattle.drl_lex.specs.Kinds.{kinds, starts}
+use Rattle.drl_lex.{proofs.Common.{◌≡◌, List, ℕ, Token, TokenKind}, specs.Kinds.{kinds, starts}}
 use Rattle.drl_lex.proofs.kinds.kinds_and_starts.Given as goal
 
 -- the parts of the tokens so far

@@ -1,6 +1,5 @@
-use Rattle.drl_lex.proofs.Common.{arith, length, ◌-◌, IsFirstFault, lexed}
-use Rattle.drl_lex.proofs.FileTurns.{starts, piece_front, turn, shorter, first_fault, fault_read, not_empty, empty, told_err, told_read, are_tokens}
-use Rattle.drl_lex.proofs.FileLaws.{tokens_again}
+use Rattle.drl_lex.proofs.{Common.{arith, length, ◌-◌, IsFirstFault, lexed}, FileTurns.{starts, piece_front, turn, shorter, first_fault, fault_read, not_empty}}
+use Rattle.drl_lex.proofs.{FileTurns.{empty, told_err, told_read, are_tokens}, FileLaws.{tokens_again}}
 use Rattle.drl_lex.proofs.lexer.lex.Goals as goal
 
 pub loop-rest-init : goal.loop-rest-init

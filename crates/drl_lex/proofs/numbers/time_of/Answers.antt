@@ -1,5 +1,4 @@
-use Rattle.drl_lex.proofs.Common.{length, refl, codes, nat_lt, unit_part_at, last_at}
-use Rattle.drl_lex.proofs.Capped.{total_is, time_is, under_cap}
+use Rattle.drl_lex.proofs.{Common.{length, refl, codes, nat_lt, unit_part_at, last_at}, Capped.{total_is, time_is, under_cap}}
 use Rattle.drl_lex.proofs.numbers.time_of.Goals as goal
 
 pub returns-in-Some : goal.returns-in-Some

@@ -1,5 +1,4 @@
-use Rattle.drl_lex.proofs.Common.{◌≡◌, ℕ, List, ◌+◌, length, content_at}
-use Rattle.drl_lex.proofs.TextTurns.{behind}
+use Rattle.drl_lex.proofs.{Common.{◌≡◌, ℕ, List, ◌+◌, length, content_at}, TextTurns.{behind}}
 use Rattle.drl_lex.proofs.texts.content_at.Given as goal
 
 -- the content so far and that of what is left is that of all

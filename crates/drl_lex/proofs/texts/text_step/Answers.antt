@@ -1,5 +1,4 @@
-use Rattle.drl_lex.proofs.Common.{refl}
-use Rattle.drl_lex.proofs.TextTurns.{plain_read, escape_read}
+use Rattle.drl_lex.proofs.{Common.{refl}, TextTurns.{plain_read, escape_read}}
 use Rattle.drl_lex.proofs.texts.text_step.Goals as goal
 
 pub returns-in-Plain-clause-read : goal.returns-in-Plain-clause-read

@@ -1,5 +1,4 @@
-use Rattle.std.proofs.Common.{◌≡◌, ◌++◌, drop}
-use Rattle.std.specs.List.{flat_map}
+use Rattle.std.{proofs.Common.{◌≡◌, ◌++◌, drop}, specs.List.{flat_map}}
 use Rattle.drl_names.specs.Names.{fact_name}
 use Rattle.drl_names.proofs.rule_names.names_of_facts.Given as goal
 

@@ -1,5 +1,4 @@
-use Rattle.drl_parse.proofs.Common.{arith}
-use Rattle.drl_parse.proofs.LineLaws.{next_offset, kept, fits}
+use Rattle.drl_parse.proofs.{Common.{arith}, LineLaws.{next_offset, kept, fits}}
 use Rattle.drl_parse.proofs.lines.lines_of.Goals as goal
 
 pub slice_bounds-count_newlines-end : goal.slice_bounds-count_newlines-end

@@ -1,5 +1,4 @@
-use Rattle.drl_parse.proofs.Common.{◌∙◌, sym, whole_at, item_at}
-use Rattle.drl_parse.proofs.ItemTurns.{kept, stops, ends}
+use Rattle.drl_parse.proofs.{Common.{◌∙◌, sym, whole_at, item_at}, ItemTurns.{kept, stops, ends}}
 use Rattle.drl_parse.proofs.parsing.items_of.Goals as goal
 
 pub returns-in-None : goal.returns-in-None

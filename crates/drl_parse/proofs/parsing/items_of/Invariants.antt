@@ -1,5 +1,4 @@
-use Rattle.drl_parse.proofs.Common.{length, whole_at, item_at}
-use Rattle.drl_parse.proofs.ItemTurns.{SoFar}
+use Rattle.drl_parse.proofs.{Common.{length, whole_at, item_at}, ItemTurns.{SoFar}}
 use Rattle.drl_parse.proofs.parsing.items_of.Given as goal
 
 abbrev pub invariant-loop-own : goal.invariant-loop-own

@@ -1,5 +1,4 @@
-use Rattle.drl_parse.proofs.FileTurns.{file_given, fault_given}
-use Rattle.drl_parse.proofs.BodyLaws.{items_read}
+use Rattle.drl_parse.proofs.{FileTurns.{file_given, fault_given}, BodyLaws.{items_read}}
 use Rattle.drl_parse.proofs.parsing.parse.Goals as goal
 
 pub returns-clause-file : goal.returns-clause-file

@@ -1,6 +1,4 @@
-use Rattle.drl_parse.proofs.Common.{whole_at, item_at, is_file, outside, too_long, lexical}
-use Rattle.drl_parse.specs.Parsed.{parsed}
-use Rattle.drl_parse.proofs.FileLaws.{is_exactly}
+use Rattle.drl_parse.{proofs.{Common.{whole_at, item_at, is_file, outside, too_long, lexical}, FileLaws.{is_exactly}}, specs.Parsed.{parsed}}
 use Rattle.drl_parse.proofs.BodyLaws.{items_read}
 use Rattle.drl_parse.proofs.parsing.parsed_is_exact.Goals as goal
 

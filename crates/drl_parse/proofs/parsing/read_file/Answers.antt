@@ -1,6 +1,4 @@
-use Rattle.drl_parse.proofs.Common.{sym, ◌∙◌}
-use Rattle.drl_parse.proofs.LineLaws.{offsets_rise}
-use Rattle.drl_parse.proofs.FileTurns.{long_is, refused_is, few_kinds, items_told, items_read}
+use Rattle.drl_parse.proofs.{Common.{sym, ◌∙◌}, LineLaws.{offsets_rise}, FileTurns.{long_is, refused_is, few_kinds, items_told, items_read}}
 use Rattle.drl_parse.proofs.parsing.read_file.Goals as goal
 
 pub returns-then-is_too_long : goal.returns-then-is_too_long

@@ -1,5 +1,4 @@
-use Rattle.drl_program.proofs.Common.{sym, ◌∙◌}
-use Rattle.drl_program.proofs.Parameters.{spans_within, operator_found, operator_counted}
+use Rattle.drl_program.proofs.{Common.{sym, ◌∙◌}, Parameters.{spans_within, operator_found, operator_counted}}
 use Rattle.drl_program.proofs.operators.operator.Goals as goal
 
 pub of-requires : goal.of-requires

@@ -1,5 +1,4 @@
-use Rattle.drl_program.proofs.Common.{map, refl, compare_of}
-use Rattle.drl_program.proofs.Loops.{one_mapped, all_made}
+use Rattle.drl_program.proofs.{Common.{map, refl, compare_of}, Loops.{one_mapped, all_made}}
 use Rattle.drl_program.proofs.tests_of.choice.Goals as goal
 
 pub loop-cmp-preserved : goal.loop-cmp-preserved

@@ -1,5 +1,4 @@
-use Rattle.drl_program.proofs.Common.{refl, ap, ◌∙◌, filter, flat_map, tests_in, is_constant}
-use Rattle.drl_program.proofs.Loops.{one_passed, one_left_out, all_made}
+use Rattle.drl_program.proofs.{Common.{refl, ap, ◌∙◌, filter, flat_map, tests_in, is_constant}, Loops.{one_passed, one_left_out, all_made}}
 use Rattle.drl_program.proofs.tests_of.constant_tests.Goals as goal
 use Rattle.drl_program.proofs.tests_of.constant_tests.Goals.{then-not-is_part_joined+in_ok-add_test, else-not-is_part_joined}
 

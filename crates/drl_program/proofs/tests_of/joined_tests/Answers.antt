@@ -1,5 +1,4 @@
-use Rattle.drl_program.proofs.Common.{refl, ap, ◌∙◌, filter, flat_map, tests_in, is_joined}
-use Rattle.drl_program.proofs.Loops.{one_passed, one_left_out, all_made}
+use Rattle.drl_program.proofs.{Common.{refl, ap, ◌∙◌, filter, flat_map, tests_in, is_joined}, Loops.{one_passed, one_left_out, all_made}}
 use Rattle.drl_program.proofs.tests_of.joined_tests.Goals as goal
 use Rattle.drl_program.proofs.tests_of.joined_tests.Goals.{then-is_part_joined+in_ok-add_test, else-is_part_joined}
 

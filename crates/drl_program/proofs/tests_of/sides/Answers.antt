@@ -1,5 +1,4 @@
-use Rattle.drl_program.proofs.Common.{map, refl, side_of}
-use Rattle.drl_program.proofs.Loops.{one_mapped, all_made}
+use Rattle.drl_program.proofs.{Common.{map, refl, side_of}, Loops.{one_mapped, all_made}}
 use Rattle.drl_program.proofs.tests_of.sides.Goals as goal
 
 pub loop-operand-preserved : goal.loop-operand-preserved

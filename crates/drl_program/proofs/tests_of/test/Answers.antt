@@ -1,6 +1,5 @@
-use Rattle.drl_program.proofs.Common.{List, map, refl, ap, ◌∙◌, Cmp, compare_of}
+use Rattle.drl_program.proofs.{Common.{List, map, refl, ap, ◌∙◌, Cmp, compare_of}, Loops.{one_mapped, all_made}}
 use Rattle.rule_model.specs.declared.test.Compare.{Compare}
-use Rattle.drl_program.proofs.Loops.{one_mapped, all_made}
 use Rattle.drl_program.proofs.tests_of.test.Goals as goal
 
 pub loop-group-preserved : goal.loop-group-preserved

@@ -1,5 +1,4 @@
-use Rattle.drl_program.proofs.Common.{refl, flat_map, time_tests_in}
-use Rattle.drl_program.proofs.Loops.{one_more, all_made}
+use Rattle.drl_program.proofs.{Common.{refl, flat_map, time_tests_in}, Loops.{one_more, all_made}}
 use Rattle.drl_program.proofs.tests_of.time_tests.Goals as goal
 
 pub loop-part-preserved : goal.loop-part-preserved

@@ -1,5 +1,4 @@
-use Rattle.drl_show.proofs.Common.{◌≡◌, ◌∷◌, [], ap, ◌∙◌, codes, on_ok_weaker, Word, Mark, OpenParenthesis, source_tokens, added}
-use Rattle.drl_show.proofs.Added.{accumulate_is}
+use Rattle.drl_show.proofs.{Common.{◌≡◌, ◌∷◌, [], ap, ◌∙◌, codes, on_ok_weaker, Word, Mark, OpenParenthesis, source_tokens, added}, Added.{accumulate_is}}
 use Rattle.drl_show.proofs.conditions.accumulate.Goals as goal
 
 pub returns : goal.returns

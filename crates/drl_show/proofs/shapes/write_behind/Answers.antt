@@ -1,5 +1,4 @@
-use Rattle.drl_show.proofs.Common.{◌≡◌, ◌∷◌, ap, ◌∙◌, Mark, added}
-use Rattle.drl_show.proofs.Added.{each_turn}
+use Rattle.drl_show.proofs.{Common.{◌≡◌, ◌∷◌, ap, ◌∙◌, Mark, added}, Added.{each_turn}}
 use Rattle.drl_show.proofs.shapes.write_behind.Goals as goal
 
 pub loop-item-preserved : goal.loop-item-preserved

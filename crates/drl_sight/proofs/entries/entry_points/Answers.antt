@@ -1,5 +1,4 @@
-use Rattle.drl_sight.proofs.Common.{◌∙◌, arith}
-use Rattle.drl_sight.proofs.EntryLemmas.{with_item}
+use Rattle.drl_sight.proofs.{Common.{◌∙◌, arith}, EntryLemmas.{with_item}}
 use Rattle.drl_sight.proofs.entries.entry_points.Goals as goal
 
 pub loop-item-preserved : goal.loop-item-preserved

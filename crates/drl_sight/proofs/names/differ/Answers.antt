@@ -1,6 +1,4 @@
-use Rattle.drl_sight.proofs.Common.{sym, refl, ◌∙◌, arith}
-use Rattle.drl_sight.specs.Names.{are_distinct}
-use Rattle.drl_sight.proofs.NameLemmas.{next_of, twice_in, still_distinct}
+use Rattle.drl_sight.{proofs.{Common.{sym, refl, ◌∙◌, arith}, NameLemmas.{next_of, twice_in, still_distinct}}, specs.Names.{are_distinct}}
 use Rattle.drl_sight.proofs.names.differ.Goals as goal
 
 pub loop-name-init : goal.loop-name-init

@@ -1,7 +1,6 @@
 use Rattle.drl_uses.proofs.Common.{◌≡◌, ◌-◌, ◌∷◌, ℕ, suc, true, List, [], Option, length, drop, nat_lt, refl, sym, ap, ◌∙◌, arith, length-drop, drop_all, Kind}
-use Rattle.drl_uses.proofs.Common.{Sight}
+use Rattle.drl_uses.{proofs.Common.{Sight}, specs.Kinds.{args_misfit}}
 use Rattle.std.proofs.lemmas.Bool.Decides.{nat_tests}
-use Rattle.drl_uses.specs.Kinds.{args_misfit}
 use Rattle.drl_uses.proofs.action_kinds.do_args_misfit.Goals as goal
 
 is_positive : (n : ℕ) → true ≡ nat_lt 0 (suc n)

@@ -1,5 +1,4 @@
-use Rattle.drl_uses.proofs.Common.{◌≡◌, ◌+◌, ◌≤◌, drop, begin, behind_all, any_condition}
-use Rattle.drl_uses.specs.Asked.{asked_of}
+use Rattle.drl_uses.{proofs.Common.{◌≡◌, ◌+◌, ◌≤◌, drop, begin, behind_all, any_condition}, specs.Asked.{asked_of}}
 use Rattle.drl_uses.proofs.asked.is_so_in_rule.Given as goal
 
 abbrev pub invariant-loop-condition : goal.invariant-loop-condition

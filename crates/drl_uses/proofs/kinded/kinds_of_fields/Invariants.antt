@@ -1,5 +1,4 @@
-use Rattle.drl_uses.proofs.Common.{◌≡◌, take, taken_kinds}
-use Rattle.drl_uses.proofs.Once.{names_in}
+use Rattle.drl_uses.proofs.{Common.{◌≡◌, take, taken_kinds}, Once.{names_in}}
 use Rattle.drl_uses.proofs.kinded.kinds_of_fields.Given as goal
 
 abbrev pub invariant-loop-field : goal.invariant-loop-field

@@ -1,5 +1,4 @@
-use Rattle.drl_uses.proofs.Common.{◌≡◌, ◌+◌, ◌≤◌, drop, begin, any_condition}
-use Rattle.drl_uses.specs.Times.{has_no_times}
+use Rattle.drl_uses.{proofs.Common.{◌≡◌, ◌+◌, ◌≤◌, drop, begin, any_condition}, specs.Times.{has_no_times}}
 use Rattle.drl_uses.proofs.times.lack_times.Given as goal
 
 abbrev pub invariant-loop-condition : goal.invariant-loop-condition

@@ -1,8 +1,6 @@
 use Rattle.expiry_infer.proofs.Common.{◌≡◌, ◌<◌, ℕ, Some, List, length, get_or, refl, subst, sym, slice_get, slice_get_read, Condition, Rule, in_place}
-use Rattle.expiry_infer.proofs.Common.{HaveLives, limit_of, GivesAt, Among, IsTop}
-use Rattle.expiry_infer.proofs.Given.{is_life}
+use Rattle.expiry_infer.proofs.{Common.{HaveLives, limit_of, GivesAt, Among, IsTop}, Given.{is_life}, Tops.{top_next}}
 use Rattle.life_edges.proofs.Runnable.{rule_has_lives}
-use Rattle.expiry_infer.proofs.Tops.{top_next}
 use Rattle.expiry_infer.proofs.lifetimes.inferred.Goals as goal
 
 -- the rule that was read stands among the rules

@@ -1,7 +1,5 @@
 use Rattle.expiry_infer.proofs.Common.{◌≡◌, true, false, ap, subst, sym, ◌∙◌, Pattern, pattern_of, is_reference, tail, plus, limit_of, IsShortLimit}
-use Rattle.expiry_infer.proofs.Common.{IsSmallLimit, IsWithinNetwork, lent, IfOk, IfSome, is_event, IsReachFound}
-use Rattle.expiry_infer.proofs.Given.{added}
-use Rattle.expiry_infer.proofs.Tops.{top_small, sum_small}
+use Rattle.expiry_infer.proofs.{Common.{IsSmallLimit, IsWithinNetwork, lent, IfOk, IfSome, is_event, IsReachFound}, Given.{added}, Tops.{top_small, sum_small}}
 use Rattle.expiry_infer.proofs.lifetimes.with_added.Goals as goal
 
 pub sum-requires-clause-reach : goal.sum-requires-clause-reach

@@ -1,6 +1,4 @@
-use Rattle.expiry_infer.proofs.Common.{refl, slice_get_read}
-use Rattle.expiry_infer.proofs.Given.{all_added}
-use Rattle.expiry_infer.proofs.Tops.{top_next}
+use Rattle.expiry_infer.proofs.{Common.{refl, slice_get_read}, Given.{all_added}, Tops.{top_next}}
 use Rattle.expiry_infer.proofs.lifetimes.with_all_added.Goals as goal
 
 pub loop-place-preserved : goal.loop-place-preserved

@@ -1,6 +1,4 @@
-use Rattle.expiry_infer.proofs.Common.{ap, refl, sym, ◌∙◌, slice_get_read, Pattern}
-use Rattle.expiry_infer.proofs.Given.{of_pattern}
-use Rattle.expiry_infer.proofs.Tops.{top_next, top_skipped}
+use Rattle.expiry_infer.proofs.{Common.{ap, refl, sym, ◌∙◌, slice_get_read, Pattern}, Given.{of_pattern}, Tops.{top_next, top_skipped}}
 use Rattle.expiry_infer.proofs.lifetimes.with_rule.Goals as goal
 use Rattle.expiry_infer.proofs.lifetimes.with_rule.Goals.{then-pattern-ty+in_ok-most, else-pattern-ty}
 

@@ -1,6 +1,4 @@
-use Rattle.expiry_infer.specs.Solvable.{can_match}
-use Rattle.expiry_infer.proofs.Matching.{can_match_is_exact, same_answer}
-use Rattle.expiry_infer.proofs.Reaching.{answered}
+use Rattle.expiry_infer.{specs.Solvable.{can_match}, proofs.{Matching.{can_match_is_exact, same_answer}, Reaching.{answered}}}
 use Rattle.expiry_infer.proofs.solving.is_solvable.Goals as goal
 
 pub returns : goal.returns

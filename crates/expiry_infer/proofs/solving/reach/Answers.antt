@@ -1,5 +1,4 @@
-use Rattle.expiry_infer.proofs.Common.{◌∷◌, [], subst, edges_of_conditions, IsSolved, placed, reached}
-use Rattle.expiry_infer.proofs.Reaching.{unsolvable, bound_here}
+use Rattle.expiry_infer.proofs.{Common.{◌∷◌, [], subst, edges_of_conditions, IsSolved, placed, reached}, Reaching.{unsolvable, bound_here}}
 use Rattle.expiry_infer.proofs.solving.reach.Goals as goal
 
 pub returns-in-Some-clause-reach : goal.returns-in-Some-clause-reach

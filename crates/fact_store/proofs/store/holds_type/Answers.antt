@@ -1,5 +1,4 @@
-use Rattle.fact_store.proofs.Common.{sym, subst, ◌<◌}
-use Rattle.fact_store.proofs.Others.{Walks, rank, begins, goes_on, falls}
+use Rattle.fact_store.proofs.{Common.{sym, subst, ◌<◌}, Others.{Walks, rank, begins, goes_on, falls}}
 use Rattle.fact_store.proofs.store.holds_type.Goals as goal
 
 pub loop-next-init : goal.loop-next-init

@@ -1,5 +1,4 @@
-use Rattle.fan_join.proofs.Common.{◌∙◌, ap, sym, List, ℕ, false≢true, has_place}
-use Rattle.fan_join.proofs.Whole.{none_kept, unkept_more}
+use Rattle.fan_join.proofs.{Common.{◌∙◌, ap, sym, List, ℕ, false≢true, has_place}, Whole.{none_kept, unkept_more}}
 use Rattle.fan_join.proofs.asking.differences.Goals as goal
 
 pub loop-place-init : goal.loop-place-init

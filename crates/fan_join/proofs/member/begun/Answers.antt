@@ -1,5 +1,4 @@
-use Rattle.fan_join.proofs.Common.{subst, List, Row}
-use Rattle.fan_join.proofs.Halves.{Leaves, Arrives, begun_by}
+use Rattle.fan_join.proofs.{Common.{subst, List, Row}, Halves.{Leaves, Arrives, begun_by}}
 use Rattle.fan_join.proofs.member.begun.Goals as goal
 
 pub returns : goal.returns

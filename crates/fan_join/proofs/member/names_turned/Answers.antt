@@ -1,5 +1,4 @@
-use Rattle.fan_join.proofs.Common.{sym, ap, ◌&&◌, is_some, at, same_value, name_cmp, candidate_value, has_name, Pattern}
-use Rattle.fan_join.proofs.Halves.{names_turn, under_turned}
+use Rattle.fan_join.proofs.{Common.{sym, ap, ◌&&◌, is_some, at, same_value, name_cmp, candidate_value, has_name, Pattern}, Halves.{names_turn, under_turned}}
 use Rattle.fan_join.proofs.member.names_turned.Goals as goal
 
 pub returns-clause-turned : goal.returns-clause-turned

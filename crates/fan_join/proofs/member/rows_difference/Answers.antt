@@ -1,5 +1,4 @@
-use Rattle.fan_join.proofs.Common.{◌∙◌, ap, List, Row, has, joins, joined, has_candidate}
-use Rattle.fan_join.proofs.Halves.{rows_turned}
+use Rattle.fan_join.proofs.{Common.{◌∙◌, ap, List, Row, has, joins, joined, has_candidate}, Halves.{rows_turned}}
 use Rattle.fan_join.proofs.member.rows_difference.Goals as goal
 
 pub returns : goal.returns

@@ -1,5 +1,4 @@
-use Rattle.fan_join.proofs.Common.{◌∙◌, sym, ap, ◌||◌, ℕ, List, has_place}
-use Rattle.fan_join.proofs.Places.{put_next, put_stays}
+use Rattle.fan_join.proofs.{Common.{◌∙◌, sym, ap, ◌||◌, ℕ, List, has_place}, Places.{put_next, put_stays}}
 use Rattle.fan_join.proofs.reach.add_places.Goals as goal
 
 pub loop-place-preserved : goal.loop-place-preserved

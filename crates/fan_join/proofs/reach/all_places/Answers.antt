@@ -1,5 +1,4 @@
-use Rattle.fan_join.proofs.Common.{has_place}
-use Rattle.fan_join.proofs.Places.{put_below}
+use Rattle.fan_join.proofs.{Common.{has_place}, Places.{put_below}}
 use Rattle.fan_join.proofs.reach.all_places.Goals as goal
 
 pub loop-place-preserved : goal.loop-place-preserved

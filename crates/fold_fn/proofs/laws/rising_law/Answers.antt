@@ -1,5 +1,4 @@
-use Rattle.fold_fn.proofs.Rising.{times-rising, rising_same}
-use Rattle.fold_fn.proofs.Sorting.{sorted-rising}
+use Rattle.fold_fn.proofs.{Rising.{times-rising, rising_same}, Sorting.{sorted-rising}}
 use Rattle.fold_fn.proofs.laws.rising_law.Goals as goal
 
 pub returns-clause-keeps : goal.returns-clause-keeps

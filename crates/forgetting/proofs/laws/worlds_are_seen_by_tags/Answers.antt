@@ -1,5 +1,4 @@
-use Rattle.forgetting.proofs.Seeing.{sight_law, world_fire_law}
-use Rattle.forgetting.proofs.WorldSteps.{world_step_law, retracts_one}
+use Rattle.forgetting.proofs.{Seeing.{sight_law, world_fire_law}, WorldSteps.{world_step_law, retracts_one}}
 use Rattle.forgetting.proofs.laws.worlds_are_seen_by_tags.Goals as goal
 
 pub returns : goal.returns

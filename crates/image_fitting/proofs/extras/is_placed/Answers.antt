@@ -1,6 +1,4 @@
-use Rattle.image_fitting.proofs.Common.{sym}
-use Rattle.image_fitting.proofs.Placing.{no_rule, no_condition, placed_is}
-use Rattle.image_fitting.proofs.Telling.{never}
+use Rattle.image_fitting.proofs.{Common.{sym}, Placing.{no_rule, no_condition, placed_is}, Telling.{never}}
 use Rattle.image_fitting.proofs.extras.is_placed.Goals as goal
 
 pub returns-in-Some-condition_at : goal.returns-in-Some-condition_at

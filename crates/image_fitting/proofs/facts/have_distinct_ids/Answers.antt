@@ -1,6 +1,5 @@
-use Rattle.image_fitting.proofs.Common.{◌≡◌, ◌↔◌, List, ℕ, map, IsTrue, subst, rules, Fact, IsStrictlySortedBy}
+use Rattle.image_fitting.proofs.{Common.{◌≡◌, ◌↔◌, List, ℕ, map, IsTrue, subst, rules, Fact, IsStrictlySortedBy}, Telling.{distinct_is}}
 use Rattle.std.proofs.Common.{nat_cmp}
-use Rattle.image_fitting.proofs.Telling.{distinct_is}
 use Rattle.image_fitting.proofs.facts.have_distinct_ids.Goals as goal
 
 pub returns : goal.returns

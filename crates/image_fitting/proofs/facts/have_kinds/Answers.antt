@@ -1,5 +1,4 @@
-use Rattle.image_fitting.proofs.Common.{◌<◌, ◌≤◌, length, sym, arith}
-use Rattle.image_fitting.proofs.Telling.{unlike_kinds, kinds_end, kinds_on, kinds_over}
+use Rattle.image_fitting.proofs.{Common.{◌<◌, ◌≤◌, length, sym, arith}, Telling.{unlike_kinds, kinds_end, kinds_on, kinds_over}}
 use Rattle.image_fitting.proofs.facts.have_kinds.Goals as goal
 
 pub returns-then-fields-values : goal.returns-then-fields-values

@@ -1,6 +1,5 @@
 use Rattle.image_fitting.proofs.Common.{◌↔◌, Result, Ok, Err, IsTrue, OnOk, subst, sym, IfOk-weaker, FitsPlainly, FitByParts, IsPlaceTable}
-use Rattle.image_fitting.proofs.Exactly.{exact_is}
-use Rattle.image_fitting.proofs.Placing.{table_owners}
+use Rattle.image_fitting.proofs.{Exactly.{exact_is}, Placing.{table_owners}}
 use Rattle.image_fitting.proofs.fitting.fits_plainly.Goals as goal
 
 on_ok : {T E : Type 0} (r : Result T E) (P : Type 0) → P → OnOk r P

@@ -1,5 +1,4 @@
-use Rattle.image_fitting.proofs.Common.{◌∙◌, ◌-◌, ◌<◌, sym, arith}
-use Rattle.image_fitting.proofs.Telling.{always, never, in_order, not_in_order, not_less}
+use Rattle.image_fitting.proofs.{Common.{◌∙◌, ◌-◌, ◌<◌, sym, arith}, Telling.{always, never, in_order, not_in_order, not_less}}
 use Rattle.image_fitting.proofs.orders.are_in_order.Goals as goal
 
 pub returns-then-ne : goal.returns-then-ne

@@ -1,5 +1,4 @@
-use Rattle.image_fitting.proofs.Common.{◌+◌, ◌≤◌, List, ℕ, length, sym, ap, subst, arith}
-use Rattle.image_fitting.proofs.Tabling.{IsTableOf, one_rule_more, whole_table}
+use Rattle.image_fitting.proofs.{Common.{◌+◌, ◌≤◌, List, ℕ, length, sym, ap, subst, arith}, Tabling.{IsTableOf, one_rule_more, whole_table}}
 use Rattle.image_fitting.proofs.table.first_rules.Goals as goal
 
 pub loop-place-preserved : goal.loop-place-preserved

@@ -1,5 +1,4 @@
-use Rattle.image_fitting.proofs.Common.{◌≡◌, ◌∙◌, ◌+◌, List, ℕ, subst, sym, arith, AreFirsts}
-use Rattle.image_fitting.proofs.Tabling.{AreSoFar, filled, last_filled}
+use Rattle.image_fitting.proofs.{Common.{◌≡◌, ◌∙◌, ◌+◌, List, ℕ, subst, sym, arith, AreFirsts}, Tabling.{AreSoFar, filled, last_filled}}
 use Rattle.image_fitting.proofs.table.firsts.Goals as goal
 
 pub loop-other-preserved : goal.loop-other-preserved

@@ -1,5 +1,4 @@
-use Rattle.image_laws.proofs.Common.{snapshot, is_forgotten, snapshot_of, laden_rows}
-use Rattle.image_laws.proofs.Imaged.{image_kept}
+use Rattle.image_laws.proofs.{Common.{snapshot, is_forgotten, snapshot_of, laden_rows}, Imaged.{image_kept}}
 use Rattle.image_laws.proofs.laws.an_image_has_what_is_kept.Goals as goal
 
 pub returns-clause-kept : goal.returns-clause-kept

@@ -1,11 +1,8 @@
-use Rattle.std.proofs.Common.{List, [], refl, rules, subst, sym, ◌++◌, ◌↔◌, ◌∷◌, ◌≡◌}
-use Rattle.std.specs.List.Sorted.{IsStrictlySortedBy}
-use Rattle.fx_base.proofs.Sequences.{empty_from_length}
-use Rattle.fx_base.specs.Lists.{In}
+use Rattle.std.{proofs.Common.{List, [], refl, rules, subst, sym, ◌++◌, ◌↔◌, ◌∷◌, ◌≡◌}, specs.List.Sorted.{IsStrictlySortedBy}}
+use Rattle.fx_base.{proofs.Sequences.{empty_from_length}, specs.Lists.{In}}
 use Rattle.laden_rows.specs.Extras.{extra_cmp}
 use Rattle.row_delta.specs.declared.extra.Extra.{Extra}
-use Rattle.image_making.proofs.Going.{all_listed, extra_of, in_listed, listed_in_order, one_listed}
-use Rattle.image_making.specs.Moved.{extra_in}
+use Rattle.image_making.{proofs.Going.{all_listed, extra_of, in_listed, listed_in_order, one_listed}, specs.Moved.{extra_in}}
 use Rattle.image_making.proofs.extras.listed.Goals as goal
 
 pub loop-entry-preserved : goal.loop-entry-preserved

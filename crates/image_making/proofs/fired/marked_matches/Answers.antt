@@ -1,5 +1,4 @@
-use Rattle.std.proofs.Common.{Bool, List, ap, map, subst, sym, ◌++◌, ◌≡◌}
-use Rattle.std.specs.List.{filter}
+use Rattle.std.{proofs.Common.{Bool, List, ap, map, subst, sym, ◌++◌, ◌≡◌}, specs.List.{filter}}
 use Rattle.change_rules.specs.Staying.{place_in}
 use Rattle.image_laws.specs.Images.{match_fired}
 use Rattle.rule_change.specs.Changed.{is_marked, was_fired}

@@ -1,8 +1,6 @@
 use Rattle.std.proofs.Common.{List, ap, sym, ◌&&◌, ◌==◌, ◌||◌, ◌∙◌}
-use Rattle.row_delta.specs.declared.row.Row.{Row}
-use Rattle.row_delta.specs.Rows.{has}
-use Rattle.rule_model.specs.declared.matched.Match.{Match}
-use Rattle.rule_model.specs.Matches.{has_match}
+use Rattle.row_delta.specs.{declared.row.Row.{Row}, Rows.{has}}
+use Rattle.rule_model.specs.{declared.matched.Match.{Match}, Matches.{has_match}}
 use Rattle.image_making.proofs.Adding.{one_added}
 use Rattle.image_making.proofs.laden.add_matches.Goals as goal
 

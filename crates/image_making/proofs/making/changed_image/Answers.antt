@@ -1,15 +1,10 @@
-use Rattle.std.proofs.Common.{List, ap, arith, length, map, subst, sym, ◌<◌, ◌∙◌}
-use Rattle.std.proofs.lemmas.Option.{slice_get_within}
+use Rattle.std.proofs.{Common.{List, ap, arith, length, map, subst, sym, ◌<◌, ◌∙◌, Err}, lemmas.Option.{slice_get_within}}
 use Rattle.change_rules.specs.Staying.{place_in}
 use Rattle.checkpoint.specs.declared.image.FiredMatch.{FiredMatch}
 use Rattle.image_change.specs.Images.{IsChangedImage}
 use Rattle.image_laws.specs.Images.{match_fired}
-use Rattle.rule_model.specs.declared.matched.Match.{Match}
-use Rattle.rule_model.specs.Matches.{has_match}
-use Rattle.image_making.proofs.Made.{changed_is}
-use Rattle.std.proofs.Common.{Err}
-use Rattle.image_making.proofs.Loadable.{residual_no_row}
-use Rattle.image_making.proofs.Missing.{none_missing}
+use Rattle.rule_model.specs.{declared.matched.Match.{Match}, Matches.{has_match}}
+use Rattle.image_making.proofs.{Made.{changed_is}, Loadable.{residual_no_row}, Missing.{none_missing}}
 use Rattle.image_making.proofs.making.changed_image.Goals as goal
 
 pub laden_matches-requires : goal.laden_matches-requires

@@ -1,5 +1,4 @@
-use Rattle.std.proofs.Common.{ap, map, refl, rules, subst, sym, ◌∙◌}
-use Rattle.std.specs.List.Sorted.{IsStrictlySortedBy}
+use Rattle.std.{proofs.Common.{ap, map, refl, rules, subst, sym, ◌∙◌}, specs.List.Sorted.{IsStrictlySortedBy}}
 use Rattle.laden_rows.specs.Extras.{extra_cmp}
 use Rattle.rule_change.specs.Changed.{moved_fact}
 use Rattle.image_making.proofs.Made.{made_extras, made_moments}

@@ -1,5 +1,4 @@
-use Rattle.join_tests.proofs.Common.{◌∙◌, sym, ap, List, ◌&&◌, is_some, Named, versions_at}
-use Rattle.join_tests.proofs.Versions.{joins_of}
+use Rattle.join_tests.proofs.{Common.{◌∙◌, sym, ap, List, ◌&&◌, is_some, Named, versions_at}, Versions.{joins_of}}
 use Rattle.join_tests.proofs.joins.does_join.Goals as goal
 
 pub returns-then-passes : goal.returns-then-passes

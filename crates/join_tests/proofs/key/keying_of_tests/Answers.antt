@@ -1,5 +1,4 @@
-use Rattle.join_tests.proofs.Common.{and_more}
-use Rattle.join_tests.proofs.Counting.{and_both, next_test}
+use Rattle.join_tests.proofs.{Common.{and_more}, Counting.{and_both, next_test}}
 use Rattle.join_tests.proofs.key.keying_of_tests.Goals as goal
 
 pub loop-test-preserved : goal.loop-test-preserved

@@ -1,5 +1,4 @@
-use Rattle.join_tests.proofs.Common.{◌∙◌, sym, ap, List, map, Value, JoinKey, join_keys, part, with_slot, once}
-use Rattle.join_tests.proofs.Counting.{are_none, not_none, number_fed}
+use Rattle.join_tests.proofs.{Common.{◌∙◌, sym, ap, List, map, Value, JoinKey, join_keys, part, with_slot, once}, Counting.{are_none, not_none, number_fed}}
 use Rattle.join_tests.proofs.keyed.sight_slotted.Goals as goal
 
 pub returns-in-Nothing-clause-own : goal.returns-in-Nothing-clause-own

@@ -1,5 +1,4 @@
-use Rattle.join_tests.proofs.Common.{◌∙◌, sym, ap, List, map, JoinKey, join_keys, part, with_slot}
-use Rattle.join_tests.proofs.Counting.{are_none, not_none, number_fed}
+use Rattle.join_tests.proofs.{Common.{◌∙◌, sym, ap, List, map, JoinKey, join_keys, part, with_slot}, Counting.{are_none, not_none, number_fed}}
 use Rattle.join_tests.proofs.keyed.slotted.Goals as goal
 
 pub returns-in-Nothing : goal.returns-in-Nothing

@@ -1,5 +1,4 @@
-use Rattle.join_tests.proofs.Common.{◌∙◌, sym, ap, List, map, JoinKey, join_keys, as_one, part}
-use Rattle.join_tests.proofs.Counting.{are_none, are_one, are_several}
+use Rattle.join_tests.proofs.{Common.{◌∙◌, sym, ap, List, map, JoinKey, join_keys, as_one, part}, Counting.{are_none, are_one, are_several}}
 use Rattle.join_tests.proofs.keyed.value_of.Goals as goal
 
 pub returns-in-Nothing : goal.returns-in-Nothing

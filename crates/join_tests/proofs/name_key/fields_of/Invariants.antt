@@ -1,5 +1,4 @@
-use Rattle.join_tests.proofs.Common.{◌≡◌, ◌++◌, drop, map}
-use Rattle.join_tests.specs.NameKeys.{name_field}
+use Rattle.join_tests.{proofs.Common.{◌≡◌, ◌++◌, drop, map}, specs.NameKeys.{name_field}}
 use Rattle.join_tests.proofs.name_key.fields_of.Given as goal
 
 abbrev pub invariant-loop-key : goal.invariant-loop-key

@@ -1,5 +1,4 @@
-use Rattle.join_tests.proofs.Common.{map, fed_with, part}
-use Rattle.join_tests.proofs.Counting.{fed_both, next_test}
+use Rattle.join_tests.proofs.{Common.{map, fed_with, part}, Counting.{fed_both, next_test}}
 use Rattle.join_tests.proofs.number.feed_tests.Goals as goal
 
 pub loop-test-preserved : goal.loop-test-preserved

@@ -1,5 +1,4 @@
-use Rattle.join_tests.proofs.Common.{◌∙◌, side_part}
-use Rattle.join_tests.proofs.Siding.{sides_with_slot}
+use Rattle.join_tests.proofs.{Common.{◌∙◌, side_part}, Siding.{sides_with_slot}}
 use Rattle.join_tests.proofs.row_key.sides_slotted.Goals as goal
 
 pub returns-in-len1-up : goal.returns-in-len1-up

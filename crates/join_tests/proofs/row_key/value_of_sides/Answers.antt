@@ -1,5 +1,4 @@
-use Rattle.join_tests.proofs.Common.{◌∙◌, side_part}
-use Rattle.join_tests.proofs.Siding.{sides_several}
+use Rattle.join_tests.proofs.{Common.{◌∙◌, side_part}, Siding.{sides_several}}
 use Rattle.join_tests.proofs.row_key.value_of_sides.Goals as goal
 
 pub returns-in-len2-up : goal.returns-in-len2-up

@@ -1,5 +1,4 @@
-use Rattle.life_edges.proofs.Common.{◌<◌, refl, subst, sym, All, Pattern, TimeTest, bindings, slice_get_read}
-use Rattle.life_edges.proofs.Places.{named_here}
+use Rattle.life_edges.proofs.{Common.{◌<◌, refl, subst, sym, All, Pattern, TimeTest, bindings, slice_get_read}, Places.{named_here}}
 use Rattle.life_edges.proofs.networks.network.Goals as goal
 
 pub add_pattern-requires-clause-named : goal.add_pattern-requires-clause-named

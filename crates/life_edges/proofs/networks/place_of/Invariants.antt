@@ -1,5 +1,4 @@
-use Rattle.life_edges.proofs.Common.{◌≡◌, ◌<◌, ◌+◌, drop, bindings}
-use Rattle.life_edges.specs.Edges.{place_of as place_in}
+use Rattle.life_edges.{proofs.Common.{◌≡◌, ◌<◌, ◌+◌, drop, bindings}, specs.Edges.{place_of as place_in}}
 use Rattle.life_edges.proofs.networks.place_of.Given as goal
 
 abbrev pub invariant-loop-place : goal.invariant-loop-place

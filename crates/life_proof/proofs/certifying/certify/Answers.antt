@@ -1,6 +1,4 @@
-use Rattle.life_proof.proofs.Common.{◌∙◌, List, sym, subst, All-same, Asked, IsReachAsked, asked, AreGoodParts}
-use Rattle.life_proof.proofs.Asked.{all_asked}
-use Rattle.life_proof.proofs.Certified.{table_lawful}
+use Rattle.life_proof.proofs.{Common.{◌∙◌, List, sym, subst, All-same, Asked, IsReachAsked, asked, AreGoodParts}, Asked.{all_asked}, Certified.{table_lawful}}
 use Rattle.life_proof.proofs.certifying.certify.Goals as goal
 
 pub parts_of-requires-clause-asked : goal.parts_of-requires-clause-asked

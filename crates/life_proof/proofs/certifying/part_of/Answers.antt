@@ -1,7 +1,5 @@
 use Rattle.life_proof.proofs.Common.{List, sym, subst, IfOk-weaker, IsUnboundedDifference, Condition, start_point_of, end_of, HaveNetwork, Part, edges_for}
-use Rattle.life_proof.proofs.Common.{IsGoodPart, IsSolvedPart}
-use Rattle.life_proof.proofs.Asked.{fits}
-use Rattle.life_proof.proofs.Certified.{bounded, part_good}
+use Rattle.life_proof.proofs.{Common.{IsGoodPart, IsSolvedPart}, Asked.{fits}, Certified.{bounded, part_good}}
 use Rattle.life_proof.proofs.certifying.part_of.Goals as goal
 
 pub part_among-requires-clause-network : goal.part_among-requires-clause-network

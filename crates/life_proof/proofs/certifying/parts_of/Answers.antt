@@ -1,5 +1,4 @@
-use Rattle.life_proof.proofs.Common.{sym, subst, arith, length, ◌≡◌, ◌+◌}
-use Rattle.life_proof.proofs.Certified.{Makes, makes_more, makes_all}
+use Rattle.life_proof.proofs.{Common.{sym, subst, arith, length, ◌≡◌, ◌+◌}, Certified.{Makes, makes_more, makes_all}}
 use Rattle.life_proof.proofs.certifying.parts_of.Goals as goal
 
 pub loop-one-preserved : goal.loop-one-preserved

@@ -1,5 +1,4 @@
-use Rattle.life_proof.proofs.Common.{sym}
-use Rattle.life_proof.proofs.Loops.{unlike_parts}
+use Rattle.life_proof.proofs.{Common.{sym}, Loops.{unlike_parts}}
 use Rattle.life_proof.proofs.confirming.are_good_parts.Goals as goal
 
 pub returns-then-asked-parts : goal.returns-then-asked-parts

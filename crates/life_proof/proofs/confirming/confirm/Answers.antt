@@ -1,6 +1,5 @@
 use Rattle.life_proof.proofs.Common.{◌≡◌, ◌∙◌, List, Bool, ap, sym, Decides, All-same, IfOk-weaker, Asked, Part, HasPlaces, asked, are_good_parts, IsGood}
-use Rattle.life_proof.proofs.Asked.{all_placed}
-use Rattle.life_proof.proofs.Good.{lawful, unlawful}
+use Rattle.life_proof.proofs.{Asked.{all_placed}, Good.{lawful, unlawful}}
 use Rattle.life_proof.proofs.confirming.confirm.Goals as goal
 
 pub are_good_parts-requires-clause-places : goal.are_good_parts-requires-clause-places

@@ -1,5 +1,4 @@
-use Rattle.life_proof.proofs.Common.{◌≤◌, length, List, sym, subst, Condition, NameEarlier}
-use Rattle.life_proof.proofs.Asked.{fits}
+use Rattle.life_proof.proofs.{Common.{◌≤◌, length, List, sym, subst, Condition, NameEarlier}, Asked.{fits}}
 use Rattle.life_proof.proofs.confirming.is_good_part.Goals as goal
 
 pub is_shown-requires-clause-few : goal.is_shown-requires-clause-few

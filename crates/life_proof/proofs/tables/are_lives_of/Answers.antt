@@ -1,5 +1,4 @@
-use Rattle.life_proof.proofs.Common.{sym}
-use Rattle.life_proof.proofs.Loops.{unlike_lives}
+use Rattle.life_proof.proofs.{Common.{sym}, Loops.{unlike_lives}}
 use Rattle.life_proof.proofs.tables.are_lives_of.Goals as goal
 
 pub returns-then-types-lives : goal.returns-then-types-lives

@@ -1,5 +1,4 @@
-use Rattle.line_feed.proofs.Common.{sym, subst}
-use Rattle.line_feed.proofs.Feeding.{fed_nothing}
+use Rattle.line_feed.proofs.{Common.{sym, subst}, Feeding.{fed_nothing}}
 use Rattle.line_feed.proofs.fed.begin.Goals as goal
 
 pub returns-clause-fed : goal.returns-clause-fed

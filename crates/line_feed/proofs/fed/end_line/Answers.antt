@@ -1,6 +1,4 @@
-use Rattle.line_feed.proofs.Common.{◌++◌, length, arith}
-use Rattle.line_feed.proofs.Feeding.{feeds_line}
-use Rattle.line_feed.proofs.Behind.{ready_behind}
+use Rattle.line_feed.proofs.{Common.{◌++◌, length, arith}, Feeding.{feeds_line}, Behind.{ready_behind}}
 use Rattle.line_feed.proofs.fed.end_line.Goals as goal
 
 pub returns-in-Some-clause-fed : goal.returns-in-Some-clause-fed

@@ -1,5 +1,4 @@
-use Rattle.line_feed.proofs.Common.{◌≡◌, ◌≤◌, ◌+◌, ◌-◌, length, take, Some}
-use Rattle.line_feed.specs.Fed.{Feeds, IsReady}
+use Rattle.line_feed.{proofs.Common.{◌≡◌, ◌≤◌, ◌+◌, ◌-◌, length, take, Some}, specs.Fed.{Feeds, IsReady}}
 use Rattle.line_feed.proofs.fed.feed.Given as goal
 
 -- the bytes before this place were fed, and all behind it may still come

@@ -1,5 +1,4 @@
-use Rattle.line_feed.proofs.Common.{refl}
-use Rattle.line_feed.proofs.Feeding.{feeds_rest}
+use Rattle.line_feed.proofs.{Common.{refl}, Feeding.{feeds_rest}}
 use Rattle.line_feed.proofs.fed.keep_rest.Goals as goal
 
 pub returns-clause-fed : goal.returns-clause-fed

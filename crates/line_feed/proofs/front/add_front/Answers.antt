@@ -1,6 +1,4 @@
-use Rattle.line_feed.proofs.Common.{arith}
-use Rattle.line_feed.specs.Fed.{front_most}
-use Rattle.line_feed.proofs.Fronts.{front_added, most_is}
+use Rattle.line_feed.{proofs.{Common.{arith}, Fronts.{front_added, most_is}}, specs.Fed.{front_most}}
 use Rattle.line_feed.proofs.front.add_front.Goals as goal
 
 pub returns : goal.returns

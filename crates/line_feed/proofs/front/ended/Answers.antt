@@ -1,5 +1,4 @@
-use Rattle.line_feed.proofs.Common.{◌∙◌, arith}
-use Rattle.line_feed.proofs.Fronts.{whole_front}
+use Rattle.line_feed.proofs.{Common.{◌∙◌, arith}, Fronts.{whole_front}}
 use Rattle.line_feed.proofs.front.ended.Goals as goal
 
 pub returns-else-len-gt-LINE_MAX-clause-answer : goal.returns-else-len-gt-LINE_MAX-clause-answer

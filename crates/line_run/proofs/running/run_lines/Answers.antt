@@ -1,18 +1,15 @@
-use Rattle.line_run.proofs.Common.{◌≡◌, ℕ, Ok, Err, subst, to_come, ◌++◌, true, false, not, [], take, arith, sym, ap, ◌∙◌, refl, inl, inr, append, AppendsFront, lines_of, lines_ahead, Goes, Saves, Stops}
-use Rattle.line_run.proofs.Common.{World, state_in, at_end, at_limit, run}
+use Rattle.line_run.proofs.Common.{◌≡◌, ℕ, Ok, Err, subst, to_come, ◌++◌, true, false, not, [], take, arith, sym, ap, ◌∙◌, refl, inl, inr, append, AppendsFront}
+use Rattle.line_run.proofs.Common.{lines_of, lines_ahead, Goes, Saves, Stops, World, state_in, at_end, at_limit, run}
+use Rattle.line_run.specs.{declared.fault.{KeepFault.{KeepFault}, StopFault.TheVariants.{NoMemory, WriteFault}}, Faults.{unkept_fault}, Prompt.{heard}}
+use Rattle.line_run.proofs.Ahead.{goes_turn, saves_turn, saves_at, saves_of, behind_is, goes_further, ends_there, flushed, flushed_front, front_flushed}
+use Rattle.line_run.proofs.Ahead.{all_flushed, before_saving, all_done, all_put, no_line, no_line_saves, no_more, no_more_saves, none_saved, heard_run}
+use Rattle.line_run.proofs.Ahead.{heard_ended, stopped, stopped_in, stopped_kept, stopped_kept_err, stopped_in_kept, stopped_at_read, refused_there, long_run}
+use Rattle.line_run.proofs.{Ahead.{long_heard, told_err, if_told, at_start, moves_on, written_then, append_nothing}, Asking.{asks_first, asks_flushed}}
+use Rattle.line_run.proofs.Asking.{asks_mid_line, asks_turned, nothing_said, said_flushed, said_hushed, said_stays, said_front, quiet_first, quiet_so}
+use Rattle.line_run.proofs.{Asking.{quiet_flushed, quiet_front, quiet_all}, Stops.{err_of, given_since, takes_stop, takes_unkept, refused_so, long_stop}}
+use Rattle.line_run.proofs.Stops.{read_stop, long_taken, exhausted, none_given, stops_mid_line, no_memory_at_read, no_memory_at_length, none_kept, has_at_most}
+use Rattle.line_run.proofs.Stops.{first_to_come, last_to_come, some_to_come}
 use Rattle.fx_io.specs.Reader.{Reader}
-use Rattle.line_run.specs.declared.fault.KeepFault.{KeepFault}
-use Rattle.line_run.specs.declared.fault.StopFault.TheVariants.{NoMemory, WriteFault}
-use Rattle.line_run.specs.Faults.{unkept_fault}
-use Rattle.line_run.specs.Prompt.{heard}
-use Rattle.line_run.proofs.Ahead.{goes_turn, saves_turn, saves_at, saves_of, behind_is, goes_further, ends_there, flushed, flushed_front, front_flushed, all_flushed, before_saving}
-use Rattle.line_run.proofs.Ahead.{all_done, all_put, no_line, no_line_saves, no_more, no_more_saves, none_saved, heard_run, heard_ended, stopped, stopped_in, stopped_kept}
-use Rattle.line_run.proofs.Ahead.{stopped_kept_err, stopped_in_kept, stopped_at_read, refused_there, long_run, long_heard}
-use Rattle.line_run.proofs.Ahead.{told_err, if_told, at_start, moves_on, written_then, append_nothing}
-use Rattle.line_run.proofs.Asking.{asks_first, asks_flushed, asks_mid_line, asks_turned, nothing_said, said_flushed, said_hushed, said_stays, said_front}
-use Rattle.line_run.proofs.Asking.{quiet_first, quiet_so, quiet_flushed, quiet_front, quiet_all}
-use Rattle.line_run.proofs.Stops.{err_of, given_since, takes_stop, takes_unkept, refused_so, long_stop, read_stop, long_taken, exhausted, none_given, stops_mid_line}
-use Rattle.line_run.proofs.Stops.{no_memory_at_read, no_memory_at_length, none_kept, has_at_most, first_to_come, last_to_come, some_to_come}
 use Rattle.line_run.proofs.running.run_lines.Goals as goal
 use Rattle.line_run.proofs.running.run_lines.Goals.{then-not-is_ready, else-not-is_ready}
 

@@ -1,8 +1,5 @@
 use Rattle.line_run.proofs.Common.{◌≡◌, ◌≤◌, ◌+◌, ℕ, List, None, append, prepend, count_after, total_told, to_come, World, RunState, Files, state_in}
-use Rattle.line_run.specs.declared.fault.ImageFault.{ImageFault}
-use Rattle.line_run.specs.Prompt.{said}
-use Rattle.line_run.proofs.Ahead.{SoFar, heard_run}
-use Rattle.line_run.proofs.Asking.{Asks, IsQuiet}
+use Rattle.line_run.{specs.{declared.fault.ImageFault.{ImageFault}, Prompt.{said}}, proofs.{Ahead.{SoFar, heard_run}, Asking.{Asks, IsQuiet}}}
 use Rattle.line_run.proofs.running.run_lines.Given as goal
 
 -- the front was written, and behind it comes what is gathered; from each world that the first engine stands for, that is what the lines done

@@ -1,5 +1,4 @@
-use Rattle.not_node.proofs.Common.{to_z, of_z, ◌∙◌, ap, ◌&&◌, take, w128, has, rows_more, moment_at, mature}
-use Rattle.not_node.proofs.Pairs.{one_kept}
+use Rattle.not_node.proofs.{Common.{to_z, of_z, ◌∙◌, ap, ◌&&◌, take, w128, has, rows_more, moment_at, mature}, Pairs.{one_kept}}
 use Rattle.not_node.proofs.ripening.ripe_of.Goals as goal
 
 pub loop-row-preserved : goal.loop-row-preserved

@@ -1,6 +1,5 @@
 use Rattle.page_map.proofs.Common.{◌≡◌, ◌∙◌, sym, ap, ◌++◌, ◌∷◌, [], ◌+◌, ◌*◌, ◌<◌, arith, length, drop, append_assoc, rules, entries_from, entries_by}
-use Rattle.page_map.proofs.Common.{drop_more}
-use Rattle.page_map.proofs.Kept.{joined}
+use Rattle.page_map.proofs.{Common.{drop_more}, Kept.{joined}}
 use Rattle.page_map.proofs.directory.add_pages.Goals as goal
 
 pub loop-place-preserved : goal.loop-place-preserved

@@ -1,6 +1,4 @@
-use Rattle.page_map.proofs.Common.{◌≡◌, ◌∙◌, sym, ap, rules, ◌/◌, ◌%◌, ◌<◌, ◌≤◌, length, get_or, value_for_number}
-use Rattle.page_map.proofs.Kept.{past_pages}
-use Rattle.page_map.proofs.Written.{in_page}
+use Rattle.page_map.proofs.{Common.{◌≡◌, ◌∙◌, sym, ap, rules, ◌/◌, ◌%◌, ◌<◌, ◌≤◌, length, get_or, value_for_number}, Kept.{past_pages}, Written.{in_page}}
 use Rattle.page_map.proofs.directory.find_at.Goals as goal
 
 pub returns-then-number-len : goal.returns-then-number-len

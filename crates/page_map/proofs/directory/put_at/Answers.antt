@@ -1,5 +1,4 @@
-use Rattle.page_map.proofs.Common.{◌∙◌, ap, ◌/◌, ◌%◌, cond, nat_eq, on_ok_weaker, on_err_weaker}
-use Rattle.page_map.proofs.Written.{written, unwritten}
+use Rattle.page_map.proofs.{Common.{◌∙◌, ap, ◌/◌, ◌%◌, cond, nat_eq, on_ok_weaker, on_err_weaker}, Written.{written, unwritten}}
 use Rattle.page_map.proofs.directory.put_at.Goals as goal
 
 pub returns-clause-ok : goal.returns-clause-ok

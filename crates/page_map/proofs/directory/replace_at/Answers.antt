@@ -1,5 +1,4 @@
-use Rattle.page_map.proofs.Common.{◌∙◌, sym, ap, rules, ◌/◌, ◌%◌, ◌<◌, ◌≤◌, length, value_for_number}
-use Rattle.page_map.proofs.Kept.{past_pages, on_some_weaker, if_none_weaker}
+use Rattle.page_map.proofs.{Common.{◌∙◌, sym, ap, rules, ◌/◌, ◌%◌, ◌<◌, ◌≤◌, length, value_for_number}, Kept.{past_pages, on_some_weaker, if_none_weaker}}
 use Rattle.page_map.proofs.Written.{in_page, written, unwritten}
 use Rattle.page_map.proofs.directory.replace_at.Goals as goal
 

@@ -1,6 +1,5 @@
-use Rattle.page_map.proofs.Common.{◌∙◌, sym, ap, rules, ◌/◌, ◌%◌, ◌<◌, ◌≤◌, length, free, value_for_number}
-use Rattle.page_map.proofs.Kept.{past_pages}
-use Rattle.page_map.proofs.Written.{in_page, written, absent}
+use Rattle.page_map.proofs.{Common.{◌∙◌, sym, ap, rules, ◌/◌, ◌%◌, ◌<◌, ◌≤◌, length, free, value_for_number}, Kept.{past_pages}, Written.{in_page, written}}
+use Rattle.page_map.proofs.Written.{absent}
 use Rattle.page_map.proofs.directory.take_at.Goals as goal
 
 pub returns-then-number-len-clause-taken : goal.returns-then-number-len-clause-taken

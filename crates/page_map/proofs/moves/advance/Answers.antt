@@ -1,6 +1,5 @@
 use Rattle.page_map.proofs.Common.{◌∙◌, sym, ap, subst, ◌≡◌, ◌+◌, ◌^◌, ◌<◌, ℕ, List, Some, None, cond, length, is_at, lookup, nat_cmp, Directory, value_at}
-use Rattle.page_map.proofs.Common.{AreDirectoriesApart, held}
-use Rattle.page_map.proofs.Moved.{grown_same}
+use Rattle.page_map.proofs.{Common.{AreDirectoriesApart, held}, Moved.{grown_same}}
 use Rattle.page_map.proofs.moves.advance.Goals as goal
 
 pub returns-clause-same : goal.returns-clause-same

@@ -1,5 +1,4 @@
-use Rattle.page_map.proofs.Common.{◌≡◌, length, rules}
-use Rattle.page_map.proofs.Moved.{begun_same}
+use Rattle.page_map.proofs.{Common.{◌≡◌, length, rules}, Moved.{begun_same}}
 use Rattle.page_map.proofs.moves.begin_at.Goals as goal
 
 pub returns-then-is_empty-clause-same : goal.returns-then-is_empty-clause-same

@@ -1,5 +1,5 @@
-use Rattle.page_map.proofs.Common.{◌∙◌, sym, ap, subst, ◌+◌, ◌∷◌, List, Directory, AreDirectoriesApart, held}
-use Rattle.page_map.proofs.Moved.{sent_held, sent_same, trimmed_held, trimmed_same}
+use Rattle.page_map.proofs.{Common.{◌∙◌, sym, ap, subst, ◌+◌, ◌∷◌, List, Directory, AreDirectoriesApart, held}, Moved.{sent_held, sent_same, trimmed_held}}
+use Rattle.page_map.proofs.Moved.{trimmed_same}
 use Rattle.page_map.proofs.moves.retreat.Goals as goal
 
 pub returns-in_default-send-clause-are : goal.returns-in_default-send-clause-are

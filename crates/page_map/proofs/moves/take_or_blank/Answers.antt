@@ -1,5 +1,4 @@
-use Rattle.page_map.proofs.Common.{sym, is_at, nat_cmp}
-use Rattle.page_map.proofs.Kept.{directory_short, fewer_directories}
+use Rattle.page_map.proofs.{Common.{sym, is_at, nat_cmp}, Kept.{directory_short, fewer_directories}}
 use Rattle.page_map.proofs.moves.take_or_blank.Goals as goal
 
 pub returns-in-Some-clause-short : goal.returns-in-Some-clause-short

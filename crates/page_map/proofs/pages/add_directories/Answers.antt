@@ -1,6 +1,5 @@
 use Rattle.page_map.proofs.Common.{◌∙◌, sym, ap, subst, ◌++◌, ◌*◌, ◌<◌, ◌^◌, ℕ, List, append_assoc, [], All, keys_of, values_of, All-tail, Directory}
-use Rattle.page_map.proofs.Common.{ArePagesApart, entries_of, entries_by}
-use Rattle.page_map.proofs.Kept.{joined_pages}
+use Rattle.page_map.proofs.{Common.{ArePagesApart, entries_of, entries_by}, Kept.{joined_pages}}
 use Rattle.page_map.proofs.pages.add_directories.Goals as goal
 
 pub loop-number-preserved : goal.loop-number-preserved

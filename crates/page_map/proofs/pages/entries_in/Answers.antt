@@ -1,6 +1,5 @@
 use Rattle.page_map.proofs.Common.{◌∙◌, sym, ap, subst, ◌++◌, ◌<◌, ◌^◌, ℕ, List, append_assoc, Included, Excluded, Unbounded, range_contains, nat_cmp, All}
-use Rattle.page_map.proofs.Common.{keys_of, values_of, Directory, ArePagesApart, entries_of, numbered}
-use Rattle.page_map.proofs.Listed.{Below, each_kept, entries_parts}
+use Rattle.page_map.proofs.{Common.{keys_of, values_of, Directory, ArePagesApart, entries_of, numbered}, Listed.{Below, each_kept, entries_parts}}
 use Rattle.page_map.proofs.pages.entries_in.Goals as goal
 
 pub add_directories-requires-clause-numbers : goal.add_directories-requires-clause-numbers

@@ -1,6 +1,5 @@
-use Rattle.page_map.proofs.Common.{rules, ◌/◌, ◌<◌, ◌^◌, on_ok_weaker, on_err_weaker}
-use Rattle.page_map.proofs.Kept.{more_directories, no_pages}
-use Rattle.page_map.proofs.Changes.{row_put, row_unchanged, tree_are, tree_put, tree_unchanged, first_are, first_put}
+use Rattle.page_map.proofs.{Common.{rules, ◌/◌, ◌<◌, ◌^◌, on_ok_weaker, on_err_weaker}, Kept.{more_directories, no_pages}, Changes.{row_put, row_unchanged}}
+use Rattle.page_map.proofs.Changes.{tree_are, tree_put, tree_unchanged, first_are, first_put}
 use Rattle.page_map.proofs.pages.put.Goals as goal
 
 pub returns-in-Some-clause-ok : goal.returns-in-Some-clause-ok

@@ -1,7 +1,6 @@
-use Rattle.pair_memory.proofs.Common.{◌∙◌, sym, ap, ◌∷◌, IfOk-weaker, Option, Value, option_map}
+use Rattle.pair_memory.proofs.{Common.{◌∙◌, sym, ap, ◌∷◌, IfOk-weaker, Option, Value, option_map}, Found.{rows_alone, rows_both}}
 use Rattle.std.proofs.Common.{Bor}
 use Rattle.join_tests.specs.Kept.{one_or_none}
-use Rattle.pair_memory.proofs.Found.{rows_alone, rows_both}
 use Rattle.pair_memory.proofs.making.made_with_name.Goals as goal
 
 pub returns-in-None : goal.returns-in-None

@@ -1,5 +1,4 @@
-use Rattle.pair_memory.proofs.Common.{◌∙◌, sym, ap, [], ◌∷◌, IfOk-weaker, Value, all_sought}
-use Rattle.pair_memory.proofs.Found.{names_alone, names_both}
+use Rattle.pair_memory.proofs.{Common.{◌∙◌, sym, ap, [], ◌∷◌, IfOk-weaker, Value, all_sought}, Found.{names_alone, names_both}}
 use Rattle.pair_memory.proofs.making.made_with_row.Goals as goal
 
 pub returns-in-One : goal.returns-in-One

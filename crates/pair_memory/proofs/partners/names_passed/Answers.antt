@@ -1,8 +1,7 @@
 use Rattle.pair_memory.proofs.Common.{cond, ◌≡◌, ◌∙◌, sym, ap, subst, arith, List, [], ◌∷◌, ◌++◌, ◌&&◌, Vec, Global, common_steps, IsStrictlySortedBy-filter}
 use Rattle.pair_memory.proofs.Common.{is_member-filter, is_some-lookup, is_at, filter, option_map, keys_of, Named, name_cmp, name_equiv, entries, Bucket}
-use Rattle.pair_memory.proofs.Common.{name_joins, has_name}
+use Rattle.pair_memory.proofs.{Common.{name_joins, has_name}, Joining.{name_decides}}
 use Rattle.std.specs.List.Sorted.{IsStrictlySortedBy}
-use Rattle.pair_memory.proofs.Joining.{name_decides}
 use Rattle.pair_memory.proofs.partners.names_passed.Goals as goal
 use Rattle.pair_memory.proofs.partners.names_passed.Goals.{in-One+in_ok-add_passing-in-One, in-Many+in-None}
 

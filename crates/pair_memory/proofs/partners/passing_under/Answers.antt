@@ -1,5 +1,4 @@
-use Rattle.pair_memory.proofs.Common.{name_cmp}
-use Rattle.pair_memory.proofs.Found.{nothing_sorted}
+use Rattle.pair_memory.proofs.{Common.{name_cmp}, Found.{nothing_sorted}}
 use Rattle.pair_memory.proofs.partners.passing_under.Goals as goal
 
 pub returns-in-None-clause-in_order : goal.returns-in-None-clause-in_order

@@ -1,6 +1,5 @@
 use Rattle.pair_memory.proofs.Common.{◌∙◌, sym, ap, List, Vec, Global, ◌&&◌, ◌||◌, is_some, option_map, eq_by_cmp, Named, Row, has, row_cmp, name_cmp, found}
-use Rattle.pair_memory.proofs.Common.{Bucket, name_joins, with_name, joined, has_name}
-use Rattle.pair_memory.proofs.Joining.{more_names, one_more, one_name, names_begin, names_end}
+use Rattle.pair_memory.proofs.{Common.{Bucket, name_joins, with_name, joined, has_name}, Joining.{more_names, one_more, one_name, names_begin, names_end}}
 use Rattle.pair_memory.proofs.partners.with_names.Goals as goal
 use Rattle.pair_memory.proofs.partners.with_names.Goals.{in-One+in_ok-add_row-in-One, in-Many+in-None}
 

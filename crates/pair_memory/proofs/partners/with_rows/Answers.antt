@@ -1,6 +1,5 @@
 use Rattle.pair_memory.proofs.Common.{◌∙◌, sym, ap, List, Vec, Global, ◌&&◌, ◌||◌, is_some, option_map, eq_by_cmp, Row, has, row_cmp, name_cmp, found, Bucket}
-use Rattle.pair_memory.proofs.Common.{row_joins, with_name, joined}
-use Rattle.pair_memory.proofs.Joining.{more_rows, one_more, one_row, rows_begin, rows_end}
+use Rattle.pair_memory.proofs.{Common.{row_joins, with_name, joined}, Joining.{more_rows, one_more, one_row, rows_begin, rows_end}}
 use Rattle.pair_memory.proofs.partners.with_rows.Goals as goal
 use Rattle.pair_memory.proofs.partners.with_rows.Goals.{in-One+in_ok-add_row-in-One, in-Many+in-None}
 

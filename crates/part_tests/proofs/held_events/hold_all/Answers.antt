@@ -1,6 +1,4 @@
-use Rattle.std.proofs.Common.{◌≡◌, ◌∙◌, ap, ℕ, None}
-use Rattle.std.specs.Prelude.{cond}
-use Rattle.std.specs.Cmp.{eq_by_cmp_equiv, nat_cmp_total}
+use Rattle.std.{proofs.Common.{◌≡◌, ◌∙◌, ap, ℕ, None}, specs.{Prelude.{cond}, Cmp.{eq_by_cmp_equiv, nat_cmp_total}}}
 use Rattle.std.specs.FinMap as map
 use Rattle.due_queue.specs.Timers.{Timers}
 use Rattle.part_tests.proofs.held_events.hold_all.Goals as goal

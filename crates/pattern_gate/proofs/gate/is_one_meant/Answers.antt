@@ -1,5 +1,4 @@
-use Rattle.pattern_gate.proofs.Common.{◌∙◌, sym, ap, ◌||◌, option_map, Fact, Bor, is_given_meant}
-use Rattle.pattern_gate.proofs.Turning.{any_lent}
+use Rattle.pattern_gate.proofs.{Common.{◌∙◌, sym, ap, ◌||◌, option_map, Fact, Bor, is_given_meant}, Turning.{any_lent}}
 use Rattle.pattern_gate.proofs.gate.is_one_meant.Goals as goal
 
 pub returns-then-is_any_meant : goal.returns-then-is_any_meant

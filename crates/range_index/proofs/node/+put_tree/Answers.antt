@@ -1,6 +1,4 @@
-use Rattle.std.proofs.Common.{◌≡◌, ◌∙◌, ap, ◌++◌, ◌<◌, ◌/◌, take, length, arith}
-use Rattle.std.proofs.lemmas.List.{take-append-drop}
-use Rattle.std.proofs.lemmas.Result.{on_ok_weaker}
+use Rattle.std.proofs.{Common.{◌≡◌, ◌∙◌, ap, ◌++◌, ◌<◌, ◌/◌, take, length, arith}, lemmas.{List.{take-append-drop}, Result.{on_ok_weaker}}}
 use Rattle.range_index.proofs.Trees.{halves_put}
 use Rattle.range_index.proofs.node.+put_tree.Goals as goal
 

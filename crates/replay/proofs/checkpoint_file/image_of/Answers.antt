@@ -1,5 +1,4 @@
-use Rattle.replay.proofs.Common.{ℕ, List, Err, sym, ap, ◌∙◌, arith, bytes_eq}
-use Rattle.replay.proofs.ImagesRead.{bad_image_is, image_is, other_rules_is, too_long_is}
+use Rattle.replay.proofs.{Common.{ℕ, List, Err, sym, ap, ◌∙◌, arith, bytes_eq}, ImagesRead.{bad_image_is, image_is, other_rules_is, too_long_is}}
 use Rattle.replay.proofs.checkpoint_file.image_of.Goals as goal
 
 pub returns-then-bytes-gt-IMAGE_MAX-clause-refused : goal.returns-then-bytes-gt-IMAGE_MAX-clause-refused

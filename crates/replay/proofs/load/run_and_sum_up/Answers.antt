@@ -1,5 +1,4 @@
-use Rattle.replay.proofs.Common.{AppendsFront, lines_of, LifeTable, setting_of, whole_run, summary_text}
-use Rattle.replay.proofs.Tables.{by_table}
+use Rattle.replay.proofs.{Common.{AppendsFront, lines_of, LifeTable, setting_of, whole_run, summary_text}, Tables.{by_table}}
 use Rattle.replay.proofs.load.run_and_sum_up.Goals as goal
 
 pub returns-in-Ok-clause-front : goal.returns-in-Ok-clause-front

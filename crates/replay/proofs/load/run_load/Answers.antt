@@ -1,7 +1,5 @@
-use Rattle.replay.proofs.Common.{◌≡◌, refl, sym, ap, ◌∙◌, inl, inr, arith, rules_text, Accepted, Refused, reading, sums_up}
-use Rattle.replay.proofs.Calls.{load_done, load_not_nine, nothing_done}
-use Rattle.replay.proofs.LoadFile.{load_file_accepted}
-use Rattle.replay.proofs.Reports.{a_load}
+use Rattle.replay.proofs.{Common.{◌≡◌, refl, sym, ap, ◌∙◌, inl, inr, arith, rules_text, Accepted, Refused, reading, sums_up}, Calls.{load_done, load_not_nine}}
+use Rattle.replay.proofs.{Calls.{nothing_done}, LoadFile.{load_file_accepted}, Reports.{a_load}}
 use Rattle.replay.proofs.load.run_load.Goals as goal
 
 pub returns-in-Err : goal.returns-in-Err

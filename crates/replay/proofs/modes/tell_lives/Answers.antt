@@ -1,5 +1,4 @@
-use Rattle.replay.proofs.Common.{◌≡◌, ◌∙◌, lives_text}
-use Rattle.replay.proofs.Tables.{same_lives_text}
+use Rattle.replay.proofs.{Common.{◌≡◌, ◌∙◌, lives_text}, Tables.{same_lives_text}}
 use Rattle.replay.proofs.modes.tell_lives.Goals as goal
 
 pub returns-in-Ok-clause-front : goal.returns-in-Ok-clause-front

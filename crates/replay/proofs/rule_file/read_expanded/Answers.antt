@@ -1,7 +1,5 @@
-use Rattle.replay.proofs.Common.{refl, sym, ap, ◌∙◌}
+use Rattle.replay.{proofs.{Common.{refl, sym, ap, ◌∙◌}, Expanding.{refused_of}}, specs.Refusals.{of_checked_with}}
 use Rattle.drl_check.specs.Outcomes.{checked}
-use Rattle.replay.specs.Refusals.{of_checked_with}
-use Rattle.replay.proofs.Expanding.{refused_of}
 use Rattle.replay.proofs.rule_file.read_expanded.Goals as goal
 
 pub returns-in_ok-check_refusal-in-Err-clause-reading : goal.returns-in_ok-check_refusal-in-Err-clause-reading

@@ -1,5 +1,5 @@
-use Rattle.replay.proofs.Common.{◌≡◌, ◌++◌, ◌+◌, ℕ, length, take, arith, rules, ap, ◌∙◌, length-append, length-take-le, file_told}
-use Rattle.replay.proofs.Files.{piece_more, so_far_of, le_trans}
+use Rattle.replay.proofs.{Common.{◌≡◌, ◌++◌, ◌+◌, ℕ, length, take, arith, rules, ap, ◌∙◌, length-append, length-take-le, file_told}, Files.{piece_more}}
+use Rattle.replay.proofs.Files.{so_far_of, le_trans}
 use Rattle.replay.proofs.rule_file.read_whole.Goals as goal
 
 pub loop-n-preserved : goal.loop-n-preserved

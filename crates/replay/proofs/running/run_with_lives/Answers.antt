@@ -1,6 +1,4 @@
-use Rattle.replay.proofs.Common.{inl, inr, refl, ap, Err, arith, Run, Unfit, wanted_at}
-use Rattle.replay.proofs.Calls.{checkpoint_done, nothing_done}
-use Rattle.replay.proofs.Prompting.{prompt_run}
+use Rattle.replay.proofs.{Common.{inl, inr, refl, ap, Err, arith, Run, Unfit, wanted_at}, Calls.{checkpoint_done, nothing_done}, Prompting.{prompt_run}}
 use Rattle.replay.proofs.Runs.{failing, refused_so, run_done, run_failed, unfit_run}
 use Rattle.replay.proofs.running.run_with_lives.Goals as goal
 

@@ -1,5 +1,4 @@
-use Rattle.replay.proofs.Common.{inl, inr, refl, arith}
-use Rattle.replay.proofs.Calls.{nothing_done}
+use Rattle.replay.proofs.{Common.{inl, inr, refl, arith}, Calls.{nothing_done}}
 use Rattle.replay.proofs.saving.save_program.Goals as goal
 
 pub returns-in-Err-clause-run : goal.returns-in-Err-clause-run

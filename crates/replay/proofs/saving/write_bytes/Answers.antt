@@ -1,6 +1,6 @@
-use Rattle.replay.proofs.Common.{refl, sym, ◌∙◌, arith, TooLong, Unfit}
+use Rattle.replay.proofs.{Common.{refl, sym, ◌∙◌, arith, TooLong, Unfit}, ImagesWritten.{faulty_status, long_report, stuck_report, whole_report, refusal_says}}
+use Rattle.replay.proofs.ImagesWritten.{whole_says}
 use mir.Val.{bool_byte}
-use Rattle.replay.proofs.ImagesWritten.{faulty_status, long_report, stuck_report, whole_report, refusal_says, whole_says}
 use Rattle.replay.proofs.saving.write_bytes.Goals as goal
 
 pub returns-then-bytes-gt-IMAGE_MAX-clause-said : goal.returns-then-bytes-gt-IMAGE_MAX-clause-said

@@ -1,5 +1,4 @@
-use Rattle.replay.proofs.Common.{length, arith, drop_all, take_rest}
-use Rattle.replay.proofs.Counted.{line_at, one_line}
+use Rattle.replay.proofs.{Common.{length, arith, drop_all, take_rest}, Counted.{line_at, one_line}}
 use Rattle.replay.proofs.summing.first_line.Goals as goal
 
 pub returns-in-Some-clause-lines : goal.returns-in-Some-clause-lines

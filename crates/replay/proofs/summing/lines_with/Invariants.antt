@@ -1,5 +1,4 @@
-use Rattle.replay.proofs.Common.{◌≡◌, ◌≤◌, ◌+◌, length, lines_of, lines_with}
-use Rattle.replay.proofs.Counted.{counted}
+use Rattle.replay.proofs.{Common.{◌≡◌, ◌≤◌, ◌+◌, length, lines_of, lines_with}, Counted.{counted}}
 use Rattle.replay.proofs.summing.lines_with.Given as goal
 
 -- the lines that were counted and those of the rest are all of them

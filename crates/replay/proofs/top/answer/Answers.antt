@@ -1,11 +1,8 @@
 use Rattle.replay.proofs.Common.{◌≡◌, Some, Err, sym, subst, ap, ◌∙◌, inl, inr, refl, option_map, arith, RuleFile, Accepted, Refused, seen_of_shelf}
 use Rattle.replay.proofs.Common.{wanted_told, reading, refuses, refuses_checkpoint, wanted_rules, wanted_at, wanted_from, wanted_by_name, IsUnread}
+use Rattle.replay.proofs.{Calls.{by_told, told_is, refused_done, refuses_since, rose_since, checkpoint_done, nothing_done, not_refused}, Reports.{no_file}}
+use Rattle.replay.{proofs.{Reports.{a_file, accepted_file, refused_file, shown_enough}, ImagesRead.{unread_at}}, specs.{Report.{IsPrompt}, Wanted.{Wanted}}}
 use Rattle.drl_parse.specs.Parsed.{file_limit}
-use Rattle.replay.proofs.Calls.{by_told, told_is, refused_done, refuses_since, rose_since, checkpoint_done, nothing_done, not_refused}
-use Rattle.replay.proofs.Reports.{no_file, a_file, accepted_file, refused_file, shown_enough}
-use Rattle.replay.proofs.ImagesRead.{unread_at}
-use Rattle.replay.specs.Report.{IsPrompt}
-use Rattle.replay.specs.Wanted.{Wanted}
 use Rattle.replay.proofs.top.answer.Goals as goal
 
 pub returns-in-Err-Missing-clause-run : goal.returns-in-Err-Missing-clause-run

@@ -1,12 +1,7 @@
-use Rattle.replay.proofs.Common.{Option, subst, sym, arith, Asked, wanted_by, IsUnread}
+use Rattle.replay.proofs.{Common.{Option, subst, sym, arith, Asked, wanted_by, IsUnread}, GoingOn.{goes_on, refused_on}, Programs.{wants_runnable}}
+use Rattle.replay.proofs.{Taken.{taken_again}, Calls.{wanted_is, written_told, long_told, stopped_told, refusal_told, written_no_script, written_no_file}}
+use Rattle.replay.{proofs.Calls.{completes, completes_unread, completes_load}, specs.{Report.{IsPrompt}, Wanted.{Wanted}}}
 use Rattle.command_words.specs.Asked.{asked_by}
-use Rattle.replay.proofs.GoingOn.{goes_on, refused_on}
-use Rattle.replay.proofs.Programs.{wants_runnable}
-use Rattle.replay.proofs.Taken.{taken_again}
-use Rattle.replay.proofs.Calls.{wanted_is, written_told, long_told, stopped_told, refusal_told, written_no_script, written_no_file, completes, completes_unread}
-use Rattle.replay.proofs.Calls.{completes_load}
-use Rattle.replay.specs.Report.{IsPrompt}
-use Rattle.replay.specs.Wanted.{Wanted}
 use Rattle.replay.proofs.top.replay.Goals as goal
 
 pub returns-in-Ok-clause-exact : goal.returns-in-Ok-clause-exact

@@ -1,5 +1,4 @@
-use Rattle.replay.proofs.Common.{inl, refl, Run}
-use Rattle.replay.proofs.Calls.{written_told, long_told, stopped_told, refusal_told, read_of_file, completes_file, ends_of_file}
+use Rattle.replay.proofs.{Common.{inl, refl, Run}, Calls.{written_told, long_told, stopped_told, refusal_told, read_of_file, completes_file, ends_of_file}}
 use Rattle.replay.proofs.top.run_rules.Goals as goal
 
 pub returns-clause-exact : goal.returns-clause-exact

@@ -1,5 +1,4 @@
-use Rattle.rete_net.proofs.Common.{subst, and_parts, AreWithin}
-use Rattle.rete_net.proofs.Ranged.{within_both}
+use Rattle.rete_net.proofs.{Common.{subst, and_parts, AreWithin}, Ranged.{within_both}}
 use Rattle.rete_net.proofs.bounds.both.Goals as goal
 
 pub returns-then-first-second : goal.returns-then-first-second

@@ -1,5 +1,4 @@
-use Rattle.rete_net.proofs.Common.{◌&&◌, take, unbound, compare_holds, compares_hold}
-use Rattle.rete_net.proofs.Ranged.{within_compares}
+use Rattle.rete_net.proofs.{Common.{◌&&◌, take, unbound, compare_holds, compares_hold}, Ranged.{within_compares}}
 use Rattle.rete_net.proofs.bounds.narrowed_by_compares.Goals as goal
 
 pub loop-compare-preserved : goal.loop-compare-preserved

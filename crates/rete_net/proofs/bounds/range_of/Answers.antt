@@ -1,5 +1,4 @@
-use Rattle.rete_net.proofs.Common.{take, tests_hold, unbound}
-use Rattle.rete_net.proofs.Ranged.{within_tests}
+use Rattle.rete_net.proofs.{Common.{take, tests_hold, unbound}, Ranged.{within_tests}}
 use Rattle.rete_net.proofs.bounds.range_of.Goals as goal
 
 pub loop-test-preserved : goal.loop-test-preserved

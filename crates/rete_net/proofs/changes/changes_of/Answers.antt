@@ -1,6 +1,5 @@
 use Rattle.rete_net.proofs.Common.{◌≡◌, ◌∙◌, sym, ap, refl, ◌++◌, ◌<◌, length, arith, append-nil, get_or, List, slice_get-get_or, RuleChange, has_place}
-use Rattle.rete_net.proofs.Common.{change_at}
-use Rattle.rete_net.proofs.Telling.{told_more, pass_to, past_end, one_within}
+use Rattle.rete_net.proofs.{Common.{change_at}, Telling.{told_more, pass_to, past_end, one_within}}
 use Rattle.rete_net.proofs.changes.changes_of.Goals as goal
 
 pub rules-preserved : goal.rules-preserved

@@ -1,6 +1,5 @@
 use Rattle.rete_net.proofs.Common.{◌≡◌, ◌++◌, ◌<◌, ◌≤◌, ◌^◌, ◌-◌, ℕ, List, Some, length, slice_get, In, Delta, RuleChange, answer_in, AreRuled, delta_at}
-use Rattle.rete_net.proofs.Common.{no_change}
-use Rattle.rete_net.proofs.Telling.{From}
+use Rattle.rete_net.proofs.{Common.{no_change}, Telling.{From}}
 use Rattle.rete_net.proofs.changes.changes_of.Given as goal
 
 abbrev pub invariant-rules : goal.invariant-rules

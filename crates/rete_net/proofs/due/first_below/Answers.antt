@@ -1,5 +1,4 @@
-use Rattle.rete_net.proofs.Common.{◌≤◌, arith}
-use Rattle.rete_net.proofs.Places.{before_first, none_from}
+use Rattle.rete_net.proofs.{Common.{◌≤◌, arith}, Places.{before_first, none_from}}
 use Rattle.rete_net.proofs.due.first_below.Goals as goal
 
 pub returns-then-place-end-clause-first : goal.returns-then-place-end-clause-first

@@ -1,5 +1,4 @@
-use Rattle.rete_net.proofs.Common.{has_place}
-use Rattle.rete_net.proofs.Places.{put_more}
+use Rattle.rete_net.proofs.{Common.{has_place}, Places.{put_more}}
 use Rattle.rete_net.proofs.due.put_all.Goals as goal
 
 pub loop-place-preserved : goal.loop-place-preserved

@@ -1,6 +1,5 @@
-use Rattle.rete_net.proofs.Common.{FitsSigned, w64, ◌≡◌, ℕ, ℤ, Some, true, take, slice_get, pattern_of, is_meant, condition_of, is_in, is_listed, has_place, NetNode}
-use Rattle.rete_net.proofs.Common.{Value, Int, is_found, FieldRanges}
-use Rattle.rete_net.specs.Selectors.{list_slot_of}
+use Rattle.rete_net.proofs.Common.{FitsSigned, w64, ◌≡◌, ℕ, ℤ, Some, true, take, slice_get, pattern_of, is_meant, condition_of, is_in, is_listed, has_place}
+use Rattle.rete_net.{proofs.Common.{NetNode, Value, Int, is_found, FieldRanges}, specs.Selectors.{list_slot_of}}
 use Rattle.rete_net.proofs.due.put_fact.Given as goal
 
 abbrev pub invariant-loop-at : goal.invariant-loop-at

@@ -1,5 +1,4 @@
-use Rattle.rete_net.proofs.Common.{has_place}
-use Rattle.rete_net.proofs.Places.{put_stays}
+use Rattle.rete_net.proofs.{Common.{has_place}, Places.{put_stays}}
 use Rattle.rete_net.proofs.due.put_if_meant.Goals as goal
 
 pub returns-clause-kept : goal.returns-clause-kept

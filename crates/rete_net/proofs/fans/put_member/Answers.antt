@@ -1,7 +1,6 @@
-use Rattle.rete_net.proofs.Common.{◌≡◌, ◌∙◌, sym, ap, length, None, Some, slice_get, slice_get-get_or, has_place}
+use Rattle.rete_net.proofs.{Common.{◌≡◌, ◌∙◌, sym, ap, length, None, Some, slice_get, slice_get-get_or, has_place}, Fanned.{none_past}, Places.{put_stays}}
+use Rattle.rete_net.proofs.Places.{put_there}
 use Rattle.std.proofs.lemmas.Bool.{ltb-false, ltb-true}
-use Rattle.rete_net.proofs.Fanned.{none_past}
-use Rattle.rete_net.proofs.Places.{put_stays, put_there}
 use Rattle.fx_base.proofs.Sequences.{one_value}
 use Rattle.rete_net.proofs.fans.put_member.Goals as goal
 

@@ -1,5 +1,4 @@
-use Rattle.rete_net.proofs.Common.{◌≡◌, ◌∙◌, sym, ap, true, false, ℕ, List, is_in}
-use Rattle.rete_net.proofs.Fanned.{told_none}
+use Rattle.rete_net.proofs.{Common.{◌≡◌, ◌∙◌, sym, ap, true, false, ℕ, List, is_in}, Fanned.{told_none}}
 use Rattle.rete_net.proofs.fans.put_members.Goals as goal
 
 pub returns-clause-woken : goal.returns-clause-woken

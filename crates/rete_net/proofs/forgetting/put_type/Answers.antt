@@ -1,5 +1,4 @@
-use Rattle.rete_net.proofs.Common.{◌∙◌, sym, ap, slice_get, items_of, has_place}
-use Rattle.rete_net.proofs.Places.{due_more, put_stays}
+use Rattle.rete_net.proofs.{Common.{◌∙◌, sym, ap, slice_get, items_of, has_place}, Places.{due_more, put_stays}}
 use Rattle.rete_net.proofs.forgetting.put_type.Goals as goal
 
 pub returns-clause-put : goal.returns-clause-put

@@ -1,6 +1,5 @@
 use Rattle.rete_net.proofs.Common.{◌∙◌, sym, ap, refl, subst, ◌+◌, ◌<◌, length, arith, get_or, List, slice_get_within, slice_get-get_or, RuleRows, rows_for}
-use Rattle.rete_net.proofs.Common.{AreListed, has_place}
-use Rattle.rete_net.proofs.Listing.{listed_far, listed_more, rows_more, rows_passed}
+use Rattle.rete_net.proofs.{Common.{AreListed, has_place}, Listing.{listed_far, listed_more, rows_more, rows_passed}}
 use Rattle.rete_net.proofs.forgetting.rows_of_rules.Goals as goal
 
 pub rules-preserved : goal.rules-preserved

@@ -1,5 +1,4 @@
-use Rattle.rete_net.proofs.Common.{◌-◌, ◌≤◌, length, IsStrictlySortedBy, extra_cmp}
-use Rattle.rete_net.proofs.Searched.{Before, Behind}
+use Rattle.rete_net.proofs.{Common.{◌-◌, ◌≤◌, length, IsStrictlySortedBy, extra_cmp}, Searched.{Before, Behind}}
 use Rattle.rete_net.proofs.pieces.count_before.Given as goal
 
 abbrev pub invariant-search : goal.invariant-search

@@ -1,6 +1,5 @@
 use Rattle.rete_net.proofs.Common.{◌≡◌, ◌∙◌, ap, subst, ℕ, ◌-◌, List, length, take, drop, nat_lt, true, Some, slice_get, take_rest, IsStrictlySortedBy, Extra}
-use Rattle.rete_net.proofs.Common.{extra_cmp, comes_before}
-use Rattle.rete_net.proofs.Searched.{sorted_behind, under_found}
+use Rattle.rete_net.proofs.{Common.{extra_cmp, comes_before}, Searched.{sorted_behind, under_found}}
 use Rattle.rete_net.proofs.pieces.extras_under.Goals as goal
 
 pub returns : goal.returns

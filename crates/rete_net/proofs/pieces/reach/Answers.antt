@@ -1,5 +1,4 @@
-use Rattle.rete_net.proofs.Common.{◌∙◌, ap, grouped_facts_at}
-use Rattle.rete_net.proofs.Grouped.{one_empty}
+use Rattle.rete_net.proofs.{Common.{◌∙◌, ap, grouped_facts_at}, Grouped.{one_empty}}
 use Rattle.rete_net.proofs.pieces.reach.Goals as goal
 
 pub reach-preserved : goal.reach-preserved

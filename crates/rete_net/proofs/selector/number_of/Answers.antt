@@ -1,5 +1,4 @@
-use Rattle.rete_net.proofs.Common.{rules}
-use Rattle.rete_net.specs.Selectors.{value_hash}
+use Rattle.rete_net.{proofs.Common.{rules}, specs.Selectors.{value_hash}}
 use Rattle.rete_net.proofs.selector.number_of.Goals as goal
 
 pub returns : goal.returns

@@ -1,7 +1,6 @@
-use Rattle.rete_net.proofs.Common.{ap, refl, None}
+use Rattle.rete_net.proofs.{Common.{ap, refl, None}, Kinship.{node_follows}}
 use Rattle.std.proofs.lemmas.Option.{slice_get_within}
 use Rattle.candidate_source.proofs.Moving.{ok_three}
-use Rattle.rete_net.proofs.Kinship.{node_follows}
 use Rattle.rete_net.proofs.sourcing.put_follower.Goals as goal
 
 pub returns-then-branch : goal.returns-then-branch

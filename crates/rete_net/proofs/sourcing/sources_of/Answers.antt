@@ -1,6 +1,5 @@
 use Rattle.rete_net.proofs.Common.{◌∙◌, ◌≡◌, sym, ap, subst, ℕ, length, Option, Some, slice_get, arith, slice_get-get_or, seat_at, Pattern, Seat}
-use Rattle.rete_net.specs.Sourcing.{AreSourcesBelow, IsNodePut}
-use Rattle.rete_net.proofs.Kinship.{more_below, none_below}
+use Rattle.rete_net.{specs.Sourcing.{AreSourcesBelow, IsNodePut}, proofs.Kinship.{more_below, none_below}}
 use Rattle.rete_net.proofs.sourcing.sources_of.Goals as goal
 
 pub loop-place-init : goal.loop-place-init

@@ -1,5 +1,4 @@
-use Rattle.row_change.proofs.Common.{◌≡◌, ◌∙◌, sym, subst, List, ◌&&◌, ◌||◌, not, true, false, has, Row}
-use Rattle.row_change.proofs.Parts.{to_skipped, both_noted, to_put, both_passed}
+use Rattle.row_change.proofs.{Common.{◌≡◌, ◌∙◌, sym, subst, List, ◌&&◌, ◌||◌, not, true, false, has, Row}, Parts.{to_skipped, both_noted, to_put, both_passed}}
 use Rattle.row_change.proofs.change.parted.Goals as goal
 
 pub loop-row-preserved-in-Continue-1 : goal.loop-row-preserved-in-Continue-1

@@ -1,5 +1,4 @@
-use Rattle.row_change.proofs.Common.{◌∙◌, sym}
-use Rattle.row_change.proofs.Placing.{above_last, less_of}
+use Rattle.row_change.proofs.{Common.{◌∙◌, sym}, Placing.{above_last, less_of}}
 use Rattle.row_change.proofs.row_set.is_above.Goals as goal
 
 pub returns-in-Some : goal.returns-in-Some

@@ -1,5 +1,4 @@
-use Rattle.row_change.proofs.Common.{is_lt, rules, row_cmp, answers_always}
-use Rattle.row_change.proofs.Placing.{rising_order}
+use Rattle.row_change.proofs.{Common.{is_lt, rules, row_cmp, answers_always}, Placing.{rising_order}}
 use Rattle.row_change.proofs.row_set.is_rising.Goals as goal
 
 pub returns : goal.returns

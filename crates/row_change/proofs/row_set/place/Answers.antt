@@ -1,5 +1,4 @@
-use Rattle.row_change.proofs.Common.{sym, length}
-use Rattle.row_change.proofs.Placing.{searched, gap_absent}
+use Rattle.row_change.proofs.{Common.{sym, length}, Placing.{searched, gap_absent}}
 use Rattle.row_change.proofs.row_set.place.Goals as goal
 
 pub returns-then-is_above-clause-found : goal.returns-then-is_above-clause-found

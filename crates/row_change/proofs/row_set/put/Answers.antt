@@ -1,5 +1,4 @@
-use Rattle.row_change.proofs.Common.{sym}
-use Rattle.row_change.proofs.Placing.{present, gap_order, gap_has}
+use Rattle.row_change.proofs.{Common.{sym}, Placing.{present, gap_order, gap_has}}
 use Rattle.row_change.proofs.row_set.put.Goals as goal
 
 pub returns-in-Ok-clause-rows : goal.returns-in-Ok-clause-rows

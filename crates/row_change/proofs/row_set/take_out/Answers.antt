@@ -1,5 +1,4 @@
-use Rattle.row_change.proofs.Common.{sym}
-use Rattle.row_change.proofs.Placing.{missing, cut_order, cut_has}
+use Rattle.row_change.proofs.{Common.{sym}, Placing.{missing, cut_order, cut_has}}
 use Rattle.row_change.proofs.row_set.take_out.Goals as goal
 
 pub returns-in-Ok-clause-in_order : goal.returns-in-Ok-clause-in_order

@@ -1,6 +1,5 @@
-use Rattle.rule_eval.proofs.Common.{◌≡◌, ◌++◌, ◌∙◌, ap, filter, flat_map, passes, lent, pattern_of, made_by, over}
+use Rattle.rule_eval.proofs.{Common.{◌≡◌, ◌++◌, ◌∙◌, ap, filter, flat_map, passes, lent, pattern_of, made_by, over}, Stepwise.{all_made}}
 use Rattle.rule_model.specs.Candidates.{candidates as candidates_of}
-use Rattle.rule_eval.proofs.Stepwise.{all_made}
 use Rattle.rule_eval.proofs.finding.extended_all.Goals as goal
 
 pub returns : goal.returns

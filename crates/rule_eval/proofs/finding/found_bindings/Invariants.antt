@@ -1,5 +1,4 @@
-use Rattle.rule_eval.proofs.Common.{drop, lent, over}
-use Rattle.rule_eval.proofs.Stepwise.{Leads}
+use Rattle.rule_eval.proofs.{Common.{drop, lent, over}, Stepwise.{Leads}}
 use Rattle.rule_eval.proofs.finding.found_bindings.Given as goal
 
 abbrev pub invariant-loop-condition : goal.invariant-loop-condition

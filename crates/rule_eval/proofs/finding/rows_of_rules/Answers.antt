@@ -1,5 +1,4 @@
-use Rattle.rule_eval.proofs.Common.{sym, subst, HaveOperators, UseOperators}
-use Rattle.rule_eval.proofs.Operators.{operators_at}
+use Rattle.rule_eval.proofs.{Common.{sym, subst, HaveOperators, UseOperators}, Operators.{operators_at}}
 use Rattle.rule_eval.proofs.finding.rows_of_rules.Goals as goal
 
 pub rows_of-requires : goal.rows_of-requires

@@ -1,8 +1,6 @@
-use Rattle.std.proofs.Common.{◌++◌, ◌≡◌, ◌∙◌, ◌∷◌, List, [], ap, append_assoc, ℕ}
-use Rattle.std.specs.Prelude.{string_bytes}
+use Rattle.std.{proofs.Common.{◌++◌, ◌≡◌, ◌∙◌, ◌∷◌, List, [], ap, append_assoc, ℕ}, specs.Prelude.{string_bytes}}
 use Rattle.answer_json.specs.Objects.{json_line}
-use Rattle.serde_json.specs.View.{view}
-use Rattle.serde_json.specs.Written.{compact_text}
+use Rattle.serde_json.specs.{View.{view}, Written.{compact_text}}
 use Rattle.rule_lines.proofs.lines.push_value.Goals as goal
 
 pub returns : goal.returns

@@ -1,5 +1,4 @@
-use Rattle.rule_model.proofs.Grown.{row_grown}
-use Rattle.rule_model.proofs.Once.{tags_settle}
+use Rattle.rule_model.proofs.{Grown.{row_grown}, Once.{tags_settle}}
 use Rattle.rule_model.proofs.laws.tags_settle_the_rows.Goals as goal
 
 pub returns : goal.returns

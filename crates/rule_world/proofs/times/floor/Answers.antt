@@ -1,5 +1,4 @@
-use Rattle.rule_world.proofs.Common.{arith, ints, clamps}
-use Rattle.rule_world.specs.Events.{most_millis}
+use Rattle.rule_world.{proofs.Common.{arith, ints, clamps}, specs.Events.{most_millis}}
 use Rattle.rule_world.proofs.times.floor.Goals as goal
 
 pub returns-clause-floor : goal.returns-clause-floor

@@ -1,6 +1,5 @@
 use Rattle.script_read.proofs.Common.{rules, ◌≡◌, Some, codes, sym, ap, ◌∙◌, arith, w64, to_z, of_z, no_members, member, number, members_view, word_command}
-use Rattle.script_read.proofs.Common.{Change, Advance}
-use Rattle.script_read.proofs.Forms.{one_member, advance_is}
+use Rattle.script_read.proofs.{Common.{Change, Advance}, Forms.{one_member, advance_is}}
 use Rattle.script_read.proofs.flat.advance.Goals as goal
 
 pub returns : goal.returns

@@ -1,5 +1,4 @@
-use Rattle.script_read.proofs.Common.{◌≡◌, Ok, asks, asked}
-use Rattle.script_read.proofs.AskedLaws.{answer_ok}
+use Rattle.script_read.proofs.{Common.{◌≡◌, Ok, asks, asked}, AskedLaws.{answer_ok}}
 use Rattle.script_read.proofs.flat.command_with.Goals as goal
 
 pub returns-in-Some-clause-ok : goal.returns-in-Some-clause-ok

@@ -1,5 +1,5 @@
-use Rattle.script_read.proofs.Common.{◌≡◌, Some, codes, sym, ap, ap₂, ◌∙◌, members_view, word_command, tree_givens, Change, Insert}
-use Rattle.script_read.proofs.Forms.{three_same, entry_is, entry_also}
+use Rattle.script_read.proofs.{Common.{◌≡◌, Some, codes, sym, ap, ap₂, ◌∙◌, members_view, word_command, tree_givens, Change, Insert}, Forms.{three_same}}
+use Rattle.script_read.proofs.Forms.{entry_is, entry_also}
 use Rattle.script_read.proofs.flat.entry_insert_of.Goals as goal
 
 pub returns-in_ok-name-in-Some-2-clause-written : goal.returns-in_ok-name-in-Some-2-clause-written

@@ -1,6 +1,5 @@
 use Rattle.script_read.proofs.Common.{rules, ◌≡◌, Some, codes, sym, ap, ap₂, ◌∙◌, arith, w64, to_z, of_z, no_members, member, number, string, members_view}
-use Rattle.script_read.proofs.Common.{word_command, Change, Promise}
-use Rattle.script_read.proofs.Forms.{two_members, promise_for_is}
+use Rattle.script_read.proofs.{Common.{word_command, Change, Promise}, Forms.{two_members, promise_for_is}}
 use Rattle.script_read.proofs.flat.entry_promise.Goals as goal
 
 pub returns-in_ok-name-in-Some-Some : goal.returns-in_ok-name-in-Some-Some

@@ -1,5 +1,4 @@
-use Rattle.script_read.proofs.Common.{◌≡◌, length, arith}
-use Rattle.script_read.proofs.Forms.{fire_is}
+use Rattle.script_read.proofs.{Common.{◌≡◌, length, arith}, Forms.{fire_is}}
 use Rattle.script_read.proofs.flat.fire.Goals as goal
 
 pub returns-then-is_empty : goal.returns-then-is_empty

@@ -1,5 +1,4 @@
-use Rattle.script_read.proofs.Common.{arith, length-drop}
-use Rattle.script_read.proofs.Forms.{same_command, same_found, first_is}
+use Rattle.script_read.proofs.{Common.{arith, length-drop}, Forms.{same_command, same_found, first_is}}
 use Rattle.script_read.proofs.flat.form_in.Goals as goal
 
 pub returns-in-insert : goal.returns-in-insert

@@ -1,5 +1,5 @@
-use Rattle.script_read.proofs.Common.{◌≡◌, Some, None, codes, sym, ap, ◌∙◌, members_view, word_command, tree_givens, Change, Insert}
-use Rattle.script_read.proofs.Forms.{two_same, insert_is, insert_also}
+use Rattle.script_read.proofs.{Common.{◌≡◌, Some, None, codes, sym, ap, ◌∙◌, members_view, word_command, tree_givens, Change, Insert}, Forms.{two_same}}
+use Rattle.script_read.proofs.Forms.{insert_is, insert_also}
 use Rattle.script_read.proofs.flat.insert_of.Goals as goal
 
 pub returns-in_ok-name-in-Some-clause-written : goal.returns-in_ok-name-in-Some-clause-written

@@ -1,5 +1,5 @@
-use Rattle.script_read.proofs.Common.{◌≡◌, Some, codes, sym, ap, ◌∙◌, members_view, word_command, tree_givens, Change, Modify}
-use Rattle.script_read.proofs.Forms.{three_same, modify_is, modify_also}
+use Rattle.script_read.proofs.{Common.{◌≡◌, Some, codes, sym, ap, ◌∙◌, members_view, word_command, tree_givens, Change, Modify}, Forms.{three_same, modify_is}}
+use Rattle.script_read.proofs.Forms.{modify_also}
 use Rattle.script_read.proofs.flat.modify_of.Goals as goal
 
 pub returns-in_ok-name-in-Some-clause-written : goal.returns-in_ok-name-in-Some-clause-written

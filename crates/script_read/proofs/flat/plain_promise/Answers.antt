@@ -1,6 +1,5 @@
 use Rattle.script_read.proofs.Common.{rules, ◌≡◌, Some, None, codes, sym, ap, ◌∙◌, arith, w64, to_z, of_z, no_members, member, number, members_view}
-use Rattle.script_read.proofs.Common.{word_command, Change, Promise}
-use Rattle.script_read.proofs.Forms.{one_member, promise_is}
+use Rattle.script_read.proofs.{Common.{word_command, Change, Promise}, Forms.{one_member, promise_is}}
 use Rattle.script_read.proofs.flat.plain_promise.Goals as goal
 
 pub returns : goal.returns

@@ -1,5 +1,4 @@
-use Rattle.script_read.proofs.Common.{Some, codes, sym, ap, ◌∙◌, word_command, Change, Retract}
-use Rattle.script_read.proofs.Forms.{two_same, retract_is, retract_also}
+use Rattle.script_read.proofs.{Common.{Some, codes, sym, ap, ◌∙◌, word_command, Change, Retract}, Forms.{two_same, retract_is, retract_also}}
 use Rattle.script_read.proofs.flat.retract_of.Goals as goal
 
 pub returns-in_ok-name-in-Some-Some-clause-written : goal.returns-in_ok-name-in-Some-Some-clause-written

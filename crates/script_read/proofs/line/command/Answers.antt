@@ -1,6 +1,4 @@
-use Rattle.script_read.proofs.Common.{rules, ◌≡◌, bad_json, AnswersLine}
-use Rattle.script_read.specs.Asked.{asked}
-use Rattle.script_read.proofs.AskedLaws.{answer_ok, answer_bad_command, asked_unread}
+use Rattle.script_read.{proofs.{Common.{rules, ◌≡◌, bad_json, AnswersLine}, AskedLaws.{answer_ok, answer_bad_command, asked_unread}}, specs.Asked.{asked}}
 use Rattle.script_read.proofs.line.command.Goals as goal
 
 pub returns-in_ok-form-in-Some-clause-ok : goal.returns-in_ok-form-in-Some-clause-ok

@@ -1,5 +1,4 @@
-use Rattle.script_read.proofs.Common.{IsRising}
-use Rattle.script_read.proofs.Fields.{AreSoFar}
+use Rattle.script_read.proofs.{Common.{IsRising}, Fields.{AreSoFar}}
 use Rattle.script_read.proofs.tree.fields_in.Given as goal
 
 abbrev pub invariant-loop-name : goal.invariant-loop-name

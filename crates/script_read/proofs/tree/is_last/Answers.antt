@@ -1,5 +1,4 @@
-use Rattle.script_read.proofs.Common.{◌∙◌, sym, ap, nat_cmp, slice_cmp}
-use Rattle.script_read.proofs.Rising.{all_before, less_of}
+use Rattle.script_read.proofs.{Common.{◌∙◌, sym, ap, nat_cmp, slice_cmp}, Rising.{all_before, less_of}}
 use Rattle.script_read.proofs.tree.is_last.Goals as goal
 
 pub returns-in-Some : goal.returns-in-Some

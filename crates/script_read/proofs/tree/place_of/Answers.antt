@@ -1,6 +1,5 @@
-use Rattle.script_read.proofs.Common.{arith, rules, length, nat_cmp, of_calls, slice_cmp}
+use Rattle.script_read.proofs.{Common.{arith, rules, length, nat_cmp, of_calls, slice_cmp}, Rising.{Field, parted, put_at}}
 use Rattle.std.proofs.lemmas.Fn.{always_returns_same}
-use Rattle.script_read.proofs.Rising.{Field, parted, put_at}
 use Rattle.script_read.proofs.tree.place_of.Goals as goal
 
 pub returns-then-is_last-clause-place : goal.returns-then-is_last-clause-place

@@ -1,5 +1,5 @@
-use Rattle.script_run.proofs.Common.{◌≡◌, ◌-◌, ◌++◌, ◌||◌, suc, ◌∙◌, sym, ap, arith, firings, setting_with, written_lines, has_fault}
-use Rattle.script_run.proofs.Fired.{no_answer, yes_answer, next_remains, done_remains, enough_remains, end_remains, or_first, or_second}
+use Rattle.script_run.proofs.{Common.{◌≡◌, ◌-◌, ◌++◌, ◌||◌, suc, ◌∙◌, sym, ap, arith, firings, setting_with, written_lines, has_fault}, Fired.{no_answer}}
+use Rattle.script_run.proofs.Fired.{yes_answer, next_remains, done_remains, enough_remains, end_remains, or_first, or_second}
 use Rattle.script_run.proofs.firing.fire_all.Goals as goal
 use Rattle.script_run.proofs.firing.fire_all.Goals.{then-faulty, else-faulty}
 

@@ -1,5 +1,4 @@
-use Rattle.script_run.proofs.Common.{◌≡◌, ◌+◌, ◌*◌, ◌≤◌, World, firings, setting_with}
-use Rattle.script_run.proofs.Fired.{Remains}
+use Rattle.script_run.proofs.{Common.{◌≡◌, ◌+◌, ◌*◌, ◌≤◌, World, firings, setting_with}, Fired.{Remains}}
 use Rattle.script_run.proofs.firing.fire_all.Given as goal
 
 -- what is still to be fired, in a world for which the engine stands

@@ -1,6 +1,4 @@
-use Rattle.script_run.specs.Live.{live_step}
-use Rattle.script_run.proofs.Joined.{parts_joined, scripts_joined}
-use Rattle.script_run.proofs.LiveJoined.{live_within}
+use Rattle.script_run.{specs.Live.{live_step}, proofs.{Joined.{parts_joined, scripts_joined}, LiveJoined.{live_within}}}
 use Rattle.script_run.proofs.laws.a_live_run_goes_on_behind_its_first_lines.Goals as goal
 
 pub returns : goal.returns

@@ -1,6 +1,5 @@
-use Rattle.session.proofs.Common.{◌∙◌, ◌∷◌, ◌++◌, [], List, TypeId, ap, sym, arith}
+use Rattle.session.{proofs.Common.{◌∙◌, ◌∷◌, ◌++◌, [], List, TypeId, ap, sym, arith}, specs.Inspected.{type_at}}
 use Rattle.std.proofs.lemmas.List.FromFn.{map-range_with_len_more}
-use Rattle.session.specs.Inspected.{type_at}
 use Rattle.session.proofs.inspecting.all_types.Goals as goal
 
 pub loop-place-preserved : goal.loop-place-preserved

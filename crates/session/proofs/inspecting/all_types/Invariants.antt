@@ -1,5 +1,4 @@
-use Rattle.session.proofs.Common.{◌≡◌}
-use Rattle.session.specs.Inspected.{all_types}
+use Rattle.session.{proofs.Common.{◌≡◌}, specs.Inspected.{all_types}}
 use Rattle.session.proofs.inspecting.all_types.Given as goal
 
 abbrev pub invariant-loop-place : goal.invariant-loop-place

@@ -1,5 +1,5 @@
-use Rattle.session.proofs.Common.{◌≡◌, ◌∙◌, ◌≤◌, ◌==◌, ◌&&◌, ◌||◌, List, length, take, sym, ap, subst, arith, take_all, Row, has, Match, has_match}
-use Rattle.session.proofs.Common.{RuleChange, comes_by, next_taken, one_come}
+use Rattle.session.proofs.Common.{◌≡◌, ◌∙◌, ◌≤◌, ◌==◌, ◌&&◌, ◌||◌, List, length, take, sym, ap, subst, arith, take_all, Row, has, Match, has_match, RuleChange}
+use Rattle.session.proofs.Common.{comes_by, next_taken, one_come}
 use Rattle.session.proofs.restoring.matches_of.Goals as goal
 
 pub loop-change-preserved : goal.loop-change-preserved

@@ -1,7 +1,6 @@
 use Rattle.session.proofs.Common.{◌≡◌, ◌∙◌, ℤ, List, [], length, Err, sym, ap, subst, to_z, of_z, w64, rules, has_listed_tag, is_tag_among, is_named}
-use Rattle.session.proofs.Common.{PassesLives, stored, AreStorable, clock_same, no_keys, image_safe, old_refuses, residual_unfit, restored_is}
-use Rattle.session.proofs.Common.{some_key, storable}
-use Rattle.session.proofs.OfImage.{are_of_image}
+use Rattle.session.proofs.Common.{PassesLives, stored, AreStorable, clock_same, no_keys, image_safe, old_refuses, residual_unfit, restored_is, some_key}
+use Rattle.session.proofs.{Common.{storable}, OfImage.{are_of_image}}
 use Rattle.session.proofs.saving.restored.Goals as goal
 
 pub of-requires-clause-storable : goal.of-requires-clause-storable

@@ -1,5 +1,4 @@
-use Rattle.subrules.proofs.Common.{arith, rules}
-use Rattle.subrules.proofs.KnownLaws.{counted_alone, counted_behind}
+use Rattle.subrules.proofs.{Common.{arith, rules}, KnownLaws.{counted_alone, counted_behind}}
 use Rattle.subrules.proofs.counts.count_of.Goals as goal
 
 pub returns-then-is_none : goal.returns-then-is_none

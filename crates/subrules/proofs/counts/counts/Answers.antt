@@ -1,5 +1,4 @@
-use Rattle.subrules.specs.Known.{IsCount}
-use Rattle.subrules.proofs.KnownLaws.{none_known}
+use Rattle.subrules.{specs.Known.{IsCount}, proofs.KnownLaws.{none_known}}
 use Rattle.subrules.proofs.counts.counts.Goals as goal
 
 pub loop-place-init : goal.loop-place-init

@@ -1,6 +1,4 @@
-use Rattle.subrules.proofs.Common.{subst, sym}
-use Rattle.subrules.specs.Known.{IsHeir}
-use Rattle.subrules.proofs.HeirLaws.{heir_behind}
+use Rattle.subrules.{proofs.{Common.{subst, sym}, HeirLaws.{heir_behind}}, specs.Known.{IsHeir}}
 use Rattle.subrules.proofs.heirs.heir.Goals as goal
 
 pub returns-in_ok-made-in-Some : goal.returns-in_ok-made-in-Some

@@ -1,5 +1,4 @@
-use Rattle.subrules.specs.Known.{IsHeir}
-use Rattle.subrules.proofs.KnownLaws.{none_known}
+use Rattle.subrules.{specs.Known.{IsHeir}, proofs.KnownLaws.{none_known}}
 use Rattle.subrules.proofs.heirs.heirs.Goals as goal
 
 pub loop-place-init : goal.loop-place-init

@@ -1,5 +1,4 @@
-use Rattle.subrules.proofs.Common.{◌∙◌, sym, ap, map, option_and_then, slice_get}
-use Rattle.subrules.proofs.KnownLaws.{up_is}
+use Rattle.subrules.proofs.{Common.{◌∙◌, sym, ap, map, option_and_then, slice_get}, KnownLaws.{up_is}}
 use Rattle.subrules.proofs.hierarchy.standing.Goals as goal
 
 pub returns-in-Some-clause-up : goal.returns-in-Some-clause-up

@@ -1,5 +1,4 @@
-use Rattle.subrules.specs.Known.{IsLeading}
-use Rattle.subrules.proofs.KnownLaws.{none_known}
+use Rattle.subrules.{specs.Known.{IsLeading}, proofs.KnownLaws.{none_known}}
 use Rattle.subrules.proofs.kinds.leading.Goals as goal
 
 pub loop-place-init : goal.loop-place-init

@@ -1,5 +1,4 @@
-use Rattle.subrules.proofs.HierarchyLaws.{round_decided, listed, below_decided}
-use Rattle.subrules.proofs.KindLaws.{kinds_are}
+use Rattle.subrules.proofs.{HierarchyLaws.{round_decided, listed, below_decided}, KindLaws.{kinds_are}}
 use Rattle.subrules.proofs.laws.types_above_are_found.Goals as goal
 
 pub returns : goal.returns

@@ -1,5 +1,4 @@
-use Rattle.tally_node.proofs.Common.{◌∙◌, sym, subst, ◌-◌, ℕ, ℤ, List, IsBeyond, nothing_gathered}
-use Rattle.tally_node.proofs.Extras.{number_beyond}
+use Rattle.tally_node.proofs.{Common.{◌∙◌, sym, subst, ◌-◌, ℕ, ℤ, List, IsBeyond, nothing_gathered}, Extras.{number_beyond}}
 use Rattle.tally_node.proofs.count.beyond.Goals as goal
 
 pub returns : goal.returns

@@ -1,5 +1,4 @@
-use Rattle.tally_node.proofs.Common.{sym, subst, less_one, IsNumber}
-use Rattle.tally_node.proofs.Counting.{number_less}
+use Rattle.tally_node.proofs.{Common.{sym, subst, less_one, IsNumber}, Counting.{number_less}}
 use Rattle.tally_node.proofs.count.one_less.Goals as goal
 
 pub returns : goal.returns

@@ -1,5 +1,4 @@
-use Rattle.tally_node.proofs.Common.{◌≡◌, subst, ◌+◌, arith, with_one, IsNumber}
-use Rattle.tally_node.proofs.Counting.{number_more}
+use Rattle.tally_node.proofs.{Common.{◌≡◌, subst, ◌+◌, arith, with_one, IsNumber}, Counting.{number_more}}
 use Rattle.tally_node.proofs.count.one_more.Goals as goal
 
 pub returns-in-Some : goal.returns-in-Some

@@ -1,5 +1,4 @@
-use Rattle.tally_node.proofs.Common.{◌≡◌, ◌++◌, drop}
-use Rattle.tally_node.proofs.Leaving.{leaves}
+use Rattle.tally_node.proofs.{Common.{◌≡◌, ◌++◌, drop}, Leaving.{leaves}}
 use Rattle.tally_node.proofs.gathered.values_beyond.Given as goal
 
 abbrev pub invariant-loop-value : goal.invariant-loop-value

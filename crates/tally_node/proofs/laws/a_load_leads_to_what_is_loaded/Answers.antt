@@ -1,5 +1,4 @@
-use Rattle.tally_node.proofs.Common.{counts_blockers, counts_witnesses, gathers, blockers_laden, witnesses_laden, gathered_laden}
-use Rattle.tally_node.proofs.Resuming.{load_law}
+use Rattle.tally_node.proofs.{Common.{counts_blockers, counts_witnesses, gathers, blockers_laden, witnesses_laden, gathered_laden}, Resuming.{load_law}}
 use Rattle.tally_node.proofs.laws.a_load_leads_to_what_is_loaded.Goals as goal
 
 pub returns-clause-blockers : goal.returns-clause-blockers

@@ -1,5 +1,4 @@
-use Rattle.tally_node.proofs.Common.{Blockers, Witnesses, Held, counts_blockers, counts_witnesses, gathers}
-use Rattle.tally_node.proofs.Lawful.{start_law}
+use Rattle.tally_node.proofs.{Common.{Blockers, Witnesses, Held, counts_blockers, counts_witnesses, gathers}, Lawful.{start_law}}
 use Rattle.tally_node.proofs.laws.a_new_node_counts_nothing.Goals as goal
 
 pub returns-clause-blockers : goal.returns-clause-blockers

@@ -1,5 +1,4 @@
-use Rattle.tally_node.proofs.Common.{Blockers, Witnesses, Held, counts_blockers, counts_witnesses, gathers}
-use Rattle.tally_node.proofs.Lawful.{tally_law}
+use Rattle.tally_node.proofs.{Common.{Blockers, Witnesses, Held, counts_blockers, counts_witnesses, gathers}, Lawful.{tally_law}}
 use Rattle.tally_node.proofs.laws.a_step_counts_all_candidates.Goals as goal
 
 pub returns-clause-blockers : goal.returns-clause-blockers

@@ -1,5 +1,4 @@
-use Rattle.tally_node.proofs.Common.{Blockers, Witnesses, Held, counts_blockers, counts_witnesses, gathers}
-use Rattle.tally_node.proofs.Lawful.{forget_law}
+use Rattle.tally_node.proofs.{Common.{Blockers, Witnesses, Held, counts_blockers, counts_witnesses, gathers}, Lawful.{forget_law}}
 use Rattle.tally_node.proofs.laws.forgetting_keeps_the_tallies.Goals as goal
 
 pub returns-clause-blockers : goal.returns-clause-blockers

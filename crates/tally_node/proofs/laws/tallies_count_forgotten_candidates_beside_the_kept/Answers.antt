@@ -1,5 +1,4 @@
-use Rattle.tally_node.proofs.Common.{counts_blockers, counts_witnesses, gathers, blockers_laden, witnesses_laden, gathered_laden}
-use Rattle.tally_node.proofs.Resuming.{others_law}
+use Rattle.tally_node.proofs.{Common.{counts_blockers, counts_witnesses, gathers, blockers_laden, witnesses_laden, gathered_laden}, Resuming.{others_law}}
 use Rattle.tally_node.proofs.laws.tallies_count_forgotten_candidates_beside_the_kept.Goals as goal
 
 pub returns-clause-blockers : goal.returns-clause-blockers

@@ -1,5 +1,4 @@
-use Rattle.tally_node.proofs.Common.{Blockers, Witnesses, Held, counts_blockers, counts_witnesses, gathers}
-use Rattle.tally_node.proofs.Lawful.{move_law}
+use Rattle.tally_node.proofs.{Common.{Blockers, Witnesses, Held, counts_blockers, counts_witnesses, gathers}, Lawful.{move_law}}
 use Rattle.tally_node.proofs.laws.tallies_look_at_kept_tags_alone.Goals as goal
 
 pub returns-clause-blockers : goal.returns-clause-blockers

@@ -1,6 +1,5 @@
 use Rattle.tally_node.proofs.Common.{counts_blockers, counts_witnesses, gathers, blockers_laden, witnesses_laden, gathered_laden, nothing_gathered}
-use Rattle.tally_node.proofs.Common.{arguments_gathered}
-use Rattle.tally_node.proofs.Resuming.{resume_law, blockers_made_up, witnesses_made_up, gathered_made_up}
+use Rattle.tally_node.proofs.{Common.{arguments_gathered}, Resuming.{resume_law, blockers_made_up, witnesses_made_up, gathered_made_up}}
 use Rattle.tally_node.proofs.laws.what_is_loaded_stands_for_what_is_forgotten.Goals as goal
 
 pub returns-clause-blockers : goal.returns-clause-blockers

@@ -1,6 +1,4 @@
-use Rattle.temporal_net.proofs.Common.{pos, ◌<ℤ◌, sym, ◌∙◌, subst, arith, ints, edge_at, IsNegativeCycle}
-use Rattle.temporal_net.proofs.Cycles.{self_cycle}
-use Rattle.temporal_net.proofs.Sums.{no_solution}
+use Rattle.temporal_net.proofs.{Common.{pos, ◌<ℤ◌, sym, ◌∙◌, subst, arith, ints, edge_at, IsNegativeCycle}, Cycles.{self_cycle}, Sums.{no_solution}}
 use Rattle.temporal_net.proofs.net.direct_rows.Goals as goal
 
 pub returns-then-edge-lt0-clause-fault : goal.returns-then-edge-lt0-clause-fault

@@ -1,5 +1,4 @@
-use Rattle.temporal_net.proofs.Common.{◌++◌, length, sym, ◌∙◌, ap, subst, IsNegativeCycle, cell}
-use Rattle.temporal_net.proofs.Cycles.{round_cycle}
+use Rattle.temporal_net.proofs.{Common.{◌++◌, length, sym, ◌∙◌, ap, subst, IsNegativeCycle, cell}, Cycles.{round_cycle}}
 use Rattle.temporal_net.proofs.net.round_trip.Goals as goal
 
 pub returns : goal.returns

@@ -1,5 +1,4 @@
-use Rattle.temporal_net.proofs.Common.{◌∙◌, ap, cell, lesser, edge_at}
-use Rattle.temporal_net.proofs.Places.{added_rows}
+use Rattle.temporal_net.proofs.{Common.{◌∙◌, ap, cell, lesser, edge_at}, Places.{added_rows}}
 use Rattle.temporal_net.proofs.table.add_edge.Goals as goal
 
 pub returns : goal.returns

@@ -1,5 +1,4 @@
-use Rattle.temporal_net.proofs.Common.{◌++◌, ◌∷◌, [], set, replicate, Some, None, ap, ◌∙◌, arith, length_push}
-use Rattle.temporal_net.proofs.Places.{bare_more}
+use Rattle.temporal_net.proofs.{Common.{◌++◌, ◌∷◌, [], set, replicate, Some, None, ap, ◌∙◌, arith, length_push}, Places.{bare_more}}
 use Rattle.temporal_net.proofs.table.bare_rows.Goals as goal
 
 pub loop-point-preserved : goal.loop-point-preserved

@@ -1,6 +1,4 @@
-use Rattle.temporal_net.proofs.Common.{length, pos, arith, edge_at, cell}
-use Rattle.temporal_net.proofs.Ways.{known_short}
-use Rattle.temporal_net.proofs.Firsts.{some_first}
+use Rattle.temporal_net.proofs.{Common.{length, pos, arith, edge_at, cell}, Ways.{known_short}, Firsts.{some_first}}
 use Rattle.temporal_net.proofs.table.first_edge.Goals as goal
 
 pub unreachable-requires : goal.unreachable-requires

@@ -1,5 +1,4 @@
-use Rattle.temporal_net.proofs.Common.{◌≡◌, ℕ, ◌<◌, false, cell}
-use Rattle.temporal_net.proofs.Firsts.{is_first}
+use Rattle.temporal_net.proofs.{Common.{◌≡◌, ℕ, ◌<◌, false, cell}, Firsts.{is_first}}
 use Rattle.temporal_net.proofs.table.first_edge.Given as goal
 
 abbrev pub invariant-loop-number : goal.invariant-loop-number

@@ -1,5 +1,4 @@
-use Rattle.temporal_net.proofs.Common.{◌≢◌, ℕ, ◌<◌, List, ◌++◌, length, None, cell, FollowsWay}
-use Rattle.temporal_net.proofs.Ways.{edges_left}
+use Rattle.temporal_net.proofs.{Common.{◌≢◌, ℕ, ◌<◌, List, ◌++◌, length, None, cell, FollowsWay}, Ways.{edges_left}}
 use Rattle.temporal_net.proofs.table.way.Given as goal
 
 abbrev pub invariant-loop-at : goal.invariant-loop-at

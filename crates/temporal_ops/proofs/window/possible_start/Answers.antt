@@ -1,6 +1,5 @@
-use Rattle.temporal_ops.proofs.Common.{Never, UpTo, Unbounded, edges_hold, ArePossibleTimes}
-use Rattle.temporal_ops.proofs.Rooms.{fitting_is_possible, one_more}
-use Rattle.temporal_ops.proofs.Windows.{starts_too, which_window}
+use Rattle.temporal_ops.proofs.{Common.{Never, UpTo, Unbounded, edges_hold, ArePossibleTimes}, Rooms.{fitting_is_possible, one_more}, Windows.{starts_too}}
+use Rattle.temporal_ops.proofs.Windows.{which_window}
 use Rattle.temporal_ops.proofs.window.possible_start.Goals as goal
 
 pub loop-op-preserved : goal.loop-op-preserved

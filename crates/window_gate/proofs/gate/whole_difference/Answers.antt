@@ -1,5 +1,4 @@
-use Rattle.window_gate.proofs.Common.{sym}
-use Rattle.window_gate.proofs.Wholes.{whole_come, whole_gone, whole_clock}
+use Rattle.window_gate.proofs.{Common.{sym}, Wholes.{whole_come, whole_gone, whole_clock}}
 use Rattle.window_gate.proofs.gate.whole_difference.Goals as goal
 
 pub returns-in-Come : goal.returns-in-Come

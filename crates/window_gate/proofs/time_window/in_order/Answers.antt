@@ -1,6 +1,4 @@
-use Rattle.window_gate.proofs.Common.{◌∙◌, ◌||◌, sym, ap, rules, get_or, list_any_more, eq_by_cmp, name_cmp}
-use Rattle.window_gate.proofs.Names.{same_name}
-use Rattle.window_gate.proofs.Wholes.{short_in_order}
+use Rattle.window_gate.proofs.{Common.{◌∙◌, ◌||◌, sym, ap, rules, get_or, list_any_more, eq_by_cmp, name_cmp}, Names.{same_name}, Wholes.{short_in_order}}
 use Rattle.window_gate.proofs.Holding.{one_name_more}
 use Rattle.window_gate.proofs.time_window.in_order.Goals as goal
 

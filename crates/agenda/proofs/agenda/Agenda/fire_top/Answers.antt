@@ -1,7 +1,5 @@
 use Rattle.agenda.proofs.Common.{◌≡◌, ◌∙◌, ap, subst, ◌&&◌, ◌||◌, not, Some, ℕ, eq_by_cmp, Row, Match, has_match, match_cmp, fire_cmp, first, Marks, matches}
-use Rattle.agenda.proofs.Heads.{top_of}
-use Rattle.agenda.proofs.Namings.{pop_counts}
-use Rattle.agenda.proofs.Steps.{fired_put, pending_popped, well_parts}
+use Rattle.agenda.proofs.{Heads.{top_of}, Namings.{pop_counts}, Steps.{fired_put, pending_popped, well_parts}}
 use Rattle.agenda.proofs.agenda.Agenda.fire_top.Goals as goal
 
 pub returns-in_ok-insert-in-Some-clause-top : goal.returns-in_ok-insert-in-Some-clause-top

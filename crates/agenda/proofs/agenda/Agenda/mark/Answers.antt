@@ -1,7 +1,5 @@
 use Rattle.agenda.proofs.Common.{◌≡◌, ◌∙◌, ap, subst, ◌==◌, ◌&&◌, ◌||◌, not, eq_by_cmp, row_cmp, has_match, match_of, Marks, AllWell, matches, ranked_of}
-use Rattle.agenda.proofs.Common.{Ranked}
-use Rattle.agenda.proofs.Ranks.{well_of}
-use Rattle.agenda.proofs.Steps.{pending_taken, fired_put, parts}
+use Rattle.agenda.proofs.{Common.{Ranked}, Ranks.{well_of}, Steps.{pending_taken, fired_put, parts}}
 use Rattle.agenda.proofs.agenda.Agenda.mark.Goals as goal
 
 -- where the mark is refused

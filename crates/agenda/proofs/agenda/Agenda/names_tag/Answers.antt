@@ -1,5 +1,4 @@
-use Rattle.agenda.proofs.Common.{◌∙◌, ap, list_any, Marks, names_tag, nat_lt}
-use Rattle.agenda.proofs.Namings.{named_is}
+use Rattle.agenda.proofs.{Common.{◌∙◌, ap, list_any, Marks, names_tag, nat_lt}, Namings.{named_is}}
 use Rattle.agenda.proofs.agenda.Agenda.names_tag.Goals as goal
 
 pub returns : goal.returns

@@ -1,9 +1,6 @@
 use Rattle.agenda.proofs.Common.{◌≡◌, ◌∙◌, ap, subst, ◌==◌, ◌&&◌, ◌||◌, eq_by_cmp, row_cmp, has_match, match_of, Marks, Well, AllWell, matches, ranked_of}
-use Rattle.agenda.proofs.Common.{Ranked}
+use Rattle.agenda.proofs.{Common.{Ranked}, Ranks.{well_of}, Steps.{pending_put}, agenda.Agenda.put_row.Goals.{After-put_ranked}}
 use Rattle.std.proofs.lemmas.Result.{on_ok_weaker}
-use Rattle.agenda.proofs.Ranks.{well_of}
-use Rattle.agenda.proofs.Steps.{pending_put}
-use Rattle.agenda.proofs.agenda.Agenda.put_row.Goals.{After-put_ranked}
 use Rattle.agenda.proofs.agenda.Agenda.put_row.Goals as goal
 
 made : (c : After-put_ranked) → c.of-ranked.result ≡ ranked_of c.self.inside.saliences (match_of c.args.rule.0 c.args.row)

@@ -1,5 +1,4 @@
-use Rattle.agenda.proofs.Common.{◌∙◌, ◌==◌}
-use Rattle.agenda.proofs.Steps.{put_next, all_put}
+use Rattle.agenda.proofs.{Common.{◌∙◌, ◌==◌}, Steps.{put_next, all_put}}
 use Rattle.fx_base.proofs.Sequences.{empty_from_length}
 use Rattle.agenda.proofs.agenda.Agenda.put_rows.Goals as goal
 

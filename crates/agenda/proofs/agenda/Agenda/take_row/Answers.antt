@@ -1,6 +1,5 @@
 use Rattle.agenda.proofs.Common.{◌≡◌, ◌∙◌, ap, subst, ◌==◌, ◌&&◌, not, eq_by_cmp, row_cmp, has_match, match_of, Marks, AllWell, matches, ranked_of, Ranked}
-use Rattle.agenda.proofs.Ranks.{well_of}
-use Rattle.agenda.proofs.Steps.{pending_taken, fired_taken}
+use Rattle.agenda.proofs.{Ranks.{well_of}, Steps.{pending_taken, fired_taken}}
 use Rattle.agenda.proofs.agenda.Agenda.take_row.Goals as goal
 
 pub invariant_of-self : goal.invariant_of-self

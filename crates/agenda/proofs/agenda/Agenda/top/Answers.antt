@@ -1,5 +1,4 @@
-use Rattle.agenda.proofs.Common.{◌≡◌, subst, Some, Marks, first, fire_cmp}
-use Rattle.agenda.proofs.Heads.{top_is}
+use Rattle.agenda.proofs.{Common.{◌≡◌, subst, Some, Marks, first, fire_cmp}, Heads.{top_is}}
 use Rattle.agenda.proofs.agenda.Agenda.top.Goals as goal
 
 pub returns-in-Some : goal.returns-in-Some

@@ -1,5 +1,4 @@
-use Rattle.alpha_memory.proofs.Common.{sym, ap, Some, is_some, on_ok_weaker, on_err_weaker}
-use Rattle.alpha_memory.proofs.Buckets.{one_kept, same_buckets}
+use Rattle.alpha_memory.proofs.{Common.{sym, ap, Some, is_some, on_ok_weaker, on_err_weaker}, Buckets.{one_kept, same_buckets}}
 use Rattle.alpha_memory.proofs.join_index.JoinIndex.exchange.Goals as goal
 
 pub returns-in-Some-clause-kept : goal.returns-in-Some-clause-kept

@@ -1,5 +1,4 @@
-use Rattle.alpha_memory.proofs.Common.{◌≡◌, ◌++◌}
-use Rattle.alpha_memory.proofs.Keys.{keys_in}
+use Rattle.alpha_memory.proofs.{Common.{◌≡◌, ◌++◌}, Keys.{keys_in}}
 use Rattle.alpha_memory.proofs.join_index.JoinIndex.keys.Given as goal
 
 abbrev pub invariant-loop-bucket : goal.invariant-loop-bucket

@@ -1,5 +1,4 @@
-use Rattle.alpha_memory.proofs.Common.{sym, ap, Some, None, is_some}
-use Rattle.alpha_memory.proofs.Buckets.{one_kept}
+use Rattle.alpha_memory.proofs.{Common.{sym, ap, Some, None, is_some}, Buckets.{one_kept}}
 use Rattle.alpha_memory.proofs.join_index.JoinIndex.take_out.Goals as goal
 
 pub returns-in-Some-clause-kept : goal.returns-in-Some-clause-kept

@@ -1,5 +1,5 @@
-use Rattle.alpha_memory.proofs.Common.{◌∙◌, ap, ◌++◌, ◌∷◌, [], nat_cmp, is_at, lookup, option_and_then, has_candidate_tag, Place}
-use Rattle.alpha_memory.proofs.Agreeing.{no_place, Agree-put, listed-put, Agree-same, listed-same, undone}
+use Rattle.alpha_memory.proofs.{Common.{◌∙◌, ap, ◌++◌, ◌∷◌, [], nat_cmp, is_at, lookup, option_and_then, has_candidate_tag, Place}, Agreeing.{no_place}}
+use Rattle.alpha_memory.proofs.Agreeing.{Agree-put, listed-put, Agree-same, listed-same, undone}
 use Rattle.alpha_memory.proofs.memory.AlphaMemory.add.Goals as goal
 
 pub invariant_of-self-in-Ok : goal.invariant_of-self-in-Ok

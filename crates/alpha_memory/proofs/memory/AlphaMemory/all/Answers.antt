@@ -1,5 +1,4 @@
-use Rattle.alpha_memory.proofs.Common.{◌≡◌, ◌∙◌, ap, subst, List, IfOk, Named, names_of}
-use Rattle.alpha_memory.proofs.Answering.{all_names}
+use Rattle.alpha_memory.proofs.{Common.{◌≡◌, ◌∙◌, ap, subst, List, IfOk, Named, names_of}, Answering.{all_names}}
 use Rattle.alpha_memory.proofs.memory.AlphaMemory.all.Goals as goal
 
 pub returns : goal.returns

@@ -1,5 +1,4 @@
-use Rattle.alpha_memory.proofs.Common.{◌∙◌, sym, ap, has_candidate_tag, without_tag}
-use Rattle.alpha_memory.proofs.Agreeing.{there, absent, Agree-take, listed-take, listed-absent}
+use Rattle.alpha_memory.proofs.{Common.{◌∙◌, sym, ap, has_candidate_tag, without_tag}, Agreeing.{there, absent, Agree-take, listed-take, listed-absent}}
 use Rattle.alpha_memory.proofs.memory.AlphaMemory.drop_tag.Goals as goal
 
 pub invariant_of-self : goal.invariant_of-self

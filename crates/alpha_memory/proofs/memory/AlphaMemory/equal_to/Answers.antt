@@ -1,5 +1,4 @@
-use Rattle.alpha_memory.proofs.Common.{◌≡◌, ◌∙◌, ap, subst, List, IfOk, Named, names_of, with_join, entries}
-use Rattle.alpha_memory.proofs.Answering.{bucket_names, no_bucket}
+use Rattle.alpha_memory.proofs.{Common.{◌≡◌, ◌∙◌, ap, subst, List, IfOk, Named, names_of, with_join, entries}, Answering.{bucket_names, no_bucket}}
 use Rattle.alpha_memory.proofs.memory.AlphaMemory.equal_to.Goals as goal
 
 pub returns-in-Some : goal.returns-in-Some

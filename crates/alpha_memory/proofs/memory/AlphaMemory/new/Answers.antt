@@ -1,5 +1,4 @@
-use Rattle.alpha_memory.proofs.Common.{◌∙◌, ap}
-use Rattle.alpha_memory.proofs.Agreeing.{listed, listed-none, Agree-none}
+use Rattle.alpha_memory.proofs.{Common.{◌∙◌, ap}, Agreeing.{listed, listed-none, Agree-none}}
 use Rattle.alpha_memory.proofs.memory.AlphaMemory.new.Goals as goal
 
 pub invariant_of-result : goal.invariant_of-result

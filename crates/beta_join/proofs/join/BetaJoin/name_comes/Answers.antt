@@ -1,5 +1,4 @@
-use Rattle.beta_join.proofs.Common.{◌∙◌, sym, ap, is_some, on_ok_weaker, seen_after, if_not}
-use Rattle.beta_join.proofs.Turns.{name_arrives, no_name_arrives}
+use Rattle.beta_join.proofs.{Common.{◌∙◌, sym, ap, is_some, on_ok_weaker, seen_after, if_not}, Turns.{name_arrives, no_name_arrives}}
 use Rattle.beta_join.proofs.join.BetaJoin.name_comes.Goals as goal
 
 pub returns-in_ok-rows-in-Some : goal.returns-in_ok-rows-in-Some

@@ -1,5 +1,4 @@
-use Rattle.beta_join.proofs.Common.{◌∙◌, sym, ap, is_some, on_ok_weaker, seen_after}
-use Rattle.beta_join.proofs.Turns.{name_goes, no_name_goes}
+use Rattle.beta_join.proofs.{Common.{◌∙◌, sym, ap, is_some, on_ok_weaker, seen_after}, Turns.{name_goes, no_name_goes}}
 use Rattle.beta_join.proofs.join.BetaJoin.name_leaves.Goals as goal
 
 pub returns-in_ok-rows-in-Some : goal.returns-in_ok-rows-in-Some

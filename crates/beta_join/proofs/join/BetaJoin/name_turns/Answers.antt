@@ -1,5 +1,4 @@
-use Rattle.beta_join.proofs.Common.{on_ok_weaker}
-use Rattle.beta_join.proofs.Turns.{handed_comes, handed_goes}
+use Rattle.beta_join.proofs.{Common.{on_ok_weaker}, Turns.{handed_comes, handed_goes}}
 use Rattle.beta_join.proofs.join.BetaJoin.name_turns.Goals as goal
 
 pub returns-then-comes : goal.returns-then-comes

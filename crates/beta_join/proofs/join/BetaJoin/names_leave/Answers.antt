@@ -1,5 +1,4 @@
-use Rattle.beta_join.proofs.Common.{refl, eq_by_cmp, name_cmp, name_equiv, has_right, less_more, any_name}
-use Rattle.beta_join.proofs.Turns.{turned_then}
+use Rattle.beta_join.proofs.{Common.{refl, eq_by_cmp, name_cmp, name_equiv, has_right, less_more, any_name}, Turns.{turned_then}}
 use Rattle.beta_join.proofs.join.BetaJoin.names_leave.Goals as goal
 
 pub loop-who-preserved : goal.loop-who-preserved

@@ -1,5 +1,4 @@
-use Rattle.beta_join.proofs.Common.{take}
-use Rattle.beta_join.specs.Turns.{NamesTurned}
+use Rattle.beta_join.{proofs.Common.{take}, specs.Turns.{NamesTurned}}
 use Rattle.beta_join.proofs.join.BetaJoin.names_turn.Given as goal
 
 abbrev pub invariant-loop-who : goal.invariant-loop-who

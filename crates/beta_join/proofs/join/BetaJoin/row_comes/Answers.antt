@@ -1,6 +1,5 @@
 use Rattle.beta_join.proofs.Common.{◌≡◌, ◌∙◌, sym, ap, subst, ◌||◌, is_some, eq_by_cmp, on_ok_weaker, Row, row_cmp, Look, Memories, has_left, has_right}
-use Rattle.beta_join.proofs.Common.{KeepsMemories}
-use Rattle.beta_join.proofs.Turns.{row_arrives, no_row_arrives}
+use Rattle.beta_join.proofs.{Common.{KeepsMemories}, Turns.{row_arrives, no_row_arrives}}
 use Rattle.beta_join.proofs.join.BetaJoin.row_comes.Goals as goal
 
 kept : (m n : Memories (Unit {0})) (look : Look) (row copy : Row) → copy ≡ row → KeepsMemories m n look (λ r. has_left m look r || eq_by_cmp row_cmp copy r) (has_right m look)

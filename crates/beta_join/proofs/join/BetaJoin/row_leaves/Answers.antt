@@ -1,5 +1,4 @@
-use Rattle.beta_join.proofs.Common.{◌∙◌, sym, ap, is_some, on_ok_weaker}
-use Rattle.beta_join.proofs.Turns.{row_goes, no_row_goes}
+use Rattle.beta_join.proofs.{Common.{◌∙◌, sym, ap, is_some, on_ok_weaker}, Turns.{row_goes, no_row_goes}}
 use Rattle.beta_join.proofs.join.BetaJoin.row_leaves.Goals as goal
 
 pub returns-in_ok-rows-in-Some-clause-turned : goal.returns-in_ok-rows-in-Some-clause-turned

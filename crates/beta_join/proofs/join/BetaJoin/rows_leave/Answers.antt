@@ -1,5 +1,4 @@
-use Rattle.beta_join.proofs.Common.{◌∙◌, eq_by_cmp, row_cmp, same_equiv, has_left, less_more}
-use Rattle.beta_join.proofs.Turns.{turned_then}
+use Rattle.beta_join.proofs.{Common.{◌∙◌, eq_by_cmp, row_cmp, same_equiv, has_left, less_more}, Turns.{turned_then}}
 use Rattle.beta_join.proofs.join.BetaJoin.rows_leave.Goals as goal
 
 pub loop-row-preserved : goal.loop-row-preserved

@@ -1,5 +1,6 @@
 -- `into_loose` tests the pointer, which is null where nothing is held.
-use Rattle.std.proofs.Common.{◌≡◌, List, [], ◌∷◌, ◌++◌, refl, sym, ap, ◌∙◌, subst, lit<}
+use Rattle.std.{proofs.Common.{◌≡◌, List, [], ◌∷◌, ◌++◌, refl, sym, ap, ◌∙◌, subst, lit<}, specs.declared.option.Option.TheVariants.{None, Some}}
+use Rattle.std.proofs.{alloc.{Calls.{Goes-blank, handle_tells}, Shapes.{after}}, cell.Inside.{Good}, option.Made.{Some-of, none_of}, ResultValues.{and_tt}}
 use mir.Syntax.{a_type, ty_ptr}
 use mir.Val.{Val, vnull, vptr, vcons, vnil}
 use mir.MapTy.{inst_fn}
@@ -20,21 +21,12 @@ use denote.Signature.{types_at, type_at, plain}
 use denote.Steps.{nothing}
 use denote.Param.{param, layout, layouts}
 use denote.Triple.Walked.{Stays, stay_dropped, walk_of, Goes-dropped}
-use Rattle.std.specs.declared.option.Option.TheVariants.{None, Some}
-use Rattle.std.proofs.alloc.Calls.{Goes-blank, handle_tells}
-use Rattle.std.proofs.alloc.Shapes.{after}
-use Rattle.std.proofs.cell.Inside.{Good}
-use Rattle.std.proofs.option.Made.{Some-of, none_of}
-use Rattle.std.proofs.ResultValues.{and_tt}
 use Rattle.std.specs.contracts.alloc.Global as heap
 use Rattle.std.proofs.alloc.Global.TheLaws as heap_laws
-use Rattle.std.specs.contracts.impls.GlobalAllocator.TheImpl.{ghosts}
-use Rattle.std.proofs.raw_atomic.Walks.{proved_at, leaves}
+use Rattle.std.{specs.contracts.impls.GlobalAllocator.TheImpl.{ghosts}, proofs.raw_atomic.Walks.{proved_at, leaves}}
 use Rattle.c_handle.specs.contracts.held.Held as held
-use Rattle.c_handle.proofs.Values.{both, alone, al, Loose, loose_good, loose_in, held_out, either}
-use Rattle.c_handle.specs.contracts.held.Held.into_loose.{ended, clauses}
-use Rattle.c_handle.specs.contracts.held.Held.into_loose.Key.{name as #self}
-use Rattle.c_handle.proofs.held.Held.into_loose.Statement.{statement}
+use Rattle.c_handle.{proofs.Values.{both, alone, al, Loose, loose_good, loose_in, held_out, either}, specs.contracts.held.Held.into_loose.{ended, clauses}}
+use Rattle.c_handle.{specs.contracts.held.Held.into_loose.Key.{name as #self}, proofs.held.Held.into_loose.Statement.{statement}}
 use Rattle.c_handle.proofs.held.Held.into_loose.Code as code
 
 pub into_loose_spec : {M : Type 1} → statement M

@@ -1,5 +1,5 @@
 -- `nothing` makes the pointer null.
-use Rattle.std.proofs.Common.{◌≡◌, [], ◌∷◌, refl, lit<}
+use Rattle.std.{proofs.{Common.{◌≡◌, [], ◌∷◌, refl, lit<}, raw_atomic.Walks.{proved, leaves}}, specs.declared.option.Option.TheVariants.{None}}
 use mir.Syntax.{a_type}
 use mir.Val.{Val, vnull}
 use mir.MapTy.{inst_fn}
@@ -15,14 +15,9 @@ use denote.RawPtr.{null_ptr}
 use denote.Signature.{types_at}
 use denote.Steps.{nothing}
 use denote.Param.{param, layouts}
-use denote.Triple.Entry.{alive}
-use denote.Triple.Walked.{Stays, walk_of}
-use Rattle.std.specs.declared.option.Option.TheVariants.{None}
-use Rattle.std.proofs.raw_atomic.Walks.{proved, leaves}
+use denote.Triple.{Entry.{alive}, Walked.{Stays, walk_of}}
 use Rattle.c_handle.specs.contracts.held.Held as held
-use Rattle.c_handle.proofs.Values.{alone, held_in}
-use Rattle.c_handle.specs.contracts.held.Held.nothing.{ended, clauses}
-use Rattle.c_handle.specs.contracts.held.Held.nothing.Key.{name as #self}
+use Rattle.c_handle.{proofs.Values.{alone, held_in}, specs.contracts.held.Held.nothing.{ended, clauses, Key.{name as #self}}}
 use Rattle.c_handle.proofs.held.Held.nothing.Statement.{statement}
 use Rattle.c_handle.proofs.held.Held.nothing.Code as code
 

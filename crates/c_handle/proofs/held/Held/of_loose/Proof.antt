@@ -1,5 +1,5 @@
 -- `of_loose` keeps the pointer.
-use Rattle.std.proofs.Common.{◌≡◌, List, [], ◌∷◌, ◌++◌, refl, sym, subst}
+use Rattle.std.{proofs.{Common.{◌≡◌, List, [], ◌∷◌, ◌++◌, refl, sym, subst}, alloc.Calls.{Goes-blank}}, specs.declared.option.Option.TheVariants.{Some}}
 use mir.Syntax.{a_type}
 use mir.Val.{Val, vptr}
 use mir.MapTy.{inst_fn}
@@ -19,17 +19,12 @@ use denote.Signature.{types_at, plain}
 use denote.Steps.{nothing}
 use denote.Param.{param, layouts}
 use denote.Triple.Walked.{Stays, stay_dropped, walk_of}
-use Rattle.std.specs.declared.option.Option.TheVariants.{Some}
-use Rattle.std.proofs.alloc.Calls.{Goes-blank}
 use Rattle.std.specs.contracts.alloc.Global as heap
 use Rattle.std.proofs.alloc.Global.TheLaws as heap_laws
-use Rattle.std.specs.contracts.impls.GlobalAllocator.TheImpl.{ghosts}
-use Rattle.std.proofs.raw_atomic.Walks.{proved_at, leaves}
+use Rattle.std.{specs.contracts.impls.GlobalAllocator.TheImpl.{ghosts}, proofs.raw_atomic.Walks.{proved_at, leaves}}
 use Rattle.c_handle.specs.contracts.held.Held as held
-use Rattle.c_handle.proofs.Values.{both, alone, Loose, loose_good, loose_out, held_in}
-use Rattle.c_handle.specs.contracts.held.Held.of_loose.{ended, clauses}
-use Rattle.c_handle.specs.contracts.held.Held.of_loose.Key.{name as #self}
-use Rattle.c_handle.proofs.held.Held.of_loose.Statement.{statement}
+use Rattle.c_handle.{proofs.Values.{both, alone, Loose, loose_good, loose_out, held_in}, specs.contracts.held.Held.of_loose.{ended, clauses}}
+use Rattle.c_handle.{specs.contracts.held.Held.of_loose.Key.{name as #self}, proofs.held.Held.of_loose.Statement.{statement}}
 use Rattle.c_handle.proofs.held.Held.of_loose.Code as code
 
 pub of_loose_spec : {M : Type 1} → statement M

@@ -1,5 +1,4 @@
-use Rattle.candidate_source.proofs.Common.{List, Named, subst, take_all, HaveCome}
-use Rattle.candidate_source.proofs.Turning.{none_came, come_more}
+use Rattle.candidate_source.proofs.{Common.{List, Named, subst, take_all, HaveCome}, Turning.{none_came, come_more}}
 use Rattle.candidate_source.proofs.source.Source.come.Goals as goal
 
 pub loop-who-init : goal.loop-who-init

@@ -1,5 +1,4 @@
-use Rattle.candidate_source.proofs.Common.{List, Named, subst, take_all, HaveLeft}
-use Rattle.candidate_source.proofs.Turning.{none_left, left_more}
+use Rattle.candidate_source.proofs.{Common.{List, Named, subst, take_all, HaveLeft}, Turning.{none_left, left_more}}
 use Rattle.candidate_source.proofs.source.Source.leave.Goals as goal
 
 pub loop-who-init : goal.loop-who-init

@@ -1,7 +1,6 @@
-use Rattle.candidate_source.proofs.Common.{◌∙◌, ap, List, Named, Row, is_some, has, has_name, row_naming}
+use Rattle.candidate_source.proofs.{Common.{◌∙◌, ap, List, Named, Row, is_some, has, has_name, row_naming}, Steps.{loaded_names, loaded_listed, loaded_agrees}}
 use Rattle.std.proofs.Common.{to_z-of_z}
 use Rattle.condition_rows.specs.Sets.{candidates_of}
-use Rattle.candidate_source.proofs.Steps.{loaded_names, loaded_listed, loaded_agrees}
 use Rattle.candidate_source.proofs.source.Source.load.Goals as goal
 
 pub returns-clause-gate : goal.returns-clause-gate

@@ -1,7 +1,5 @@
-use Rattle.candidate_source.proofs.Common.{subst, nat_cmp, HaveLeft}
-use Rattle.std.proofs.lemmas.Map.Keys.{sorted_tail}
-use Rattle.std.specs.List.Sorted.{IsStrictlySortedBy}
-use Rattle.candidate_source.proofs.Moving.{laid_then, more_moved, none_move, reached_then, still_apart}
+use Rattle.candidate_source.proofs.{Common.{subst, nat_cmp, HaveLeft}, Moving.{laid_then, more_moved, none_move, reached_then, still_apart}}
+use Rattle.std.{proofs.lemmas.Map.Keys.{sorted_tail}, specs.List.Sorted.{IsStrictlySortedBy}}
 use Rattle.candidate_source.proofs.sources.Sources.forget_led.Goals as goal
 
 pub loop-place-preserved : goal.loop-place-preserved

@@ -1,5 +1,4 @@
-use Rattle.candidate_source.proofs.Common.{◌≡◌, length}
-use Rattle.candidate_source.proofs.Growing.{AreAllLoaded}
+use Rattle.candidate_source.proofs.{Common.{◌≡◌, length}, Growing.{AreAllLoaded}}
 use Rattle.candidate_source.proofs.sources.Sources.load.Given as goal
 
 -- those before a place are loaded

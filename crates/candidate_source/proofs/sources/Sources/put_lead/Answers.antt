@@ -1,5 +1,4 @@
-use Rattle.candidate_source.proofs.Common.{◌∙◌, ap, Some, ◌∷◌, ◌++◌, [], ℕ}
-use Rattle.candidate_source.proofs.Growing.{lead_put}
+use Rattle.candidate_source.proofs.{Common.{◌∙◌, ap, Some, ◌∷◌, ◌++◌, [], ℕ}, Growing.{lead_put}}
 use Rattle.candidate_source.proofs.sources.Sources.put_lead.Goals as goal
 
 pub returns-clause-apart : goal.returns-clause-apart

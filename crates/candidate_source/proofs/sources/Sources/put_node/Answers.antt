@@ -1,5 +1,4 @@
-use Rattle.candidate_source.proofs.Common.{refl}
-use Rattle.candidate_source.proofs.Growing.{node_put}
+use Rattle.candidate_source.proofs.{Common.{refl}, Growing.{node_put}}
 use Rattle.candidate_source.proofs.sources.Sources.put_node.Goals as goal
 
 pub returns-clause-apart : goal.returns-clause-apart

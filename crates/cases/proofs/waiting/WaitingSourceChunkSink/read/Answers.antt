@@ -1,8 +1,6 @@
-use Rattle.std.proofs.Common.{◌≡◌, ◌+◌, ◌++◌, ℕ, List, take, drop, Some, sym, ap, subst, ◌∙◌}
-use Rattle.std.proofs.lemmas.List.{take_rest}
+use Rattle.std.proofs.{Common.{◌≡◌, ◌+◌, ◌++◌, ℕ, List, take, drop, Some, sym, ap, subst, ◌∙◌}, lemmas.List.{take_rest}}
 use Rattle.fx_io.proofs.Told.{read_more}
-use Rattle.cases.specs.Answered.{IsAnswered}
-use Rattle.cases.proofs.Given.{given_on}
+use Rattle.cases.{specs.Answered.{IsAnswered}, proofs.Given.{given_on}}
 use Rattle.cases.proofs.waiting.WaitingSourceChunkSink.read.Goals as goal
 
 pub returns-clause-taken : goal.returns-clause-taken

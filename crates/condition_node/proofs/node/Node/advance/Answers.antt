@@ -1,5 +1,4 @@
-use Rattle.condition_node.proofs.Common.{sym, refl, subst, SFits, to_z-of_z, w128, IsAt, FoldNode, Node, blocking_pattern}
-use Rattle.condition_node.proofs.Turning.{floor_told}
+use Rattle.condition_node.proofs.{Common.{sym, refl, subst, SFits, to_z-of_z, w128, IsAt, FoldNode, Node, blocking_pattern}, Turning.{floor_told}}
 use Rattle.condition_node.proofs.Telling.{TurnsTo, Tells, join_turns, join_tells, exists_turns, exists_tells, not_turns, not_tells, fold_turns, fold_tells}
 use Rattle.condition_node.specs.declared.node.Node.TheVariants as node
 use Rattle.condition_node.proofs.node.Node.advance.Goals as goal

@@ -1,7 +1,6 @@
-use Rattle.condition_node.proofs.Common.{refl, subst, sym, SFits, to_z-of_z, w128, IsAt, FoldNode, Node, blocking_pattern}
-use Rattle.condition_node.proofs.Lending.{TurnsFrom, TellsFrom, join_with, exists_with, not_with, fold_with, fold_difference}
-use Rattle.condition_node.proofs.Turning.{floor_told}
-use Rattle.condition_node.proofs.Telling.{join_turns, join_tells, exists_turns, exists_tells, not_turns, not_tells, fold_turns, fold_tells}
+use Rattle.condition_node.proofs.{Common.{refl, subst, sym, SFits, to_z-of_z, w128, IsAt, FoldNode, Node, blocking_pattern}, Lending.{TurnsFrom, TellsFrom}}
+use Rattle.condition_node.proofs.{Lending.{join_with, exists_with, not_with, fold_with, fold_difference}, Turning.{floor_told}, Telling.{join_turns}}
+use Rattle.condition_node.proofs.Telling.{join_tells, exists_turns, exists_tells, not_turns, not_tells, fold_turns, fold_tells}
 use Rattle.condition_node.specs.declared.node.Node.TheVariants as node
 use Rattle.condition_node.proofs.node.Node.advance_turned.Goals as goal
 

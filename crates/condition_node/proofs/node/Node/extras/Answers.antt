@@ -1,5 +1,4 @@
-use Rattle.condition_node.proofs.Common.{sym, subst, option_map}
-use Rattle.condition_node.proofs.Beyond.{TellsOver, join_over, exists_over, not_over, fold_over}
+use Rattle.condition_node.proofs.{Common.{sym, subst, option_map}, Beyond.{TellsOver, join_over, exists_over, not_over, fold_over}}
 use Rattle.condition_node.proofs.node.Node.extras.Goals as goal
 
 pub returns-in-Join : goal.returns-in-Join

@@ -1,5 +1,4 @@
-use Rattle.condition_node.proofs.Common.{◌∙◌, refl, has_name}
-use Rattle.condition_node.proofs.Forgetting.{none_there, nothing_forgot, join_forgot, not_forgot, exists_forgot, fold_forgot}
+use Rattle.condition_node.proofs.{Common.{◌∙◌, refl, has_name}, Forgetting.{none_there, nothing_forgot, join_forgot, not_forgot, exists_forgot, fold_forgot}}
 use Rattle.condition_node.proofs.node.Node.forget.Goals as goal
 
 pub returns-then-is_empty-2-clause-stands : goal.returns-then-is_empty-2-clause-stands

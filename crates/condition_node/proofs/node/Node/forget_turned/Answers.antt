@@ -1,5 +1,4 @@
-use Rattle.condition_node.proofs.Common.{refl}
-use Rattle.condition_node.proofs.Lending.{join_forgets_from, exists_forgets_from, not_forgets_from, fold_forgets_from}
+use Rattle.condition_node.proofs.{Common.{refl}, Lending.{join_forgets_from, exists_forgets_from, not_forgets_from, fold_forgets_from}}
 use Rattle.condition_node.proofs.node.Node.forget_turned.Goals as goal
 
 pub returns-in_ok-dropped-in-Join-clause-stands : goal.returns-in_ok-dropped-in-Join-clause-stands

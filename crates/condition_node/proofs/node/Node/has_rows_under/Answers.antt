@@ -1,6 +1,5 @@
-use Rattle.condition_node.proofs.Common.{◌≡◌, sym, ap, subst, false, Node}
+use Rattle.condition_node.{proofs.Common.{◌≡◌, sym, ap, subst, false, Node}, specs.Lending.{node_has_under, node_keeps_under}}
 use Rattle.std.specs.Option.{is_some}
-use Rattle.condition_node.specs.Lending.{node_has_under, node_keeps_under}
 use Rattle.condition_node.proofs.node.Node.has_rows_under.Goals as goal
 
 pub returns-in-Join : goal.returns-in-Join

@@ -1,9 +1,8 @@
-use Rattle.condition_node.proofs.Common.{◌≡◌, sym, subst, SFits, to_z-of_z, w128, IsAt, Snapshot, floor, awaited_entry, blocking_pattern}
-use Rattle.condition_node.proofs.Still.{Stays, TellsNothing, TellsOne, join_still, join_tells_nothing, exists_still, exists_tells_nothing, fold_still}
-use Rattle.condition_node.proofs.Still.{fold_tells_nothing, not_still, not_tells_nothing, not_tells_one}
-use Rattle.condition_node.proofs.Turning.{floor_told}
-use Rattle.condition_node.proofs.Untouched.{StaysUntouched, TellsUntouched, join_untouched, join_tells_untouched, exists_untouched, exists_tells_untouched}
-use Rattle.condition_node.proofs.Untouched.{fold_untouched, fold_tells_untouched, not_untouched, not_tells_untouched}
+use Rattle.condition_node.proofs.{Common.{◌≡◌, sym, subst, SFits, to_z-of_z, w128, IsAt, Snapshot, floor, awaited_entry, blocking_pattern}, Still.{Stays}}
+use Rattle.condition_node.proofs.Still.{TellsNothing, TellsOne, join_still, join_tells_nothing, exists_still, exists_tells_nothing, fold_still}
+use Rattle.condition_node.proofs.{Still.{fold_tells_nothing, not_still, not_tells_nothing, not_tells_one}, Turning.{floor_told}, Untouched.{StaysUntouched}}
+use Rattle.condition_node.proofs.Untouched.{TellsUntouched, join_untouched, join_tells_untouched, exists_untouched, exists_tells_untouched, fold_untouched}
+use Rattle.condition_node.proofs.Untouched.{fold_tells_untouched, not_untouched, not_tells_untouched}
 use Rattle.condition_node.proofs.node.Node.is_still.Goals as goal
 
 -- the floor that is told is that of each snapshot of the moment

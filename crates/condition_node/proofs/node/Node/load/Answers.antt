@@ -1,6 +1,5 @@
 use Rattle.condition_node.proofs.Common.{sym, refl, subst, SFits, to_z-of_z, w128, IsDifference, IsAt, no_rows, no_names, empty_snapshot, NodeStands, FoldNode}
-use Rattle.condition_node.proofs.Common.{Node, node_rows, blocking_pattern}
-use Rattle.condition_node.proofs.Loading.{LoadsTo, join_loads, exists_loads, not_loads, fold_loads}
+use Rattle.condition_node.proofs.{Common.{Node, node_rows, blocking_pattern}, Loading.{LoadsTo, join_loads, exists_loads, not_loads, fold_loads}}
 use Rattle.condition_node.proofs.Turning.{floor_told}
 use Rattle.condition_node.specs.declared.node.Node.TheVariants as node
 use Rattle.condition_node.proofs.node.Node.load.Goals as goal

@@ -1,7 +1,6 @@
 use Rattle.condition_node.proofs.Common.{refl, subst, sym, [], map, SFits, to_z-of_z, w128, row_naming, IsAt, FoldNode, Node, blocking_pattern, blocker_tallies}
 use Rattle.condition_node.proofs.Lending.{LoadsFrom, LoadTells, join_with, exists_with, not_with, fold_with, fold_difference, loaded_keeps, takes_loaded}
-use Rattle.condition_node.proofs.Loading.{nothing_kept, join_loads, exists_loads, not_loads, fold_loads}
-use Rattle.condition_node.proofs.Turning.{floor_told}
+use Rattle.condition_node.proofs.{Loading.{nothing_kept, join_loads, exists_loads, not_loads, fold_loads}, Turning.{floor_told}}
 use Rattle.condition_node.specs.declared.node.Node.TheVariants as node
 use Rattle.condition_node.proofs.node.Node.load_turned.Goals as goal
 

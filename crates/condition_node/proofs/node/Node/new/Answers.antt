@@ -1,7 +1,5 @@
 use Rattle.condition_node.proofs.Common.{◌∙◌, sym, ap, SFits, to_z-of_z, w128, Accumulate, Pattern, no_rows, counts_blockers, counts_witnesses, gathers}
-use Rattle.condition_node.proofs.Common.{empty_snapshot, floor, blocker_tallies}
-use Rattle.condition_node.proofs.Moved.{stands_empty, counts_empty}
-use Rattle.condition_node.proofs.Turning.{waits_on_time}
+use Rattle.condition_node.proofs.{Common.{empty_snapshot, floor, blocker_tallies}, Moved.{stands_empty, counts_empty}, Turning.{waits_on_time}}
 use Rattle.condition_node.proofs.node.Node.new.Goals as goal
 
 pub returns-in_ok-pattern-in-Plain-clause-stands : goal.returns-in_ok-pattern-in-Plain-clause-stands

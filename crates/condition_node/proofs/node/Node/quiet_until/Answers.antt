@@ -1,9 +1,7 @@
 use Rattle.condition_node.proofs.Common.{◌≡◌, ◌∙◌, sym, ap, subst, pos, ℤ, ◌+ℤ◌, ◌-ℤ◌, ◌≤ℤ◌, ◌<ℤ◌, ◌^◌, None, IfSome, SFits, w64, to_z-of_z, w128, Pattern}
-use Rattle.condition_node.proofs.Common.{lateness_of, Node, IsBefore, IsDue, IsQuiet}
-use Rattle.condition_node.proofs.Quietness.{join_quiet, exists_quiet, fold_quiet, none_due, due_at, if_due}
+use Rattle.condition_node.proofs.{Common.{lateness_of, Node, IsBefore, IsDue, IsQuiet}, Quietness.{join_quiet, exists_quiet, fold_quiet, none_due, due_at}}
+use Rattle.condition_node.{proofs.{Quietness.{if_due}, Lending.{join_with, exists_with, not_with, fold_with}}, specs.Lending.{with_candidates}}
 use Rattle.pair_memory.specs.declared.candidates.Candidates.{Candidates}
-use Rattle.condition_node.specs.Lending.{with_candidates}
-use Rattle.condition_node.proofs.Lending.{join_with, exists_with, not_with, fold_with}
 use Rattle.condition_node.proofs.node.Node.quiet_until.Goals as goal
 
 pub returns-in-Some-clause-quiet : goal.returns-in-Some-clause-quiet

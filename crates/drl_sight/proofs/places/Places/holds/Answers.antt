@@ -1,5 +1,4 @@
-use Rattle.drl_sight.proofs.Common.{◌∙◌, ap, is_some}
-use Rattle.drl_sight.proofs.NameLemmas.{placed_among}
+use Rattle.drl_sight.proofs.{Common.{◌∙◌, ap, is_some}, NameLemmas.{placed_among}}
 use Rattle.drl_sight.proofs.places.Places.holds.Goals as goal
 
 pub returns : goal.returns

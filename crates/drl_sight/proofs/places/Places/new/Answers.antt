@@ -1,5 +1,4 @@
-use Rattle.drl_sight.proofs.Common.{refl}
-use Rattle.drl_sight.specs.Names.{place_from}
+use Rattle.drl_sight.{proofs.Common.{refl}, specs.Names.{place_from}}
 use Rattle.drl_sight.proofs.places.Places.new.Goals as goal
 
 pub invariant_of-result : goal.invariant_of-result

@@ -1,5 +1,4 @@
-use Rattle.due_queue.proofs.Common.{sym, tied_itself}
-use Rattle.due_queue.proofs.Agreeing.{Agree-go}
+use Rattle.due_queue.proofs.{Common.{sym, tied_itself}, Agreeing.{Agree-go}}
 use Rattle.due_queue.proofs.map.DueMap.cancel.Goals as goal
 
 pub invariant_of-self-2 : goal.invariant_of-self-2

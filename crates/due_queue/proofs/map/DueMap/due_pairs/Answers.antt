@@ -1,5 +1,4 @@
-use Rattle.due_queue.proofs.Agreeing.{paired}
-use Rattle.due_queue.proofs.Due.{AreDuePairs-front}
+use Rattle.due_queue.proofs.{Agreeing.{paired}, Due.{AreDuePairs-front}}
 use Rattle.due_queue.proofs.map.DueMap.due_pairs.Goals as goal
 
 pub returns : goal.returns

@@ -1,5 +1,4 @@
-use Rattle.due_queue.proofs.Common.{◌≡◌, ◌∙◌, sym, true, false}
-use Rattle.due_queue.proofs.Agreeing.{paired, not_empty}
+use Rattle.due_queue.proofs.{Common.{◌≡◌, ◌∙◌, sym, true, false}, Agreeing.{paired, not_empty}}
 use Rattle.due_queue.proofs.map.DueMap.first.Goals as goal
 
 pub returns-in-Some-clause-waits : goal.returns-in-Some-clause-waits

@@ -1,5 +1,4 @@
-use Rattle.due_queue.proofs.Common.{sym}
-use Rattle.due_queue.proofs.Agreeing.{Agree-come, Agree-back, Agree-move}
+use Rattle.due_queue.proofs.{Common.{sym}, Agreeing.{Agree-come, Agree-back, Agree-move}}
 use Rattle.due_queue.proofs.map.DueMap.put.Goals as goal
 
 pub invariant_of-self-in-Ok-Some : goal.invariant_of-self-in-Ok-Some

@@ -1,5 +1,4 @@
-use Rattle.due_queue.proofs.Common.{◌≡◌, ◌∙◌, sym, ap, Equal, is_gt, ordering_then}
-use Rattle.due_queue.proofs.Agreeing.{Agree-go, paired, no_pair, own_moment, none_due}
+use Rattle.due_queue.proofs.{Common.{◌≡◌, ◌∙◌, sym, ap, Equal, is_gt, ordering_then}, Agreeing.{Agree-go, paired, no_pair, own_moment, none_due}}
 use Rattle.due_queue.proofs.Orders.{past_same}
 use Rattle.due_queue.proofs.map.DueMap.take_due.Given as given
 use Rattle.due_queue.proofs.map.DueMap.take_due.Goals as goal

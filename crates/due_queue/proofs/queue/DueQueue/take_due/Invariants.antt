@@ -1,5 +1,4 @@
-use Rattle.due_queue.proofs.Common.{length}
-use Rattle.due_queue.proofs.Taking.{IsTaken}
+use Rattle.due_queue.proofs.{Common.{length}, Taking.{IsTaken}}
 use Rattle.due_queue.proofs.queue.DueQueue.take_due.Given as goal
 
 abbrev pub invariant-due : goal.invariant-due

@@ -1,6 +1,4 @@
-use Rattle.due_queue.proofs.Common.{◌∙◌, sym, ap, subst, found}
-use Rattle.due_queue.specs.Rising.{live, Rises}
-use Rattle.due_queue.proofs.Entries.{value_found, rises_emptied, found_emptied, kept_none}
+use Rattle.due_queue.{proofs.{Common.{◌∙◌, sym, ap, subst, found}, Entries.{value_found, rises_emptied, found_emptied, kept_none}}, specs.Rising.{live, Rises}}
 use Rattle.due_queue.proofs.rising.Rising.cancel.Goals as goal
 
 pub returns-in_err-one-clause-before : goal.returns-in_err-one-clause-before

@@ -1,5 +1,4 @@
-use Rattle.due_queue.proofs.Common.{◌∙◌}
-use Rattle.due_queue.proofs.Entries.{value_at_is, set_is_emptied}
+use Rattle.due_queue.proofs.{Common.{◌∙◌}, Entries.{value_at_is, set_is_emptied}}
 use Rattle.due_queue.proofs.rising.Rising.empty.Goals as goal
 
 pub returns-in_err-one-clause-value : goal.returns-in_err-one-clause-value

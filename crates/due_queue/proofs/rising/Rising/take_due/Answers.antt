@@ -1,6 +1,4 @@
-use Rattle.due_queue.proofs.Common.{◌∙◌, sym, ap, subst, refl, found, ◌<◌}
-use Rattle.due_queue.specs.Rising.{live, Rises}
-use Rattle.due_queue.proofs.Entries.{none_due_at, rises_rest, least_at, rest_at}
+use Rattle.due_queue.{proofs.{Common.{◌∙◌, sym, ap, subst, refl, found, ◌<◌}, Entries.{none_due_at, rises_rest, least_at, rest_at}}, specs.Rising.{live, Rises}}
 use Rattle.due_queue.proofs.rising.Rising.take_due.Goals as goal
 
 pub returns-then-is_past-clause-none : goal.returns-then-is_past-clause-none

@@ -1,6 +1,4 @@
-use Rattle.due_queue.proofs.Common.{◌∙◌, sym, ap, subst, refl, ◌<◌}
-use Rattle.due_queue.specs.Rising.{live, Rises}
-use Rattle.due_queue.proofs.Entries.{rises_rest, live_rest}
+use Rattle.due_queue.{proofs.{Common.{◌∙◌, sym, ap, subst, refl, ◌<◌}, Entries.{rises_rest, live_rest}}, specs.Rising.{live, Rises}}
 use Rattle.due_queue.proofs.rising.Rising.trim.Goals as goal
 
 pub gone-preserved : goal.gone-preserved

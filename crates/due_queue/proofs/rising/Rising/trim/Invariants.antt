@@ -1,5 +1,4 @@
-use Rattle.due_queue.proofs.Common.{◌≡◌, length}
-use Rattle.due_queue.specs.Rising.{live, Rises}
+use Rattle.due_queue.{proofs.Common.{◌≡◌, length}, specs.Rising.{live, Rises}}
 use Rattle.due_queue.proofs.rising.Rising.trim.Given as goal
 
 abbrev pub invariant-gone : goal.invariant-gone

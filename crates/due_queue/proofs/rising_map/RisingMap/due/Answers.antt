@@ -1,7 +1,5 @@
-use Rattle.due_queue.proofs.Common.{◌∙◌, ◌||◌, ap, subst, has_pair, AreDue}
+use Rattle.due_queue.{proofs.{Common.{◌∙◌, ◌||◌, ap, subst, has_pair, AreDue}, DueEntries.{entries_due, both_due}}, specs.Rising.{live}}
 use Rattle.std.proofs.Common.{map as list_map}
-use Rattle.due_queue.specs.Rising.{live}
-use Rattle.due_queue.proofs.DueEntries.{entries_due, both_due}
 use Rattle.due_queue.proofs.rising_map.RisingMap.due.Goals as goal
 
 pub returns : goal.returns

@@ -1,5 +1,4 @@
-use Rattle.due_queue.proofs.Common.{◌≡◌, sym, Some, None, Bool, true, false, not}
-use Rattle.due_queue.proofs.Together.{none_due_least}
+use Rattle.due_queue.proofs.{Common.{◌≡◌, sym, Some, None, Bool, true, false, not}, Together.{none_due_least}}
 use Rattle.due_queue.proofs.rising_map.RisingMap.is_due.Goals as goal
 
 pub returns-in-Some : goal.returns-in-Some

@@ -1,6 +1,4 @@
-use Rattle.due_queue.proofs.Common.{◌≡◌, ◌∙◌, sym, ap, refl, Some, None, true, false, cond, is_at, found}
-use Rattle.due_queue.specs.Rising.{live}
-use Rattle.due_queue.proofs.Entries.{kept_none}
+use Rattle.due_queue.{proofs.{Common.{◌≡◌, ◌∙◌, sym, ap, refl, Some, None, true, false, cond, is_at, found}, Entries.{kept_none}}, specs.Rising.{live}}
 use Rattle.due_queue.proofs.Together.{in_others, not_others, not_some, in_other, both_change, stay_apart}
 use Rattle.due_queue.proofs.rising_map.RisingMap.put.Goals as goal
 

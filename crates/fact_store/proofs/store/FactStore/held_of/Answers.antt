@@ -1,6 +1,5 @@
 use Rattle.std.specs.FinMap as map
-use Rattle.fact_store.proofs.Common.{stored}
-use Rattle.fact_store.proofs.Raising.{counts_ids}
+use Rattle.fact_store.proofs.{Common.{stored}, Raising.{counts_ids}}
 use Rattle.fact_store.proofs.store.FactStore.held_of.Goals as goal
 
 pub returns : goal.returns

@@ -1,5 +1,5 @@
-use Rattle.fact_store.proofs.Common.{◌≡◌, ◌∙◌, ◌++◌, ◌∷◌, [], sym, ap, subst, List, Option, Some, None, Fact, facts_of}
-use Rattle.fact_store.proofs.Draining.{AreTaken, all_taken, none_left, none_taken, one_taken, same_taken}
+use Rattle.fact_store.proofs.{Common.{◌≡◌, ◌∙◌, ◌++◌, ◌∷◌, [], sym, ap, subst, List, Option, Some, None, Fact, facts_of}, Draining.{AreTaken, all_taken}}
+use Rattle.fact_store.proofs.Draining.{none_left, none_taken, one_taken, same_taken}
 use Rattle.fact_store.proofs.store.FactStore.into_facts.Goals as goal
 
 pub loop-tag-init : goal.loop-tag-init

@@ -1,5 +1,4 @@
-use Rattle.fact_store.proofs.Common.{facts_of}
-use Rattle.fact_store.proofs.Draining.{AreTaken}
+use Rattle.fact_store.proofs.{Common.{facts_of}, Draining.{AreTaken}}
 use Rattle.fact_store.proofs.store.FactStore.into_facts.Given as goal
 
 abbrev pub invariant-loop-tag : goal.invariant-loop-tag

@@ -1,5 +1,5 @@
-use Rattle.fact_store.proofs.Common.{◌∙◌, sym, ap, cond, false, Some, is_at, id_tag_cmp, has_pair}
-use Rattle.fact_store.proofs.Newer.{is_tag, on_some, another_tag, has_next, has_fewer, has_others, leads_next, leads_fewer, leads_others}
+use Rattle.fact_store.proofs.{Common.{◌∙◌, sym, ap, cond, false, Some, is_at, id_tag_cmp, has_pair}, Newer.{is_tag, on_some, another_tag, has_next, has_fewer}}
+use Rattle.fact_store.proofs.Newer.{has_others, leads_next, leads_fewer, leads_others}
 use Rattle.fact_store.proofs.versions.Versions.remove.Goals as goal
 
 pub invariant_of-self : goal.invariant_of-self

@@ -1,5 +1,4 @@
-use Rattle.fan_join.proofs.Common.{◌∙◌, ap, refl, row_key, Pattern}
-use Rattle.fan_join.proofs.Whole.{put_beside, put_empty, put_reached}
+use Rattle.fan_join.proofs.{Common.{◌∙◌, ap, refl, row_key, Pattern}, Whole.{put_beside, put_empty, put_reached}}
 use Rattle.fan_join.proofs.fan.FanJoin.put.Goals as goal
 
 pub returns-clause-empty : goal.returns-clause-empty

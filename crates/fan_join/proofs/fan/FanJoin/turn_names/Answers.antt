@@ -1,6 +1,5 @@
-use Rattle.fan_join.proofs.Common.{◌≡◌, ◌∙◌, ap, sym, refl, Some, is_some, slice_get, slice_get-get_or, LeftRows}
+use Rattle.fan_join.proofs.{Common.{◌≡◌, ◌∙◌, ap, sym, refl, Some, is_some, slice_get, slice_get-get_or, LeftRows}, Reaches.{names_reached, names_timed}}
 use Rattle.join_tests.specs.declared.row_key.RowKey.{RowKey}
-use Rattle.fan_join.proofs.Reaches.{names_reached, names_timed}
 use Rattle.fan_join.proofs.fan.FanJoin.turn_names.Goals as goal
 
 pub returns-then-is_timed : goal.returns-then-is_timed

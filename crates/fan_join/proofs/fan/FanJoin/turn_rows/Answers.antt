@@ -1,5 +1,4 @@
-use Rattle.fan_join.proofs.Common.{◌∙◌, subst, List, Candidates, RowTurn, AreDifferences}
-use Rattle.fan_join.proofs.Whole.{all_turned}
+use Rattle.fan_join.proofs.{Common.{◌∙◌, subst, List, Candidates, RowTurn, AreDifferences}, Whole.{all_turned}}
 use Rattle.fan_join.proofs.fan.FanJoin.turn_rows.Goals as goal
 
 pub returns-clause-turned : goal.returns-clause-turned

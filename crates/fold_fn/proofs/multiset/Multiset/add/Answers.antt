@@ -1,6 +1,5 @@
-use Rattle.fold_fn.proofs.Common.{arith, to_z, of_z, to_z-of_z, w64, SFits, int_cmp, IsDistinct-from_sorted}
+use Rattle.fold_fn.proofs.{Common.{arith, to_z, of_z, to_z-of_z, w64, SFits, int_cmp, IsDistinct-from_sorted}, Multisets.{one_more, count_at-le}}
 use Rattle.std.proofs.lemmas.Result.{on_ok_weaker}
-use Rattle.fold_fn.proofs.Multisets.{one_more, count_at-le}
 use Rattle.fold_fn.proofs.multiset.Multiset.add.Goals as goal
 
 pub raise-requires-clause-room : goal.raise-requires-clause-room

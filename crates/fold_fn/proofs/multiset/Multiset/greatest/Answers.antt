@@ -1,5 +1,4 @@
-use Rattle.fold_fn.proofs.Common.{rules, sym, SFits, w64, to_z-of_z}
-use Rattle.fold_fn.proofs.Ends.{greatest_key}
+use Rattle.fold_fn.proofs.{Common.{rules, sym, SFits, w64, to_z-of_z}, Ends.{greatest_key}}
 use Rattle.fold_fn.proofs.multiset.Multiset.greatest.Goals as goal
 
 pub returns : goal.returns

@@ -1,5 +1,4 @@
-use Rattle.fold_fn.proofs.Common.{to_z-of_z, w64, SFits}
-use Rattle.fold_fn.proofs.Ends.{has_entry}
+use Rattle.fold_fn.proofs.{Common.{to_z-of_z, w64, SFits}, Ends.{has_entry}}
 use Rattle.fold_fn.proofs.multiset.Multiset.holds.Goals as goal
 
 pub returns : goal.returns

@@ -1,5 +1,4 @@
-use Rattle.fold_fn.proofs.Common.{rules, sym, SFits, w64, to_z-of_z}
-use Rattle.fold_fn.proofs.Ends.{least_key}
+use Rattle.fold_fn.proofs.{Common.{rules, sym, SFits, w64, to_z-of_z}, Ends.{least_key}}
 use Rattle.fold_fn.proofs.multiset.Multiset.least.Goals as goal
 
 pub returns : goal.returns

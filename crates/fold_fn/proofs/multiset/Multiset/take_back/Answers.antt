@@ -1,5 +1,4 @@
-use Rattle.fold_fn.proofs.Common.{to_z-of_z, w64, SFits, sym, ◌∙◌, int_cmp, IsDistinct-from_sorted}
-use Rattle.fold_fn.proofs.Multisets.{one_more, count_at_from_contains}
+use Rattle.fold_fn.proofs.{Common.{to_z-of_z, w64, SFits, sym, ◌∙◌, int_cmp, IsDistinct-from_sorted}, Multisets.{one_more, count_at_from_contains}}
 use Rattle.fold_fn.proofs.multiset.Multiset.take_back.Goals as goal
 
 pub lower-requires-clause-held : goal.lower-requires-clause-held

@@ -1,6 +1,5 @@
 use Rattle.fold_fn.proofs.Common.{ℕ, ℤ, List, sym, ◌∙◌, ap, subst, ◌≡◌, ◌++◌, append-nil, IsSorted, int_cmp, in_rising_order, repeated}
-use Rattle.fold_fn.proofs.Ends.{rising-repeated}
-use Rattle.fold_fn.proofs.Sorting.{sorted-rising}
+use Rattle.fold_fn.proofs.{Ends.{rising-repeated}, Sorting.{sorted-rising}}
 use Rattle.fold_fn.proofs.multiset.Multiset.values.Goals as goal
 
 -- what is answered is what the entries stand for, in rising order

@@ -1,5 +1,4 @@
-use Rattle.fold_fn.proofs.Common.{arith, ap, SFits, w64, to_z-of_z, length, ints}
-use Rattle.fold_fn.proofs.TotalLemmas.{sum_fits, totals_add}
+use Rattle.fold_fn.proofs.{Common.{arith, ap, SFits, w64, to_z-of_z, length, ints}, TotalLemmas.{sum_fits, totals_add}}
 use Rattle.fold_fn.proofs.totals.Totals.add.Goals as goal
 
 pub overflow_add-self-2 : goal.overflow_add-self-2

@@ -1,5 +1,4 @@
-use Rattle.fold_fn.proofs.Common.{arith, SFits, w64, to_z-of_z, ints}
-use Rattle.fold_fn.proofs.TotalLemmas.{sum_fits, totals_take_back}
+use Rattle.fold_fn.proofs.{Common.{arith, SFits, w64, to_z-of_z, ints}, TotalLemmas.{sum_fits, totals_take_back}}
 use Rattle.fold_fn.proofs.totals.Totals.take_back.Goals as goal
 
 pub overflow_sub-self-2 : goal.overflow_sub-self-2

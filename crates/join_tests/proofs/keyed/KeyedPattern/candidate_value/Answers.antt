@@ -1,7 +1,5 @@
 use Rattle.join_tests.proofs.Common.{SFits, w64, rules, to_z-of_z, ◌∙◌, sym, ap, List, map, Value, Pattern, join_keys, candidate_part, slot_value}
-use Rattle.join_tests.proofs.Common.{moment_at_point, candidate_moment, time_key, with_slot}
-use Rattle.join_tests.specs.Kept.{candidate_value}
-use Rattle.join_tests.proofs.Counting.{of_candidate}
+use Rattle.join_tests.{proofs.{Common.{moment_at_point, candidate_moment, time_key, with_slot}, Counting.{of_candidate}}, specs.Kept.{candidate_value}}
 use Rattle.join_tests.proofs.Slotting.{kept_timeless, kept_slotted}
 use Rattle.join_tests.proofs.keyed.KeyedPattern.candidate_value.Goals as goal
 

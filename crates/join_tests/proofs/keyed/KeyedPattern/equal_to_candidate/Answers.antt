@@ -1,5 +1,4 @@
-use Rattle.join_tests.proofs.Common.{◌∙◌, sym, ap, List, map, Pattern, JoinKey, join_keys, candidate_part, as_one}
-use Rattle.join_tests.proofs.Counting.{are_none, of_candidate}
+use Rattle.join_tests.proofs.{Common.{◌∙◌, sym, ap, List, map, Pattern, JoinKey, join_keys, candidate_part, as_one}, Counting.{are_none, of_candidate}}
 use Rattle.join_tests.proofs.keyed.KeyedPattern.equal_to_candidate.Goals as goal
 
 pub returns-in-Nothing : goal.returns-in-Nothing

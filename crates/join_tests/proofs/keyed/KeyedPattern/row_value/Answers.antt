@@ -1,7 +1,5 @@
 use Rattle.join_tests.proofs.Common.{SFits, w64, rules, to_z-of_z, ◌∙◌, sym, ap, map, Pattern, join_keys, row_part, slot_value, moment_at_point, row_moment}
-use Rattle.join_tests.proofs.Common.{time_key}
-use Rattle.join_tests.specs.Kept.{row_value}
-use Rattle.join_tests.proofs.Slotting.{kept_timeless, kept_slotted}
+use Rattle.join_tests.{proofs.{Common.{time_key}, Slotting.{kept_timeless, kept_slotted}}, specs.Kept.{row_value}}
 use Rattle.join_tests.proofs.keyed.KeyedPattern.row_value.Goals as goal
 
 pub returns-in-None : goal.returns-in-None

@@ -1,8 +1,6 @@
 use Rattle.join_tests.proofs.Common.{SFits, w64, rules, to_z-of_z, ◌∙◌, sym, ap, List, [], ◌∷◌, map, Value, Pattern, join_keys, candidate_part, slot_value}
-use Rattle.join_tests.proofs.Common.{moment_at_point, candidate_moment, first_event, last_event, time_key, with_slot, once}
-use Rattle.join_tests.specs.Kept.{candidate_value, rows_sought}
-use Rattle.join_tests.proofs.Counting.{of_candidate}
-use Rattle.join_tests.proofs.Slotting.{kept_timeless, kept_slotted, sought_timeless, sought_slotted}
+use Rattle.join_tests.{proofs.Common.{moment_at_point, candidate_moment, first_event, last_event, time_key, with_slot, once}, specs.Kept.{candidate_value}}
+use Rattle.join_tests.{specs.Kept.{rows_sought}, proofs.{Counting.{of_candidate}, Slotting.{kept_timeless, kept_slotted, sought_timeless, sought_slotted}}}
 use Rattle.join_tests.proofs.keyed.KeyedPattern.sight.Goals as goal
 
 pub returns-in-None-clause-own : goal.returns-in-None-clause-own

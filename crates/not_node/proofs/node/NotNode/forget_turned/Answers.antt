@@ -1,6 +1,5 @@
 use Rattle.not_node.proofs.Common.{◌≡◌, ◌∙◌, sym, ap, subst, List, [], to_z-of_z, SFits, w128, Row, has, LeadsRows, IsDifference, Pattern, moment_at, unblocked}
-use Rattle.not_node.proofs.Common.{not_rows, AwaitsMoments, ripe, later}
-use Rattle.not_node.proofs.Lawful.{none_comes, later_same}
+use Rattle.not_node.proofs.{Common.{not_rows, AwaitsMoments, ripe, later}, Lawful.{none_comes, later_same}}
 use Rattle.not_node.proofs.node.NotNode.forget_turned.Goals as goal
 
 pub returns-clause-floor : goal.returns-clause-floor

@@ -1,5 +1,4 @@
-use Rattle.not_node.proofs.Common.{◌∙◌, sym, ap, int_lt, not, ◌&&◌, left_at, moment_at, is_that_moment, no_names}
-use Rattle.not_node.proofs.Lawful.{none_shown}
+use Rattle.not_node.proofs.{Common.{◌∙◌, sym, ap, int_lt, not, ◌&&◌, left_at, moment_at, is_that_moment, no_names}, Lawful.{none_shown}}
 use Rattle.not_node.proofs.node.NotNode.new.Goals as goal
 
 pub returns-clause-in_step : goal.returns-clause-in_step

@@ -1,5 +1,4 @@
-use Rattle.not_node.proofs.Common.{SFits, to_z-of_z, ◌∙◌, sym, ap, w128, moment_at, waits, mature}
-use Rattle.not_node.proofs.Pairs.{added, ripe_added}
+use Rattle.not_node.proofs.{Common.{SFits, to_z-of_z, ◌∙◌, sym, ap, w128, moment_at, waits, mature}, Pairs.{added, ripe_added}}
 use Rattle.not_node.proofs.ripening.Ripening.add_row.Goals as goal
 
 pub returns-in_ok-insert-in-Some : goal.returns-in_ok-insert-in-Some

@@ -1,6 +1,5 @@
 use Rattle.not_node.proofs.Common.{to_z, of_z, ◌∙◌, ap, not, ◌&&◌, ◌||◌, take, int_lt, w128, eq_by_cmp, row_cmp, has, rows_more, moment_at, waits}
-use Rattle.not_node.proofs.Common.{is_that_moment}
-use Rattle.not_node.proofs.Pairs.{add_more}
+use Rattle.not_node.proofs.{Common.{is_that_moment}, Pairs.{add_more}}
 use Rattle.not_node.proofs.ripening.Ripening.add_rows.Goals as goal
 
 pub loop-row-preserved : goal.loop-row-preserved

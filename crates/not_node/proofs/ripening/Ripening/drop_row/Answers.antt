@@ -1,5 +1,4 @@
-use Rattle.not_node.proofs.Common.{SFits, to_z-of_z, ◌∙◌, sym, w128, moment_at, waits}
-use Rattle.not_node.proofs.Pairs.{dropped, not_dropped}
+use Rattle.not_node.proofs.{Common.{SFits, to_z-of_z, ◌∙◌, sym, w128, moment_at, waits}, Pairs.{dropped, not_dropped}}
 use Rattle.not_node.proofs.ripening.Ripening.drop_row.Goals as goal
 
 pub returns-in_ok-copy-in-Some : goal.returns-in_ok-copy-in-Some

@@ -1,5 +1,4 @@
-use Rattle.not_node.proofs.Common.{◌∙◌, ap, not, ◌&&◌, take, eq_by_cmp, row_cmp, has, rows_more, moment_at, waits, is_that_moment}
-use Rattle.not_node.proofs.Pairs.{drop_more}
+use Rattle.not_node.proofs.{Common.{◌∙◌, ap, not, ◌&&◌, take, eq_by_cmp, row_cmp, has, rows_more, moment_at, waits, is_that_moment}, Pairs.{drop_more}}
 use Rattle.not_node.proofs.ripening.Ripening.drop_rows.Goals as goal
 
 pub loop-row-preserved : goal.loop-row-preserved

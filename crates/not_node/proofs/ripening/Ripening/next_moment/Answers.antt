@@ -1,5 +1,4 @@
-use Rattle.not_node.proofs.Common.{◌≡◌, sym, subst, true, false, int_lt, ℤ, arith, SFits, to_z, of_z, ints, w128, waits}
-use Rattle.not_node.proofs.Pairs.{first_over}
+use Rattle.not_node.proofs.{Common.{◌≡◌, sym, subst, true, false, int_lt, ℤ, arith, SFits, to_z, of_z, ints, w128, waits}, Pairs.{first_over}}
 use Rattle.not_node.proofs.ripening.Ripening.next_moment.Goals as goal
 
 pub returns-in-Some-clause-waits : goal.returns-in-Some-clause-waits

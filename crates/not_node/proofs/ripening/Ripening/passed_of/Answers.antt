@@ -1,5 +1,4 @@
-use Rattle.not_node.proofs.Common.{◌∙◌, ap, not, ◌&&◌, take, has, rows_more, moment_at, waits_at}
-use Rattle.not_node.proofs.Pairs.{one_kept}
+use Rattle.not_node.proofs.{Common.{◌∙◌, ap, not, ◌&&◌, take, has, rows_more, moment_at, waits_at}, Pairs.{one_kept}}
 use Rattle.not_node.proofs.ripening.Ripening.passed_of.Goals as goal
 
 pub loop-row-preserved : goal.loop-row-preserved

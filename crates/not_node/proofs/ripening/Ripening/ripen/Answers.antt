@@ -1,5 +1,4 @@
-use Rattle.not_node.proofs.Common.{◌∙◌, to_z, of_z, to_z-of_z, w128}
-use Rattle.not_node.proofs.Pairs.{sub_turn, low_turn, found_turned, all_found}
+use Rattle.not_node.proofs.{Common.{◌∙◌, to_z, of_z, to_z-of_z, w128}, Pairs.{sub_turn, low_turn, found_turned, all_found}}
 use Rattle.not_node.proofs.ripening.Ripening.ripen.Goals as goal
 
 pub due-preserved : goal.due-preserved

@@ -1,5 +1,4 @@
-use Rattle.not_node.proofs.Common.{◌∙◌, sym, ap, not, to_z-of_z, waits, below}
-use Rattle.not_node.proofs.Pairs.{first_out}
+use Rattle.not_node.proofs.{Common.{◌∙◌, sym, ap, not, to_z-of_z, waits, below}, Pairs.{first_out}}
 use Rattle.not_node.proofs.ripening.Ripening.take_due.Goals as goal
 
 pub returns-in_err-pair-clause-above : goal.returns-in_err-pair-clause-above

@@ -1,5 +1,4 @@
-use Rattle.not_node.proofs.Common.{◌∙◌, sym, SFits, to_z-of_z, w128, moment_at}
-use Rattle.not_node.proofs.Pairs.{asked}
+use Rattle.not_node.proofs.{Common.{◌∙◌, sym, SFits, to_z-of_z, w128, moment_at}, Pairs.{asked}}
 use Rattle.not_node.proofs.ripening.Ripening.waits.Goals as goal
 
 pub returns-in_ok-copy-in-Some : goal.returns-in_ok-copy-in-Some

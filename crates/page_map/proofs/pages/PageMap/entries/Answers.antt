@@ -1,7 +1,6 @@
 use Rattle.page_map.proofs.Common.{◌≡◌, ◌∙◌, sym, ap, subst, List, ℕ, among, IfOk}
 use Rattle.std.specs.FinMap as map
-use Rattle.page_map.proofs.Kept.{entries-numbers}
-use Rattle.page_map.proofs.Rows.{whole}
+use Rattle.page_map.proofs.{Kept.{entries-numbers}, Rows.{whole}}
 use Rattle.page_map.proofs.pages.PageMap.entries.Goals as goal
 
 pub returns : goal.returns

@@ -1,5 +1,4 @@
-use Rattle.page_map.proofs.Common.{◌∙◌, ap, List, [], ℕ, Directory, held}
-use Rattle.page_map.specs.Pages.{numbers_of}
+use Rattle.page_map.{proofs.Common.{◌∙◌, ap, List, [], ℕ, Directory, held}, specs.Pages.{numbers_of}}
 use Rattle.page_map.proofs.pages.PageMap.new.Goals as goal
 
 pub returns : goal.returns

@@ -1,8 +1,7 @@
 use Rattle.page_map.proofs.Common.{◌≡◌, ◌∙◌, sym, ap, ◌/◌, length, Some, None, set, rules, nat_cmp, is_at, held}
 use Rattle.std.specs.FinMap as map
-use Rattle.page_map.proofs.Kept.{rewritten, fewer_directories, remove_absent}
-use Rattle.page_map.proofs.Moved.{trimmed_same}
-use Rattle.page_map.proofs.Changes.{found, row_here, row_are, row_take, in_tree, tree_are, tree_take, last_are, last_take}
+use Rattle.page_map.proofs.{Kept.{rewritten, fewer_directories, remove_absent}, Moved.{trimmed_same}, Changes.{found, row_here, row_are, row_take, in_tree}}
+use Rattle.page_map.proofs.Changes.{tree_are, tree_take, last_are, last_take}
 use Rattle.page_map.proofs.pages.PageMap.remove.Goals as goal
 use Rattle.page_map.proofs.pages.PageMap.remove.Goals.{in-Some-1, in-None-1}
 

@@ -1,7 +1,7 @@
 use Rattle.page_map.proofs.Common.{◌≡◌, ◌∙◌, sym, ap, subst, ℕ, List, Some, None, arith, Directory, free, AreDirectoriesApart, held}
 use Rattle.std.specs.FinMap as map
-use Rattle.page_map.proofs.Kept.{on_some_weaker, if_none_weaker}
-use Rattle.page_map.proofs.Changes.{found, row_here, row_put, row_unchanged, in_tree, tree_are, tree_put, tree_unchanged}
+use Rattle.page_map.proofs.{Kept.{on_some_weaker, if_none_weaker}, Changes.{found, row_here, row_put, row_unchanged, in_tree, tree_are, tree_put}}
+use Rattle.page_map.proofs.Changes.{tree_unchanged}
 use Rattle.page_map.proofs.pages.PageMap.replace.Goals as goal
 use Rattle.page_map.proofs.pages.PageMap.replace.Goals.{in-Some-get_mut, in-None}
 

@@ -1,6 +1,5 @@
 use Rattle.page_map.proofs.Common.{◌≡◌, ◌∙◌, sym, ap, subst, ◌++◌, ◌*◌, ◌+◌, List, [], append_assoc, arith, length, All, deque_iter_rest, All-tail, Directory}
-use Rattle.page_map.proofs.Common.{ArePagesApart, entries_of, entries_by, numbered}
-use Rattle.page_map.proofs.Kept.{joined_pages}
+use Rattle.page_map.proofs.{Common.{ArePagesApart, entries_of, entries_by, numbered}, Kept.{joined_pages}}
 use Rattle.page_map.proofs.run.Run.add_row.Goals as goal
 
 pub loop-place-preserved : goal.loop-place-preserved

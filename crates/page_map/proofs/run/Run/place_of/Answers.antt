@@ -1,5 +1,4 @@
-use Rattle.page_map.proofs.Common.{arith}
-use Rattle.page_map.proofs.Rows.{none_before, none_behind}
+use Rattle.page_map.proofs.{Common.{arith}, Rows.{none_before, none_behind}}
 use Rattle.page_map.proofs.run.Run.place_of.Goals as goal
 
 pub returns-then-number-self-clause-none : goal.returns-then-number-self-clause-none

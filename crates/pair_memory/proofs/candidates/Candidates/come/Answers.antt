@@ -1,9 +1,7 @@
 use Rattle.pair_memory.proofs.Common.{◌∙◌, ap, refl, subst, sym, not, ◌&&◌, ◌||◌, List, take, take_all, get_or, is_some, same_value, at, Named, Row, name_cmp}
-use Rattle.pair_memory.proofs.Common.{eq_by_cmp, has}
-use Rattle.pair_memory.proofs.Common.{joins, joined, candidate_value, has_name, has_left, row_kept, has_candidate, beside, Pattern, IfSome, SeesRows, NamesCome}
-use Rattle.pair_memory.proofs.Joining.{none_right}
-use Rattle.pair_memory.proofs.Turning.{any_name}
-use Rattle.pair_memory.proofs.Sharing.{more_none, no_names_come, name_comes_too, under_more, names_made_too, none_came}
+use Rattle.pair_memory.proofs.Common.{eq_by_cmp, has, joins, joined, candidate_value, has_name, has_left, row_kept, has_candidate, beside, Pattern, IfSome}
+use Rattle.pair_memory.proofs.{Common.{SeesRows, NamesCome}, Joining.{none_right}, Turning.{any_name}, Sharing.{more_none, no_names_come, name_comes_too}}
+use Rattle.pair_memory.proofs.Sharing.{under_more, names_made_too, none_came}
 use Rattle.pair_memory.proofs.candidates.Candidates.come.Goals as goal
 
 pub loop-who-init : goal.loop-who-init

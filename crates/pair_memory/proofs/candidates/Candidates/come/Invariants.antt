@@ -1,6 +1,5 @@
 use Rattle.pair_memory.proofs.Common.{◌≡◌, ◌&&◌, ◌||◌, not, take, is_some, Value, same_value, at, Named, Row, name_cmp, has, joins, joined, candidate_value}
-use Rattle.pair_memory.proofs.Common.{has_name, has_left}
-use Rattle.pair_memory.proofs.Common.{has_candidate, beside, NamesCome}
+use Rattle.pair_memory.proofs.Common.{has_name, has_left, has_candidate, beside, NamesCome}
 use Rattle.pair_memory.proofs.candidates.Candidates.come.Given as goal
 
 abbrev pub invariant-loop-who : goal.invariant-loop-who

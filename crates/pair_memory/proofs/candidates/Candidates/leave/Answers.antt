@@ -1,9 +1,6 @@
 use Rattle.pair_memory.proofs.Common.{◌∙◌, ap, refl, subst, sym, ◌&&◌, List, take_all, is_some, Named, Row, name_cmp, eq_by_cmp, has, joins, joined, has_name}
-use Rattle.pair_memory.proofs.Common.{has_left, row_kept}
-use Rattle.pair_memory.proofs.Common.{has_candidate, beside, get_or, Pattern, IfSome, SeesRows, NamesLeave}
-use Rattle.pair_memory.proofs.Joining.{none_right}
-use Rattle.pair_memory.proofs.Turning.{any_name}
-use Rattle.pair_memory.proofs.Sharing.{no_names_leave, name_leaves_too, names_made_too}
+use Rattle.pair_memory.proofs.{Common.{has_left, row_kept, has_candidate, beside, get_or, Pattern, IfSome, SeesRows, NamesLeave}, Joining.{none_right}}
+use Rattle.pair_memory.proofs.{Turning.{any_name}, Sharing.{no_names_leave, name_leaves_too, names_made_too}}
 use Rattle.pair_memory.proofs.candidates.Candidates.leave.Goals as goal
 
 pub loop-who-init : goal.loop-who-init

@@ -1,6 +1,5 @@
 use Rattle.pair_memory.proofs.Common.{◌≡◌, ◌&&◌, true, take, is_some, Value, same_value, at, Named, Row, name_cmp, has, joins, joined, has_name, has_left}
-use Rattle.pair_memory.proofs.Common.{has_candidate, beside}
-use Rattle.pair_memory.proofs.Common.{NamesLeave}
+use Rattle.pair_memory.proofs.Common.{has_candidate, beside, NamesLeave}
 use Rattle.pair_memory.proofs.candidates.Candidates.leave.Given as goal
 
 abbrev pub invariant-loop-who : goal.invariant-loop-who

@@ -1,6 +1,4 @@
-use Rattle.pair_memory.proofs.Common.{◌∙◌, sym, ap, List, refl, Row, has, joins, has_candidate}
-use Rattle.pair_memory.proofs.Joining.{none_left}
-use Rattle.pair_memory.proofs.Sharing.{rows_made_too}
+use Rattle.pair_memory.proofs.{Common.{◌∙◌, sym, ap, List, refl, Row, has, joins, has_candidate}, Joining.{none_left}, Sharing.{rows_made_too}}
 use Rattle.pair_memory.proofs.candidates.Candidates.with_rows.Goals as goal
 
 pub loop-row-init : goal.loop-row-init

@@ -1,8 +1,6 @@
 use Rattle.pair_memory.proofs.Common.{◌∙◌, sym, ap, List, ◌&&◌, is_some, eq_by_cmp, Value, JoinIndex, name_cmp, Row, has, joins, joined, row_kept, has_left}
-use Rattle.pair_memory.proofs.Common.{beside}
-use Rattle.pair_memory.proofs.Common.{IfOk-weaker, subst, Option, IfSome, SeesRows}
+use Rattle.pair_memory.proofs.{Common.{beside, IfOk-weaker, subst, Option, IfSome, SeesRows}, Sharing.{one_made, none_made}}
 use Rattle.join_tests.specs.declared.sought.Sight.{Sight}
-use Rattle.pair_memory.proofs.Sharing.{one_made, none_made}
 use Rattle.pair_memory.proofs.candidates.Candidates.with_sight.Goals as goal
 
 pub returns-in-Some : goal.returns-in-Some

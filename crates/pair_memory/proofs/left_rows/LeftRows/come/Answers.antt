@@ -1,7 +1,5 @@
 use Rattle.pair_memory.proofs.Common.{◌∙◌, ap, refl, subst, not, ◌&&◌, List, take, take_all, eq_by_cmp, Row, row_cmp, has, same_equiv, has_row, RowsCome}
-use Rattle.pair_memory.proofs.Joining.{row_decides}
-use Rattle.pair_memory.proofs.Turning.{more_more}
-use Rattle.pair_memory.proofs.Sharing.{more_none, no_rows_come, row_comes_too, went_more, none_came}
+use Rattle.pair_memory.proofs.{Joining.{row_decides}, Turning.{more_more}, Sharing.{more_none, no_rows_come, row_comes_too, went_more, none_came}}
 use Rattle.pair_memory.proofs.left_rows.LeftRows.come.Goals as goal
 
 pub loop-row-init : goal.loop-row-init

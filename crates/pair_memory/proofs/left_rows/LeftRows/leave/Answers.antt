@@ -1,7 +1,5 @@
 use Rattle.pair_memory.proofs.Common.{◌∙◌, ap, refl, subst, ◌&&◌, List, take_all, eq_by_cmp, Row, row_cmp, has, same_equiv, has_row, RowsLeave}
-use Rattle.pair_memory.proofs.Joining.{row_decides}
-use Rattle.pair_memory.proofs.Turning.{less_more}
-use Rattle.pair_memory.proofs.Sharing.{less_none, no_rows_leave, row_leaves_too, went_more}
+use Rattle.pair_memory.proofs.{Joining.{row_decides}, Turning.{less_more}, Sharing.{less_none, no_rows_leave, row_leaves_too, went_more}}
 use Rattle.pair_memory.proofs.left_rows.LeftRows.leave.Goals as goal
 
 pub loop-row-init : goal.loop-row-init

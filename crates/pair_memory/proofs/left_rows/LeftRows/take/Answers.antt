@@ -1,8 +1,6 @@
-use Rattle.pair_memory.proofs.Common.{◌∙◌, ap, None, is_some, eq_by_cmp, same_value, at, row_cmp, beside}
+use Rattle.pair_memory.proofs.{Common.{◌∙◌, ap, None, is_some, eq_by_cmp, same_value, at, row_cmp, beside}, Keeping.{left_keeps, some_taken, at_changed}}
+use Rattle.pair_memory.proofs.{Joining.{row_decides}, Sharing.{value_beside}}
 use Rattle.join_tests.specs.RowKeys.{value_by}
-use Rattle.pair_memory.proofs.Keeping.{left_keeps, some_taken, at_changed}
-use Rattle.pair_memory.proofs.Joining.{row_decides}
-use Rattle.pair_memory.proofs.Sharing.{value_beside}
 use Rattle.pair_memory.proofs.left_rows.LeftRows.take.Goals as goal
 
 pub returns-clause-keeps : goal.returns-clause-keeps

@@ -1,5 +1,4 @@
-use Rattle.pair_memory.proofs.Common.{◌∙◌, sym, ap, Some, is_some, eq_by_cmp, row_cmp, same_value, at, has_left}
-use Rattle.pair_memory.proofs.Joining.{row_decides}
+use Rattle.pair_memory.proofs.{Common.{◌∙◌, sym, ap, Some, is_some, eq_by_cmp, row_cmp, same_value, at, has_left}, Joining.{row_decides}}
 use Rattle.pair_memory.proofs.Keeping.{left_changed, left_keeps, some_exchanged}
 use Rattle.pair_memory.proofs.memories.Memories.exchange_left.Goals as goal
 

@@ -1,9 +1,6 @@
-use Rattle.pair_memory.proofs.Common.{◌≡◌, ◌∙◌, sym, ap, rules, List, Row, has, map-id, Option, Some, None, Look, has_left, Agrees}
-use Rattle.std.proofs.lemmas.Iterator.{items_from_drains}
-use Rattle.std.proofs.lemmas.Iterator.Adapters.{YieldsList-from_vec}
-use Rattle.pair_memory.proofs.Listing.{keys_kept, RowsAgree}
-use Rattle.pair_memory.specs.declared.candidates.Candidates.{Candidates}
-use Rattle.pair_memory.specs.Shared.{over}
+use Rattle.pair_memory.proofs.{Common.{◌≡◌, ◌∙◌, sym, ap, rules, List, Row, has, map-id, Option, Some, None, Look, has_left, Agrees}, Listing.{keys_kept}}
+use Rattle.pair_memory.{proofs.Listing.{RowsAgree}, specs.{declared.candidates.Candidates.{Candidates}, Shared.{over}}}
+use Rattle.std.proofs.lemmas.Iterator.{items_from_drains, Adapters.{YieldsList-from_vec}}
 use Rattle.pair_memory.proofs.memories.Memories.left_rows.Goals as goal
 use Rattle.pair_memory.proofs.memories.Memories.left_rows.Goals.{In_ok-collect}
 

@@ -1,7 +1,6 @@
-use Rattle.pair_memory.proofs.Common.{◌∙◌, sym, ap, ◌∷◌, IfOk-weaker, Option, Value, option_map}
+use Rattle.pair_memory.proofs.{Common.{◌∙◌, sym, ap, ◌∷◌, IfOk-weaker, Option, Value, option_map}, Found.{partners_alone, partners_both}}
 use Rattle.std.proofs.Common.{Bor}
 use Rattle.join_tests.specs.Kept.{one_or_none}
-use Rattle.pair_memory.proofs.Found.{partners_alone, partners_both}
 use Rattle.pair_memory.proofs.memories.Memories.partners.Goals as goal
 
 pub returns-in-None-clause-rows : goal.returns-in-None-clause-rows

@@ -1,5 +1,4 @@
-use Rattle.pair_memory.proofs.Common.{row_cmp}
-use Rattle.pair_memory.proofs.Found.{nothing_sorted}
+use Rattle.pair_memory.proofs.{Common.{row_cmp}, Found.{nothing_sorted}}
 use Rattle.pair_memory.proofs.memories.Memories.partners_under.Goals as goal
 
 pub returns-in-None-clause-in_order : goal.returns-in-None-clause-in_order

@@ -1,6 +1,5 @@
 use Rattle.pair_memory.proofs.Common.{◌∙◌, ◌&&◌, sym, ap, [], ◌∷◌, IfOk-weaker, JoinIndex, Named, Value, all_sought, joins, name_kept, option_map}
-use Rattle.pair_memory.proofs.Found.{passing_alone, passing_both}
-use Rattle.pair_memory.proofs.Sharing.{kept_over}
+use Rattle.pair_memory.proofs.{Found.{passing_alone, passing_both}, Sharing.{kept_over}}
 use Rattle.pair_memory.proofs.memories.Memories.passing_over.Goals as goal
 
 pub returns-in-One-clause-names : goal.returns-in-One-clause-names

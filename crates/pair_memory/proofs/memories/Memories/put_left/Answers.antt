@@ -1,5 +1,4 @@
-use Rattle.pair_memory.proofs.Common.{◌∙◌, Some, eq_by_cmp, row_cmp}
-use Rattle.pair_memory.proofs.Keeping.{left_changed, left_keeps, some_put}
+use Rattle.pair_memory.proofs.{Common.{◌∙◌, Some, eq_by_cmp, row_cmp}, Keeping.{left_changed, left_keeps, some_put}}
 use Rattle.pair_memory.proofs.memories.Memories.put_left.Goals as goal
 
 pub returns-clause-left : goal.returns-clause-left

@@ -1,5 +1,5 @@
-use Rattle.pair_memory.proofs.Common.{◌∙◌, ap, not, Option, Some, is_some, eq_by_cmp, Value, same_value, at, name_cmp, SeesRows}
-use Rattle.pair_memory.proofs.Keeping.{right_keeps, some_put, some_if, if_some, none_if}
+use Rattle.pair_memory.proofs.{Common.{◌∙◌, ap, not, Option, Some, is_some, eq_by_cmp, Value, same_value, at, name_cmp, SeesRows}, Keeping.{right_keeps}}
+use Rattle.pair_memory.proofs.Keeping.{some_put, some_if, if_some, none_if}
 use Rattle.pair_memory.proofs.memories.Memories.put_right.Goals as goal
 
 pub returns-clause-keeps : goal.returns-clause-keeps

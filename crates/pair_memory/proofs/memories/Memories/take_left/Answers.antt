@@ -1,5 +1,4 @@
-use Rattle.pair_memory.proofs.Common.{◌∙◌, None, eq_by_cmp, row_cmp}
-use Rattle.pair_memory.proofs.Keeping.{left_changed, left_keeps, some_taken}
+use Rattle.pair_memory.proofs.{Common.{◌∙◌, None, eq_by_cmp, row_cmp}, Keeping.{left_changed, left_keeps, some_taken}}
 use Rattle.pair_memory.proofs.memories.Memories.take_left.Goals as goal
 
 pub returns-clause-left : goal.returns-clause-left

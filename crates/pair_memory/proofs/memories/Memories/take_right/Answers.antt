@@ -1,5 +1,5 @@
-use Rattle.pair_memory.proofs.Common.{◌∙◌, ap, None, is_some, eq_by_cmp, Value, same_value, at, name_cmp, SeesRows}
-use Rattle.pair_memory.proofs.Keeping.{right_keeps, some_taken, some_if, if_some}
+use Rattle.pair_memory.proofs.{Common.{◌∙◌, ap, None, is_some, eq_by_cmp, Value, same_value, at, name_cmp, SeesRows}, Keeping.{right_keeps, some_taken}}
+use Rattle.pair_memory.proofs.Keeping.{some_if, if_some}
 use Rattle.pair_memory.proofs.memories.Memories.take_right.Goals as goal
 
 pub returns-clause-keeps : goal.returns-clause-keeps

@@ -1,5 +1,4 @@
-use Rattle.pattern_gate.proofs.Common.{option_map, Bor, to_z-of_z, Fact, lent}
-use Rattle.pattern_gate.proofs.Moving.{gate_stands, candidates_differ}
+use Rattle.pattern_gate.proofs.{Common.{option_map, Bor, to_z-of_z, Fact, lent}, Moving.{gate_stands, candidates_differ}}
 use Rattle.pattern_gate.proofs.gate.PatternGate.advance.Goals as goal
 
 pub returns-clause-stands : goal.returns-clause-stands

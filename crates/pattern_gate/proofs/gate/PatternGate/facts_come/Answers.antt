@@ -1,5 +1,5 @@
-use Rattle.pattern_gate.proofs.Common.{◌∙◌, length, drop, ◌≤◌, arith, to_z-of_z, lent, more_facts, LetsAllCome, ReachesArrivals}
-use Rattle.pattern_gate.proofs.Turning.{IsExpected, one_comes, all_came}
+use Rattle.pattern_gate.proofs.{Common.{◌∙◌, length, drop, ◌≤◌, arith, to_z-of_z, lent, more_facts, LetsAllCome, ReachesArrivals}, Turning.{IsExpected}}
+use Rattle.pattern_gate.proofs.Turning.{one_comes, all_came}
 use Rattle.pattern_gate.proofs.gate.PatternGate.facts_come.Goals as goal
 
 pub loop-fact-preserved : goal.loop-fact-preserved

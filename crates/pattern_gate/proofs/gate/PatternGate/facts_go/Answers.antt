@@ -1,5 +1,5 @@
-use Rattle.pattern_gate.proofs.Common.{◌∙◌, length, drop, ◌≤◌, arith, to_z-of_z, lent, less_facts, LetsAllGo, ReachesArrivals}
-use Rattle.pattern_gate.proofs.Turning.{IsLeft, one_goes, all_went}
+use Rattle.pattern_gate.proofs.{Common.{◌∙◌, length, drop, ◌≤◌, arith, to_z-of_z, lent, less_facts, LetsAllGo, ReachesArrivals}, Turning.{IsLeft, one_goes}}
+use Rattle.pattern_gate.proofs.Turning.{all_went}
 use Rattle.pattern_gate.proofs.gate.PatternGate.facts_go.Goals as goal
 
 pub loop-fact-preserved : goal.loop-fact-preserved

@@ -1,6 +1,5 @@
 use Rattle.pattern_gate.proofs.Common.{◌≡◌, ◌∙◌, sym, subst, ℤ, ◌<ℤ◌, true, false, IfSome, option_map, Bor, to_z-of_z, Fact, lent, arrivals, not-false}
-use Rattle.pattern_gate.proofs.Common.{not-true}
-use Rattle.pattern_gate.proofs.Moving.{same_arrivals, stands_still, same_candidates, leaves_by}
+use Rattle.pattern_gate.proofs.{Common.{not-true}, Moving.{same_arrivals, stands_still, same_candidates, leaves_by}}
 use Rattle.pattern_gate.proofs.gate.PatternGate.is_still.Goals as goal
 
 pub returns-then-is_before-clause-meant : goal.returns-then-is_before-clause-meant

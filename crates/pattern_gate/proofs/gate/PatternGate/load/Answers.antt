@@ -1,7 +1,5 @@
 use Rattle.pattern_gate.proofs.Common.{◌∙◌, [], to_z-of_z, has, lent, no_rows, rows_inside, PatternGate, window_kind_of, more_facts, LetsAllCome}
-use Rattle.pattern_gate.proofs.Common.{ReachesArrivals}
-use Rattle.pattern_gate.proofs.Moving.{all_may_come, stands_for_all, candidates_come}
-use Rattle.pattern_gate.proofs.Turning.{reaches_nothing}
+use Rattle.pattern_gate.proofs.{Common.{ReachesArrivals}, Moving.{all_may_come, stands_for_all, candidates_come}, Turning.{reaches_nothing}}
 use Rattle.pattern_gate.proofs.gate.PatternGate.load.Goals as goal
 
 -- all facts have come

@@ -1,5 +1,4 @@
-use Rattle.pattern_gate.proofs.Common.{arrivals, at_clock}
-use Rattle.pattern_gate.proofs.Moving.{arrivals_still, stands_still, same_candidates, candidate_leaves}
+use Rattle.pattern_gate.proofs.{Common.{arrivals, at_clock}, Moving.{arrivals_still, stands_still, same_candidates, candidate_leaves}}
 use Rattle.pattern_gate.proofs.gate.PatternGate.quiet_until.Goals as goal
 
 pub returns-clause-stands : goal.returns-clause-stands

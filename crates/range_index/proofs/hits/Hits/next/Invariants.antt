@@ -1,6 +1,5 @@
 use Rattle.std.proofs.Common.{◌≡◌, length}
-use Rattle.range_index.specs.Nodes.{leaves, AreBlocks}
-use Rattle.range_index.specs.Ranges.{places_with}
+use Rattle.range_index.specs.{Nodes.{leaves, AreBlocks}, Ranges.{places_with}}
 use Rattle.range_index.proofs.hits.Hits.next.Given as goal
 
 abbrev pub invariant-loop-self : goal.invariant-loop-self

@@ -1,5 +1,4 @@
-use Rattle.rete_net.proofs.Common.{◌∙◌, ap, sym, inr, tests_hold, unbound, on_ok_weaker}
-use Rattle.rete_net.proofs.Ranged.{meant_parts, looked_up_still}
+use Rattle.rete_net.proofs.{Common.{◌∙◌, ap, sym, inr, tests_hold, unbound, on_ok_weaker}, Ranged.{meant_parts, looked_up_still}}
 use Rattle.rete_net.proofs.alpha_index.AlphaIndex.put.Goals as goal
 
 pub returns-in-Some-range_of-clause-asked : goal.returns-in-Some-range_of-clause-asked

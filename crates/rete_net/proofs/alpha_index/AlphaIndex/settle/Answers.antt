@@ -1,5 +1,4 @@
-use Rattle.rete_net.proofs.Common.{on_ok_weaker}
-use Rattle.rete_net.proofs.Ranged.{looked_up_still}
+use Rattle.rete_net.proofs.{Common.{on_ok_weaker}, Ranged.{looked_up_still}}
 use Rattle.rete_net.proofs.alpha_index.AlphaIndex.settle.Goals as goal
 
 pub returns : goal.returns

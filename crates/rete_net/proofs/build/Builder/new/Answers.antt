@@ -1,5 +1,4 @@
-use Rattle.rete_net.proofs.Common.{sym, subst, List, [], AreOwnedSoFar, Owner}
-use Rattle.rete_net.proofs.Owning.{none_owned}
+use Rattle.rete_net.proofs.{Common.{sym, subst, List, [], AreOwnedSoFar, Owner}, Owning.{none_owned}}
 use Rattle.rete_net.proofs.build.Builder.new.Goals as goal
 
 pub returns-clause-owned : goal.returns-clause-owned

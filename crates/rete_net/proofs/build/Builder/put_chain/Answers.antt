@@ -1,7 +1,6 @@
 use Rattle.rete_net.proofs.Common.{◌≡◌, ◌∙◌, sym, ap, subst, refl, List, [], ◌∷◌, Some, slice_get, take, ◌+◌, ◌<◌, length, arith, ◌++◌, append-nil, get_or}
 use Rattle.rete_net.proofs.Common.{append_assoc, take_more, take_all, RuleId, Condition, in_place, AreGrown, IsParentNode, AreOwnedSoFar, PutsOwner}
-use Rattle.rete_net.proofs.Growing.{chain_more}
-use Rattle.rete_net.proofs.Owning.{begins_rule, owned_put}
+use Rattle.rete_net.proofs.{Growing.{chain_more}, Owning.{begins_rule, owned_put}}
 use Rattle.rete_net.proofs.build.Builder.put_chain.Goals as goal
 
 pub loop-condition-init : goal.loop-condition-init

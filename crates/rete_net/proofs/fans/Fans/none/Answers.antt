@@ -1,5 +1,4 @@
-use Rattle.rete_net.proofs.Common.{◌∙◌, ap, ◌+◌, ◌∷◌, [], None, Option, List, length, length-append, Seat, seat_at}
-use Rattle.rete_net.proofs.Seated.{none_more}
+use Rattle.rete_net.proofs.{Common.{◌∙◌, ap, ◌+◌, ◌∷◌, [], None, Option, List, length, length-append, Seat, seat_at}, Seated.{none_more}}
 use Rattle.rete_net.proofs.fans.Fans.none.Goals as goal
 
 pub loop-place-preserved : goal.loop-place-preserved

@@ -1,5 +1,4 @@
-use Rattle.rete_net.proofs.Common.{refl, subst, AreLoneFound}
-use Rattle.rete_net.proofs.Seated.{all_grown, none_grow}
+use Rattle.rete_net.proofs.{Common.{refl, subst, AreLoneFound}, Seated.{all_grown, none_grow}}
 use Rattle.rete_net.proofs.fans.Fans.of.Goals as goal
 
 pub loop-parent-init : goal.loop-parent-init

@@ -1,5 +1,4 @@
-use Rattle.rete_net.proofs.Common.{◌≡◌, ◌∙◌, sym, ap, refl, subst, ℕ, ◌++◌, ◌∷◌, [], length, AreGrowing}
-use Rattle.rete_net.proofs.Seated.{grows_not, grows_on, span_grows}
+use Rattle.rete_net.proofs.{Common.{◌≡◌, ◌∙◌, sym, ap, refl, subst, ℕ, ◌++◌, ◌∷◌, [], length, AreGrowing}, Seated.{grows_not, grows_on, span_grows}}
 use Rattle.rete_net.proofs.fans.Fans.put_behind.Goals as goal
 
 pub loop-child-init : goal.loop-child-init

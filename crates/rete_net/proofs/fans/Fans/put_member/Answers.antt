@@ -1,5 +1,4 @@
-use Rattle.rete_net.proofs.Common.{◌≡◌, ◌∙◌, sym, ap, refl, ◌<◌, arith, length, ℕ, Some, slice_get, set, slice_get-get_or, Fan}
-use Rattle.rete_net.proofs.Seated.{member_grows}
+use Rattle.rete_net.proofs.{Common.{◌≡◌, ◌∙◌, sym, ap, refl, ◌<◌, arith, length, ℕ, Some, slice_get, set, slice_get-get_or, Fan}, Seated.{member_grows}}
 use Rattle.fx_base.proofs.Sequences.{one_value}
 use Rattle.rete_net.proofs.fans.Fans.put_member.Goals as goal
 

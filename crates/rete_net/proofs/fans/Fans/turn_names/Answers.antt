@@ -1,6 +1,5 @@
-use Rattle.rete_net.proofs.Common.{◌≡◌, ◌∙◌, sym, ap, refl, Some, slice_get, length-set, slice_get-get_or, slice_get_within}
-use Rattle.rete_net.proofs.Fanned.{each_like, names_like, names_others, names_turned}
-use Rattle.rete_net.proofs.Fanning.{laid_same}
+use Rattle.rete_net.proofs.{Common.{◌≡◌, ◌∙◌, sym, ap, refl, Some, slice_get, length-set, slice_get-get_or, slice_get_within}, Fanned.{each_like, names_like}}
+use Rattle.rete_net.proofs.{Fanned.{names_others, names_turned}, Fanning.{laid_same}}
 use Rattle.rete_net.proofs.fans.Fans.turn_names.Goals as goal
 
 pub returns : goal.returns

@@ -1,6 +1,5 @@
 use Rattle.rete_net.proofs.Common.{◌≡◌, ◌∙◌, sym, ap, refl, subst, ◌≤◌, ◌<◌, ◌||◌, arith, true, false, ℕ, List, slice_get, or-true, is_in, has_place, Span}
-use Rattle.rete_net.proofs.Common.{given_span}
-use Rattle.rete_net.proofs.Fanned.{all_turned, none_of, own_span, none_turned, none_yet, some_of, turned_more, IsTurnedTo}
+use Rattle.rete_net.proofs.{Common.{given_span}, Fanned.{all_turned, none_of, own_span, none_turned, none_yet, some_of, turned_more, IsTurnedTo}}
 use Rattle.rete_net.proofs.Fanning.{laid_same}
 use Rattle.rete_net.proofs.fans.Fans.turn_rows.Goals as goal
 

@@ -1,5 +1,4 @@
-use Rattle.rete_net.proofs.Common.{slice_get, given_span}
-use Rattle.rete_net.proofs.Fanned.{IsTurnedTo}
+use Rattle.rete_net.proofs.{Common.{slice_get, given_span}, Fanned.{IsTurnedTo}}
 use Rattle.rete_net.proofs.fans.Fans.turn_rows.Given as goal
 
 abbrev pub invariant-loop-fan : goal.invariant-loop-fan

@@ -1,9 +1,8 @@
-use Rattle.rete_net.proofs.Common.{◌≡◌, ◌∙◌, sym, ap, subst, ◌<◌, inl, inr, Some, slice_get, length, arith, ℕ, get_or, true, false, slice_get_within, slice_get-get_or}
-use Rattle.rete_net.proofs.Common.{NetNode, is_in, is_listed, IsNodeFound}
+use Rattle.rete_net.proofs.Common.{◌≡◌, ◌∙◌, sym, ap, subst, ◌<◌, inl, inr, Some, slice_get, length, arith, ℕ, get_or, true, false, slice_get_within}
+use Rattle.rete_net.proofs.Common.{slice_get-get_or, NetNode, is_in, is_listed, IsNodeFound}
 use Rattle.std.specs.Global.{Vec}
-use Rattle.fx_base.proofs.Sequences.{one_value}
+use Rattle.fx_base.proofs.{Sequences.{one_value}, Orders.{below_or_last}}
 use Rattle.candidate_source.specs.Sources.{is_follower}
-use Rattle.fx_base.proofs.Orders.{below_or_last}
 use Rattle.rete_net.proofs.index.Index.of.Goals as goal
 
 -- the node in the place of the loop

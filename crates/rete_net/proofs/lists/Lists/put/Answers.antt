@@ -1,5 +1,4 @@
-use Rattle.rete_net.proofs.Common.{◌≡◌, ◌∙◌, sym, ap, Some, slice_get, slice_get-get_or}
-use Rattle.rete_net.proofs.Listed.{put_here, put_kept}
+use Rattle.rete_net.proofs.{Common.{◌≡◌, ◌∙◌, sym, ap, Some, slice_get, slice_get-get_or}, Listed.{put_here, put_kept}}
 use Rattle.rete_net.proofs.lists.Lists.put.Goals as goal
 
 found : (c : goal.In_ok-push) → slice_get c.reach.new.self.lists.items c.args.number ≡ Some c.index_mut.result.now

@@ -1,14 +1,7 @@
 use Rattle.rete_net.proofs.Common.{Bool, length, option_map, lent, Named, Snapshot, NetStands, AreScheduled, no_change, NetStep, IsWired, member_at}
-use Rattle.rete_net.proofs.Common.{shown_nodes, AreFans, AreSources}
+use Rattle.rete_net.proofs.{Common.{shown_nodes, AreFans, AreSources}, Owning.{owned_again}, Fanning.{fans_again}, Fanwise.{wired_under}, Frames.{net_again}}
+use Rattle.rete_net.proofs.{Showing.{replaced_both}, Seen.{net_stands, net_between}, Turns.{settled}, net.Rete.advance.Given.{Over}}
 use Rattle.candidate_source.specs.Sources.{source_at}
-use Rattle.rete_net.proofs.Owning.{owned_again}
-use Rattle.rete_net.proofs.Fanning.{fans_again}
-use Rattle.rete_net.proofs.Fanwise.{wired_under}
-use Rattle.rete_net.proofs.Frames.{net_again}
-use Rattle.rete_net.proofs.Showing.{replaced_both}
-use Rattle.rete_net.proofs.Seen.{net_stands, net_between}
-use Rattle.rete_net.proofs.Turns.{settled}
-use Rattle.rete_net.proofs.net.Rete.advance.Given.{Over}
 use Rattle.rete_net.proofs.net.Rete.advance.Goals as goal
 
 -- the step of the nodes, at the moment that was given, where nothing comes to the first of them

@@ -1,12 +1,7 @@
 use Rattle.rete_net.proofs.Common.{[], None, get_or, refl, length, Moment, IsAt, empty_snapshot, empty_row_comes, NetStep, IsRunnable, IsWired, member_at}
-use Rattle.rete_net.proofs.Common.{shown_nodes}
+use Rattle.rete_net.proofs.{Common.{shown_nodes}, Starting.{no_facts, built_owned, built_shape, built_stands, built_net, built_between}, Owning.{owned_again}}
+use Rattle.rete_net.proofs.{Fanning.{fans_again}, Fanwise.{net_under, wired_under}, Showing.{replaced_both}, Turns.{settled}}
 use Rattle.candidate_source.specs.Sources.{source_at}
-use Rattle.rete_net.proofs.Starting.{no_facts, built_owned, built_shape, built_stands, built_net, built_between}
-use Rattle.rete_net.proofs.Owning.{owned_again}
-use Rattle.rete_net.proofs.Fanning.{fans_again}
-use Rattle.rete_net.proofs.Fanwise.{net_under, wired_under}
-use Rattle.rete_net.proofs.Showing.{replaced_both}
-use Rattle.rete_net.proofs.Turns.{settled}
 use Rattle.rete_net.proofs.net.Rete.build.Goals as goal
 
 -- the first step of the nodes, in which the empty row comes, at a moment where nothing is reached

@@ -1,12 +1,8 @@
 use Rattle.rete_net.proofs.Common.{◌≡◌, ◌∙◌, ap, sym, subst, ◌+◌, ◌<◌, ◌≤◌, arith, List, length, slice_get, Extra, HaveDistinctTags, held, rows_of, rows_named}
-use Rattle.rete_net.proofs.Common.{at_clock, rising, Condition, AreExtrasBeside, condition_of, node_moves, member_at, showing, shown_nodes, taking, Node, NodeStands}
-use Rattle.rete_net.proofs.Common.{before}
+use Rattle.rete_net.proofs.Common.{at_clock, rising, Condition, AreExtrasBeside, condition_of, node_moves, member_at, showing, shown_nodes, taking, Node}
+use Rattle.rete_net.proofs.{Common.{NodeStands, before}, Stillness.{taking_lends}, Counting.{AreFirst, none_first, one_more_first, all_of_them, beside_seen}}
+use Rattle.rete_net.proofs.{Counting.{same_before}, Seen.{at_hand_at}, Showing.{condition_shown, shown_at, shown_length}, Turning.{held_has}}
 use Rattle.candidate_source.specs.Sources.{source_at}
-use Rattle.rete_net.proofs.Stillness.{taking_lends}
-use Rattle.rete_net.proofs.Counting.{AreFirst, none_first, one_more_first, all_of_them, beside_seen, same_before}
-use Rattle.rete_net.proofs.Seen.{at_hand_at}
-use Rattle.rete_net.proofs.Showing.{condition_shown, shown_at, shown_length}
-use Rattle.rete_net.proofs.Turning.{held_has}
 use Rattle.fx_base.proofs.Sequences.{get-below}
 use Rattle.rete_net.proofs.net.Rete.extras.Goals as goal
 

@@ -1,5 +1,4 @@
-use Rattle.rete_net.proofs.Common.{Bool, Named, Program, Snapshot, HasAllOf, shown_nodes, NetStands}
-use Rattle.rete_net.proofs.Counting.{AreFirst}
+use Rattle.rete_net.proofs.{Common.{Bool, Named, Program, Snapshot, HasAllOf, shown_nodes, NetStands}, Counting.{AreFirst}}
 use Rattle.rete_net.proofs.net.Rete.extras.Given as goal
 
 abbrev pub invariant-loop-place : goal.invariant-loop-place

@@ -1,13 +1,7 @@
-use Rattle.rete_net.proofs.Common.{◌∙◌, sym, ap, subst, ℕ, List, length, has_name, AreRuled, AreListed, member_at, shown_nodes}
-use Rattle.candidate_source.specs.Sources.{is_other}
-use Rattle.candidate_source.proofs.Moving.{lead_alike}
-use Rattle.rete_net.proofs.Dropping.{net_forgets, rules_drop}
-use Rattle.rete_net.proofs.Owning.{owned_again}
-use Rattle.rete_net.proofs.Fanning.{fans_again}
-use Rattle.rete_net.proofs.Fanwise.{wired_under}
-use Rattle.rete_net.proofs.Frames.{index_again, net_again}
-use Rattle.rete_net.proofs.Showing.{replaced_both}
-use Rattle.rete_net.proofs.Sourced.{sources_again}
+use Rattle.rete_net.proofs.{Common.{◌∙◌, sym, ap, subst, ℕ, List, length, has_name, AreRuled, AreListed, member_at, shown_nodes}, Dropping.{net_forgets}}
+use Rattle.rete_net.proofs.{Dropping.{rules_drop}, Owning.{owned_again}, Fanning.{fans_again}, Fanwise.{wired_under}, Frames.{index_again, net_again}}
+use Rattle.rete_net.proofs.{Showing.{replaced_both}, Sourced.{sources_again}}
+use Rattle.candidate_source.{specs.Sources.{is_other}, proofs.Moving.{lead_alike}}
 use Rattle.rete_net.proofs.net.Rete.forget.Goals as goal
 
 pub returns-clause-stands : goal.returns-clause-stands

@@ -1,5 +1,4 @@
-use Rattle.rete_net.proofs.Common.{◌≡◌, subst, to_z, of_z, to_z-of_z, w64, IsTrue, IsBefore}
-use Rattle.rete_net.proofs.Seen.{fits_low, quiet_stands, quiet_rows}
+use Rattle.rete_net.proofs.{Common.{◌≡◌, subst, to_z, of_z, to_z-of_z, w64, IsTrue, IsBefore}, Seen.{fits_low, quiet_stands, quiet_rows}}
 use Rattle.rete_net.proofs.net.Rete.is_quiet.Goals as goal
 
 before_due : (c : goal.After-is_before) → IsTrue c.is_before.result → IsBefore c.args.self.now.quiet_until c.args.clock

@@ -1,17 +1,9 @@
 use Rattle.rete_net.proofs.Common.{◌≡◌, ◌∙◌, ap, subst, ℕ, ◌<◌, ◌^◌, length, List, Err, Some, slice_get, pos, ◌≤ℤ◌, In, Delta, lent, RuleChange, NoRow}
-use Rattle.rete_net.proofs.Common.{answer_in, AreRuled, changes_from, delta_at, no_change, member_at, member_of, shown_nodes}
-use Rattle.candidate_source.specs.Sources.{source_at}
-use Rattle.rete_net.proofs.Filling.{same_fault}
-use Rattle.rete_net.proofs.Fanning.{fans_again}
-use Rattle.rete_net.proofs.Fanwise.{net_under, wired_under}
-use Rattle.rete_net.proofs.Frames.{net_again}
-use Rattle.rete_net.proofs.Fresh.{fresh_each}
-use Rattle.rete_net.proofs.Showing.{replaced_both}
-use Rattle.rete_net.proofs.Sourced.{sources_again}
-use Rattle.rete_net.proofs.Stillness.{all_quiet}
-use Rattle.rete_net.proofs.Resumed.{loaded_stands}
-use Rattle.rete_net.proofs.Sharing.{extra_missing, extras_there, laden_changes}
+use Rattle.rete_net.proofs.{Common.{answer_in, AreRuled, changes_from, delta_at, no_change, member_at, member_of, shown_nodes}, Filling.{same_fault}}
+use Rattle.rete_net.proofs.{Fanning.{fans_again}, Fanwise.{net_under, wired_under}, Frames.{net_again}, Fresh.{fresh_each}, Showing.{replaced_both}}
+use Rattle.rete_net.proofs.{Sourced.{sources_again}, Stillness.{all_quiet}, Resumed.{loaded_stands}, Sharing.{extra_missing, extras_there, laden_changes}}
 use Rattle.rete_net.proofs.Starting.{built_shape, shape_owned}
+use Rattle.candidate_source.specs.Sources.{source_at}
 use Rattle.rete_net.proofs.net.Rete.load.Goals as goal
 
 pub returns-clause-net : goal.returns-clause-net

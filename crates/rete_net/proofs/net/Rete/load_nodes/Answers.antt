@@ -1,19 +1,11 @@
-use Rattle.rete_net.proofs.Common.{◌≡◌, ◌∙◌, sym, ap, refl, subst, ◌<◌, length, arith, List, [], Err, Option, Some, slice_get, slice_get-get_or, filter, Delta, Row}
-use Rattle.rete_net.proofs.Common.{ℤ, to_z, of_z, to_z-of_z, w64, SFits, slice_get_within, Bor, Vec, Fact, condition_of, pattern_of, seat_at}
-use Rattle.rete_net.proofs.Common.{lent, Owner, Index, NoRow, left_given, IsAnswerPut, AreFanRowsTurned, type_of, grouped_facts_at, is_fact_of_type}
-use Rattle.rete_net.proofs.Common.{empty_row_comes}
-use Rattle.candidate_source.proofs.Moving.{laid_then as sources_then}
-use Rattle.candidate_source.specs.declared.source.Source.{Source}
-use Rattle.candidate_source.specs.Doors.{source_pattern}
+use Rattle.rete_net.proofs.Common.{◌≡◌, ◌∙◌, sym, ap, refl, subst, ◌<◌, length, arith, List, [], Err, Option, Some, slice_get, slice_get-get_or, filter, Delta}
+use Rattle.rete_net.proofs.Common.{Row, ℤ, to_z, of_z, to_z-of_z, w64, SFits, slice_get_within, Bor, Vec, Fact, condition_of, pattern_of, seat_at, lent, Owner}
+use Rattle.rete_net.proofs.Common.{Index, NoRow, left_given, IsAnswerPut, AreFanRowsTurned, type_of, grouped_facts_at, is_fact_of_type, empty_row_comes}
+use Rattle.rete_net.{specs.Loads.{MayLoad}, proofs.{Filling.{same_fault}, Lading.{set_off, stuck_at, take_one, come_to_end, IsUnderWay}, Fanning.{laid_same}}}
+use Rattle.rete_net.proofs.{Fanning.{laid_then}, Rescheduled.{scheduled_below}, Sourced.{by_both}, Stocked.{has_loaded, may_load_alike}, Walking.{not_replaced}}
+use Rattle.rete_net.proofs.Walking.{replaced_more}
+use Rattle.candidate_source.{proofs.Moving.{laid_then as sources_then}, specs.{declared.source.Source.{Source}, Doors.{source_pattern}}}
 use Rattle.candidate_source.specs.Sources.{facts_of_type, source_at, IsLoadedWith}
-use Rattle.rete_net.specs.Loads.{MayLoad}
-use Rattle.rete_net.proofs.Filling.{same_fault}
-use Rattle.rete_net.proofs.Lading.{set_off, stuck_at, take_one, come_to_end, IsUnderWay}
-use Rattle.rete_net.proofs.Fanning.{laid_same, laid_then}
-use Rattle.rete_net.proofs.Rescheduled.{scheduled_below}
-use Rattle.rete_net.proofs.Sourced.{by_both}
-use Rattle.rete_net.proofs.Stocked.{has_loaded, may_load_alike}
-use Rattle.rete_net.proofs.Walking.{not_replaced, replaced_more}
 use Rattle.rete_net.proofs.net.Rete.load_nodes.Goals as goal
 
 pub loop-place-init : goal.loop-place-init

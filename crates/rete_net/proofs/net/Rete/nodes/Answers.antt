@@ -1,5 +1,4 @@
-use Rattle.rete_net.proofs.Common.{◌≡◌, length, sym, subst, rules, CountsFronts}
-use Rattle.rete_net.proofs.Counted.{counted}
+use Rattle.rete_net.proofs.{Common.{◌≡◌, length, sym, subst, rules, CountsFronts}, Counted.{counted}}
 use Rattle.rete_net.proofs.net.Rete.nodes.Goals as goal
 
 pub returns-clause-fronts : goal.returns-clause-fronts

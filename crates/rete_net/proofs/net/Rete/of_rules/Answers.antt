@@ -1,14 +1,9 @@
 use Rattle.rete_net.proofs.Common.{◌≡◌, ◌∙◌, sym, ap, refl, subst, ℕ, ◌+◌, ◌<◌, ◌≤◌, nat_le, arith, List, [], ◌∷◌, ◌++◌, length, length-append, Some, slice_get}
 use Rattle.rete_net.proofs.Common.{nat_tests, slice_get-get_or, unwrap_or, Condition, Rule, IsRunnable, has_conditions, has_windows, AreGrown, HaveEnds}
-use Rattle.rete_net.proofs.Common.{AreOwnedSoFar, NetNode, member_at, with_fans, AreFans, IsIndexOf, AreScheduled}
-use Rattle.std.proofs.lemmas.Bool.{and_parts}
-use Rattle.rete_net.proofs.Growing.{passes_at, ends_more}
-use Rattle.rete_net.proofs.Frames.{index_again}
-use Rattle.rete_net.proofs.Kinship.{are_sources}
-use Rattle.rete_net.proofs.Owning.{rule_owned}
-use Rattle.rete_net.specs.Sourcing.{AreSourcesBelow}
-use Rattle.rete_net.proofs.Seated.{built_shown}
+use Rattle.rete_net.proofs.{Common.{AreOwnedSoFar, NetNode, member_at, with_fans, AreFans, IsIndexOf, AreScheduled}, Growing.{passes_at, ends_more}}
+use Rattle.rete_net.{proofs.{Frames.{index_again}, Kinship.{are_sources}, Owning.{rule_owned}, Seated.{built_shown}}, specs.Sourcing.{AreSourcesBelow}}
 use Rattle.rete_net.proofs.Showing.{replaced_shown}
+use Rattle.std.proofs.lemmas.Bool.{and_parts}
 use Rattle.rete_net.proofs.net.Rete.of_rules.Goals as goal
 
 pub loop-rule-init : goal.loop-rule-init

@@ -1,5 +1,4 @@
-use Rattle.rete_net.proofs.Common.{◌≡◌, ◌∙◌, sym, Plain, condition_of}
-use Rattle.rete_net.proofs.Siblings.{given_some, none_beside}
+use Rattle.rete_net.proofs.{Common.{◌≡◌, ◌∙◌, sym, Plain, condition_of}, Siblings.{given_some, none_beside}}
 use Rattle.rete_net.proofs.node.NetNode.extras.Goals as goal
 
 pub returns-then-is_some : goal.returns-then-is_some

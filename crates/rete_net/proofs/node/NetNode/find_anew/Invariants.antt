@@ -1,5 +1,4 @@
-use Rattle.rete_net.proofs.Common.{[], take}
-use Rattle.rete_net.specs.Lending.{IsFoundAnew}
+use Rattle.rete_net.{proofs.Common.{[], take}, specs.Lending.{IsFoundAnew}}
 use Rattle.rete_net.proofs.node.NetNode.find_anew.Given as goal
 
 abbrev pub invariant-loop-row : goal.invariant-loop-row

@@ -1,5 +1,4 @@
-use Rattle.rete_net.proofs.Common.{refl, has_name, node_moves}
-use Rattle.rete_net.proofs.Forgets.{node_forgets}
+use Rattle.rete_net.proofs.{Common.{refl, has_name, node_moves}, Forgets.{node_forgets}}
 use Rattle.rete_net.proofs.node.NetNode.forget.Goals as goal
 
 pub returns : goal.returns

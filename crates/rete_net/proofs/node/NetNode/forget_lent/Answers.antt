@@ -1,8 +1,5 @@
-use Rattle.rete_net.proofs.Common.{◌∙◌, subst, [], Candidates}
-use Rattle.condition_node.proofs.Lending.{ForgetsFrom}
-use Rattle.condition_node.specs.Lending.{with_candidates}
-use Rattle.rete_net.specs.Lending.{IsFoundAnew}
-use Rattle.rete_net.proofs.Forgone.{turn_forgets}
+use Rattle.rete_net.{proofs.{Common.{◌∙◌, subst, [], Candidates}, Forgone.{turn_forgets}}, specs.Lending.{IsFoundAnew}}
+use Rattle.condition_node.{proofs.Lending.{ForgetsFrom}, specs.Lending.{with_candidates}}
 use Rattle.rete_net.proofs.node.NetNode.forget_lent.Goals as goal
 
 pub returns-clause-anew : goal.returns-clause-anew

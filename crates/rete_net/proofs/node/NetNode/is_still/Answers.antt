@@ -1,6 +1,5 @@
-use Rattle.rete_net.proofs.Common.{subst, to_z, of_z, to_z-of_z, w64, SFits, ◌≡◌, ℤ, lent, Pattern, pattern_of, condition_of}
+use Rattle.rete_net.proofs.{Common.{subst, to_z, of_z, to_z-of_z, w64, SFits, ◌≡◌, ℤ, lent, Pattern, pattern_of, condition_of}, Skipping.{GateStays, skipped}}
 use Rattle.std.proofs.Common.{option_map}
-use Rattle.rete_net.proofs.Skipping.{GateStays, skipped}
 use Rattle.rete_net.proofs.node.NetNode.is_still.Goals as goal
 
 pub returns-then-is_still : goal.returns-then-is_still

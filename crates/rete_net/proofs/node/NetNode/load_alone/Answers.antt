@@ -1,11 +1,6 @@
-use Rattle.rete_net.proofs.Common.{sym, ap, subst, Err, Option, None, Some, condition_of, pattern_of, NoRow}
-use Rattle.candidate_source.specs.declared.source.Source.{Source}
-use Rattle.candidate_source.specs.Lending.{with_source}
-use Rattle.candidate_source.specs.Sources.{source_at}
-use Rattle.rete_net.specs.Loads.{TurnLoads}
-use Rattle.rete_net.proofs.Filling.{same_fault}
-use Rattle.rete_net.proofs.Sourced.{lent_here, lent_none, lent_to_one}
-use Rattle.rete_net.proofs.Stocked.{may_load_none, may_load_some, own_load}
+use Rattle.rete_net.{proofs.{Common.{sym, ap, subst, Err, Option, None, Some, condition_of, pattern_of, NoRow}, Filling.{same_fault}}, specs.Loads.{TurnLoads}}
+use Rattle.rete_net.proofs.{Sourced.{lent_here, lent_none, lent_to_one}, Stocked.{may_load_none, may_load_some, own_load}}
+use Rattle.candidate_source.specs.{declared.source.Source.{Source}, Lending.{with_source}, Sources.{source_at}}
 use Rattle.rete_net.proofs.node.NetNode.load_alone.Goals as goal
 
 pub returns-in_ok-delta-in-Some-clause-sources : goal.returns-in_ok-delta-in-Some-clause-sources

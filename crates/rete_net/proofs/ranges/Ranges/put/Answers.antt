@@ -1,5 +1,4 @@
-use Rattle.rete_net.proofs.Common.{◌≡◌, ◌∙◌, ap, sym, refl, Some, slice_get, slice_get-get_or, is_listed, or_left}
-use Rattle.rete_net.proofs.Ranged.{found_put, found_still}
+use Rattle.rete_net.proofs.{Common.{◌≡◌, ◌∙◌, ap, sym, refl, Some, slice_get, slice_get-get_or, is_listed, or_left}, Ranged.{found_put, found_still}}
 use Rattle.rete_net.proofs.ranges.Ranges.put.Goals as goal
 
 there : (c : goal.In_ok-put) → slice_get c.reach.new.self.fields.items c.in_ok-at.at ≡ Some c.index_mut.result.now

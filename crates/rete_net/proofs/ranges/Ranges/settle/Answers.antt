@@ -1,5 +1,4 @@
-use Rattle.rete_net.proofs.Common.{◌∙◌, ◌<◌, ap, sym, refl, Some, slice_get-get_or, length, length-set, arith}
-use Rattle.rete_net.proofs.Ranged.{found_still}
+use Rattle.rete_net.proofs.{Common.{◌∙◌, ◌<◌, ap, sym, refl, Some, slice_get-get_or, length, length-set, arith}, Ranged.{found_still}}
 use Rattle.rete_net.proofs.ranges.Ranges.settle.Goals as goal
 
 pub loop-at-preserved : goal.loop-at-preserved

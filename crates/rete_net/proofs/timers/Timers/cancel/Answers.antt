@@ -1,5 +1,4 @@
-use Rattle.rete_net.proofs.Common.{None}
-use Rattle.rete_net.proofs.Timing.{still_set}
+use Rattle.rete_net.proofs.{Common.{None}, Timing.{still_set}}
 use Rattle.rete_net.proofs.timers.Timers.cancel.Goals as goal
 
 pub returns : goal.returns

@@ -1,6 +1,5 @@
-use Rattle.rete_net.proofs.Common.{rules, Some, None, FitsSigned, w128}
+use Rattle.rete_net.proofs.{Common.{rules, Some, None, FitsSigned, w128}, Timing.{before_first}}
 use Rattle.std.proofs.lemmas.Int.{to_z-of_z}
-use Rattle.rete_net.proofs.Timing.{before_first}
 use Rattle.rete_net.proofs.timers.Timers.first.Goals as goal
 
 pub returns-in-Some : goal.returns-in-Some

@@ -1,7 +1,5 @@
-use Rattle.rete_net.proofs.Common.{◌≡◌, ◌∙◌, sym, ap, rules, Some, FitsSigned, w128}
-use Rattle.std.proofs.lemmas.Int.{to_z-of_z}
-use Rattle.std.proofs.Common.{to_z}
-use Rattle.rete_net.proofs.Timing.{set_already, set_there, still_set}
+use Rattle.rete_net.proofs.{Common.{◌≡◌, ◌∙◌, sym, ap, rules, Some, FitsSigned, w128}, Timing.{set_already, set_there, still_set}}
+use Rattle.std.proofs.{lemmas.Int.{to_z-of_z}, Common.{to_z}}
 use Rattle.rete_net.proofs.timers.Timers.put_at.Goals as goal
 
 pub returns-in-Some-clause-put : goal.returns-in-Some-clause-put

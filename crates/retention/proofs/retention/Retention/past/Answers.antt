@@ -1,6 +1,5 @@
 use Rattle.retention.proofs.Common.{◌≡◌, ℕ, ◌∙◌, ap, ◌||◌, ◌&&◌, cond, not, nat_eq, to_z-of_z, list_any-append, list_any, is_due, has_listed_tag, is_tag_among}
-use Rattle.retention.proofs.Common.{is_named, lingers, is_touched}
-use Rattle.retention.proofs.Touching.{found_in}
+use Rattle.retention.proofs.{Common.{is_named, lingers, is_touched}, Touching.{found_in}}
 use Rattle.retention.proofs.retention.Retention.past.Goals as goal
 
 -- the tags that are looked at are those that are touched

@@ -1,5 +1,4 @@
-use Rattle.row_change.proofs.Common.{◌≡◌, ◌||◌, subst, List, has, Row}
-use Rattle.row_change.proofs.Parts.{one_in}
+use Rattle.row_change.proofs.{Common.{◌≡◌, ◌||◌, subst, List, has, Row}, Parts.{one_in}}
 use Rattle.row_change.proofs.row_set.RowSet.insert_all.Goals as goal
 
 pub loop-row-preserved : goal.loop-row-preserved

@@ -1,5 +1,4 @@
-use Rattle.row_change.proofs.Common.{◌∙◌, sym, ap, Bool, ◌&&◌, not, eq_by_cmp, row_cmp}
-use Rattle.row_change.proofs.Parts.{taken_out, seen}
+use Rattle.row_change.proofs.{Common.{◌∙◌, sym, ap, Bool, ◌&&◌, not, eq_by_cmp, row_cmp}, Parts.{taken_out, seen}}
 use Rattle.row_change.proofs.row_set.RowSet.remove.Goals as goal
 use Rattle.row_change.proofs.row_set.RowSet.remove.Goals.{in-Listed, in-Tree}
 

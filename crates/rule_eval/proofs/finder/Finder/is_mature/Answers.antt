@@ -1,7 +1,6 @@
 use Rattle.rule_eval.proofs.Common.{◌≡◌, to_z, of_z, true, false, Some, None, sym, ◌∙◌, ap, arith, w128, ints, bounds_of, bound_by, is_event, is_point}
-use Rattle.rule_eval.proofs.Common.{none_told, some_told, floor}
+use Rattle.rule_eval.proofs.{Common.{none_told, some_told, floor}, Ripe.{plain_mature, unbound_mature, event_mature}}
 use Rattle.rule_model.specs.Maturity.{is_past as is_past_of}
-use Rattle.rule_eval.proofs.Ripe.{plain_mature, unbound_mature, event_mature}
 use Rattle.rule_eval.proofs.finder.Finder.is_mature.Goals as goal
 use Rattle.rule_model.specs.Moments.{snapshot_at}
 

@@ -1,5 +1,4 @@
-use Rattle.rule_model.proofs.Common.{◌≡◌, map, take}
-use Rattle.rule_model.specs.Lives.{endless_life}
+use Rattle.rule_model.{proofs.Common.{◌≡◌, map, take}, specs.Lives.{endless_life}}
 use Rattle.rule_model.proofs.life.LifeTable.without.Given as goal
 
 abbrev pub invariant-loop-ty : goal.invariant-loop-ty

@@ -1,5 +1,4 @@
-use Rattle.rule_model.proofs.Common.{arith, ints, clamps}
-use Rattle.rule_model.specs.Snapshots.{floor}
+use Rattle.rule_model.{proofs.Common.{arith, ints, clamps}, specs.Snapshots.{floor}}
 use Rattle.rule_model.proofs.moment.Moment.floor.Goals as goal
 
 pub returns : goal.returns

@@ -1,6 +1,4 @@
-use Rattle.script_run.proofs.Common.{◌+◌}
-use Rattle.script_run.specs.Live.{live_by}
-use Rattle.script_run.proofs.Steps.{closes_live, long_closes_live}
+use Rattle.script_run.{proofs.{Common.{◌+◌}, Steps.{closes_live, long_closes_live}}, specs.Live.{live_by}}
 use Rattle.script_run.proofs.live.LiveLines.take.Goals as goal
 
 pub returns-in_ok-close-in-Long-clause-turn : goal.returns-in_ok-close-in-Long-clause-turn

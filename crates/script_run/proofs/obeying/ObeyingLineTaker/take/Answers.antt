@@ -1,6 +1,4 @@
-use Rattle.script_run.proofs.Common.{◌+◌}
-use Rattle.script_run.specs.Run.{setting_with}
-use Rattle.script_run.proofs.Steps.{closes, long_closes}
+use Rattle.script_run.{proofs.{Common.{◌+◌}, Steps.{closes, long_closes}}, specs.Run.{setting_with}}
 use Rattle.script_run.proofs.obeying.ObeyingLineTaker.take.Goals as goal
 
 pub returns-in_ok-close-in-Long-clause-turn : goal.returns-in_ok-close-in-Long-clause-turn

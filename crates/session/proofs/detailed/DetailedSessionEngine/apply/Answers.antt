@@ -1,6 +1,5 @@
-use Rattle.session.proofs.Common.{◌∙◌, ap, subst, gives_in}
+use Rattle.session.{proofs.Common.{◌∙◌, ap, subst, gives_in}, specs.Sessions.{SessionStands}}
 use Rattle.answer_lines.specs.declared.lines.Detail.{Detail}
-use Rattle.session.specs.Sessions.{SessionStands}
 use Rattle.session.proofs.detailed.DetailedSessionEngine.apply.Goals as goal
 
 pub returns-clause-lines : goal.returns-clause-lines

@@ -1,6 +1,5 @@
 use Rattle.session.proofs.Common.{◌≡◌, ◌∙◌, ◌≤◌, ◌+◌, true, arith, sym, ap, subst, ∥∥₁_map, are_known, Contents, Memory, Setting, gives_in, newest, IsSound}
-use Rattle.session.proofs.Common.{Standing, asked_known}
-use Rattle.session.proofs.Common.{change_lines, change_stands}
+use Rattle.session.proofs.Common.{Standing, asked_known, change_lines, change_stands}
 use Rattle.session.proofs.session.Session.apply.Goals as goal
 
 pub apply-requires-clause-low : goal.apply-requires-clause-low

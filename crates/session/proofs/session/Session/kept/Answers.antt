@@ -1,5 +1,4 @@
-use Rattle.session.proofs.Common.{◌∙◌, ap, subst, IfOk-weaker, Contents, Runs, facts_of}
-use Rattle.session.proofs.Questions.{kept_is}
+use Rattle.session.proofs.{Common.{◌∙◌, ap, subst, IfOk-weaker, Contents, Runs, facts_of}, Questions.{kept_is}}
 use Rattle.session.proofs.session.Session.kept.Goals as goal
 
 pub returns : goal.returns

@@ -1,6 +1,5 @@
 use Rattle.session.proofs.Common.{ap, ◌∙◌, [], pos, rules, subst, sym, merely, no_names, no_rule_rows, rows_at, empty_world, Memory, Contents, Standing}
-use Rattle.session.proofs.Common.{none_more, standing_sound}
-use Rattle.session.proofs.Common.{empty_stands, from_parts, nothing_reached}
+use Rattle.session.proofs.Common.{none_more, standing_sound, empty_stands, from_parts, nothing_reached}
 use Rattle.session.proofs.session.Session.with_detail.Goals as goal
 
 pub returns-clause-stands : goal.returns-clause-stands

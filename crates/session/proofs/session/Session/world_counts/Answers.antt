@@ -1,6 +1,4 @@
-use Rattle.session.proofs.Common.{subst, IfOk-weaker, Contents, Setting, Runs}
-use Rattle.session.proofs.Questions.{counted_is}
-use Rattle.session.specs.Inspected.{IsCounted}
+use Rattle.session.{proofs.{Common.{subst, IfOk-weaker, Contents, Setting, Runs}, Questions.{counted_is}}, specs.Inspected.{IsCounted}}
 use Rattle.session.proofs.session.Session.world_counts.Goals as goal
 
 pub returns : goal.returns

@@ -1,7 +1,5 @@
-use Rattle.session.proofs.Common.{◌∙◌, ap, subst, IfOk-weaker, gives_in}
+use Rattle.session.{proofs.{Common.{◌∙◌, ap, subst, IfOk-weaker, gives_in}, Answering.{both_ok}}, specs.Sessions.{SessionStands}}
 use Rattle.answer_lines.specs.declared.lines.Detail.{Detail}
-use Rattle.session.specs.Sessions.{SessionStands}
-use Rattle.session.proofs.Answering.{both_ok}
 use Rattle.session.proofs.session.SessionEngine.apply.Goals as goal
 
 pub returns-clause-lines : goal.returns-clause-lines

@@ -1,5 +1,4 @@
-use Rattle.session.proofs.Common.{IfOk-weaker}
-use Rattle.session.proofs.Answering.{both_ok}
+use Rattle.session.proofs.{Common.{IfOk-weaker}, Answering.{both_ok}}
 use Rattle.session.proofs.session.SessionEngine.resume.Goals as goal
 
 pub returns-clause-stands : goal.returns-clause-stands

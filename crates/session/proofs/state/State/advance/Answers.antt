@@ -1,6 +1,6 @@
-use Rattle.session.proofs.Common.{◌≡◌, ◌+ℤ◌, Some, None, refl, sym, ◌∙◌, ap, subst, to_z, of_z, to_z-of_z, w64, Advance, At, clock_fault}
-use Rattle.session.proofs.Common.{MovesSession, Contents, advance_fault, advance_moves, clock_same, moved_same, no_lines, on_ok, on_ok_weaker, refused_lines}
-use Rattle.session.proofs.Common.{refused_tries, tried_done}
+use Rattle.session.proofs.Common.{◌≡◌, ◌+ℤ◌, Some, None, refl, sym, ◌∙◌, ap, subst, to_z, of_z, to_z-of_z, w64, Advance, At, clock_fault, MovesSession}
+use Rattle.session.proofs.Common.{Contents, advance_fault, advance_moves, clock_same, moved_same, no_lines, on_ok, on_ok_weaker, refused_lines, refused_tries}
+use Rattle.session.proofs.Common.{tried_done}
 use Rattle.session.proofs.state.State.advance.Goals as goal
 
 pub returns-in-Ok-clause-stands : goal.returns-in-Ok-clause-stands

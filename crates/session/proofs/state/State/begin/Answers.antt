@@ -1,5 +1,4 @@
-use Rattle.session.proofs.Common.{refl, Begin, begin_is_done, no_lines, tried_done}
-use Rattle.session.proofs.Common.{on_ok_weaker}
+use Rattle.session.proofs.Common.{refl, Begin, begin_is_done, no_lines, tried_done, on_ok_weaker}
 use Rattle.session.proofs.state.State.begin.Goals as goal
 
 pub returns-clause-stands : goal.returns-clause-stands

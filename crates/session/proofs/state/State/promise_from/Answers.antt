@@ -1,5 +1,5 @@
-use Rattle.session.proofs.Common.{◌≡◌, Some, None, refl, ◌∙◌, ap, subst, to_z, of_z, to_z-of_z, SFits, w64, Promise, promise_fault, MovesSession}
-use Rattle.session.proofs.Common.{Contents, reached_of, promise_refused, no_lines, on_ok, on_ok_weaker, refused_lines, refused_tries, tried_done}
+use Rattle.session.proofs.Common.{◌≡◌, Some, None, refl, ◌∙◌, ap, subst, to_z, of_z, to_z-of_z, SFits, w64, Promise, promise_fault, MovesSession, Contents}
+use Rattle.session.proofs.Common.{reached_of, promise_refused, no_lines, on_ok, on_ok_weaker, refused_lines, refused_tries, tried_done}
 use Rattle.session.proofs.state.State.promise_from.Goals as goal
 
 pub returns-in-Ok-clause-stands : goal.returns-in-Ok-clause-stands

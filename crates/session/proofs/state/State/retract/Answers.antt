@@ -1,6 +1,6 @@
-use Rattle.session.proofs.Common.{◌≡◌, Some, None, true, false, refl, sym, Absent, EventObserved, ReferenceFixed, Retract, is_event, newest}
-use Rattle.session.proofs.Common.{retract_absent, retract_event, retract_fixed, retract_found, retract_observed, retract_fault_is, retraction_known, done_lines, on_ok}
-use Rattle.session.proofs.Common.{subst, StayKnown, on_ok_weaker, refused_lines, refused_tries, tried_done}
+use Rattle.session.proofs.Common.{◌≡◌, Some, None, true, false, refl, sym, Absent, EventObserved, ReferenceFixed, Retract, is_event, newest, retract_absent}
+use Rattle.session.proofs.Common.{retract_event, retract_fixed, retract_found, retract_observed, retract_fault_is, retraction_known, done_lines, on_ok, subst}
+use Rattle.session.proofs.Common.{StayKnown, on_ok_weaker, refused_lines, refused_tries, tried_done}
 use Rattle.session.proofs.state.State.retract.Goals as goal
 
 pub returns-in_ok-tell_retracted-in-Some-clause-stands : goal.returns-in_ok-tell_retracted-in-Some-clause-stands

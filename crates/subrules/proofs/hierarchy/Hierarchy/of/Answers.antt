@@ -1,6 +1,5 @@
 use Rattle.subrules.proofs.Common.{◌∙◌, Bor, ap, sym, map, flat_map, [], option_and_then, List, ℕ, WrittenType, written_type_names, extended_by, with_names}
-use Rattle.subrules.proofs.Common.{place_of_name}
-use Rattle.subrules.proofs.KnownLaws.{indexed}
+use Rattle.subrules.proofs.{Common.{place_of_name}, KnownLaws.{indexed}}
 use Rattle.subrules.proofs.hierarchy.Hierarchy.of.Goals as goal
 
 pub invariant_of-result : goal.invariant_of-result

@@ -1,6 +1,5 @@
 use Rattle.tally_node.proofs.Common.{◌≡◌, ◌∙◌, sym, ap, refl, rules, get_or, pos, ◌++◌, ◌∷◌, [], take, ℤ, List, SFits, w64, to_z-of_z, take_more, take_all}
-use Rattle.tally_node.proofs.Common.{insert_rising, in_rising_order}
-use Rattle.tally_node.proofs.Extras.{rising_snoc}
+use Rattle.tally_node.proofs.{Common.{insert_rising, in_rising_order}, Extras.{rising_snoc}}
 use Rattle.tally_node.proofs.gathered.Gathered.with_values.Goals as goal
 
 append_all : (xs ys zs : List ℤ) → (xs ++ ys) ++ zs ≡ xs ++ (ys ++ zs)

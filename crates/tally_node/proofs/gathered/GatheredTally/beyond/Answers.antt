@@ -1,5 +1,4 @@
-use Rattle.tally_node.proofs.Common.{◌≡◌, ◌∙◌, sym, ap, rules, length, Held}
-use Rattle.tally_node.proofs.Extras.{gathers_beyond}
+use Rattle.tally_node.proofs.{Common.{◌≡◌, ◌∙◌, sym, ap, rules, length, Held}, Extras.{gathers_beyond}}
 use Rattle.tally_node.proofs.gathered.GatheredTally.beyond.Goals as goal
 
 pub returns : goal.returns

@@ -1,5 +1,4 @@
-use Rattle.tally_node.proofs.Common.{◌≡◌, ◌∙◌, sym, ap, arith, w64, to_z, of_z, ints, insert_rising, argument_given, argument_of}
-use Rattle.tally_node.proofs.Gathering.{gathers_less}
+use Rattle.tally_node.proofs.{Common.{◌≡◌, ◌∙◌, sym, ap, arith, w64, to_z, of_z, ints, insert_rising, argument_given, argument_of}, Gathering.{gathers_less}}
 use Rattle.tally_node.proofs.gathered.GatheredTally.take.Goals as goal
 
 pub returns : goal.returns

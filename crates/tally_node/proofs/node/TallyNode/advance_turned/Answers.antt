@@ -1,7 +1,6 @@
-use Rattle.tally_node.proofs.Common.{◌≡◌, ◌∙◌, ap, refl, cond, List, None, Named, Row, has, has_right, left_at, shown}
+use Rattle.tally_node.proofs.{Common.{◌≡◌, ◌∙◌, ap, refl, cond, List, None, Named, Row, has, has_right, left_at, shown, keeps_then}, Handing.{stays_handed}}
+use Rattle.tally_node.proofs.Handing.{fresh_handed}
 use Rattle.pair_memory.proofs.Handed.{stepped_shared}
-use Rattle.tally_node.proofs.Common.{keeps_then}
-use Rattle.tally_node.proofs.Handing.{stays_handed, fresh_handed}
 use Rattle.tally_node.proofs.node.TallyNode.advance_turned.Goals as goal
 
 pub returns-clause-kept : goal.returns-clause-kept

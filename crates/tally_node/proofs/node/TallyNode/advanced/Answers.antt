@@ -1,5 +1,5 @@
-use Rattle.tally_node.proofs.Common.{◌∙◌, sym, ap, refl, cond, List, None, true, Named, Row, has, has_name, left_at, shown, row_naming}
-use Rattle.tally_node.proofs.Stepping.{stays, fresh}
+use Rattle.tally_node.proofs.{Common.{◌∙◌, sym, ap, refl, cond, List, None, true, Named, Row, has, has_name, left_at, shown, row_naming}, Stepping.{stays}}
+use Rattle.tally_node.proofs.Stepping.{fresh}
 use Rattle.tally_node.proofs.node.TallyNode.advanced.Goals as goal
 
 pub returns-clause-tallies : goal.returns-clause-tallies

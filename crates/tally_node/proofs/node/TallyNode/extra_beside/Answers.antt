@@ -1,7 +1,7 @@
-use Rattle.tally_node.proofs.Common.{◌≡◌, ◌∙◌, ◌&&◌, sym, ap, refl, List, Named, has_name, has_right, joins, passing, option_map}
+use Rattle.tally_node.proofs.{Common.{◌≡◌, ◌∙◌, ◌&&◌, sym, ap, refl, List, Named, has_name, has_right, joins, passing, option_map}, Beside.{none_beyond}}
+use Rattle.tally_node.proofs.Beside.{positive, beyond_is, pattern_over, left_over}
 use Rattle.rule_model.specs.declared.condition.Pattern.{Pattern}
 use Rattle.pair_memory.specs.Shared.{over}
-use Rattle.tally_node.proofs.Beside.{none_beyond, positive, beyond_is, pattern_over, left_over}
 use Rattle.tally_node.proofs.node.TallyNode.extra_beside.Goals as goal
 
 pub returns-then-more-eq0 : goal.returns-then-more-eq0

@@ -1,8 +1,6 @@
 use Rattle.tally_node.proofs.Common.{◌∙◌, sym, ap, subst, ◌++◌, ◌∷◌, [], take, List, take_more, Row, has, InOrder, TellsBeside, is_some, option_map}
+use Rattle.tally_node.proofs.{Beside.{extras_of, left_over}, Following.{take_all}, Searching.{AreListed, listed_more}}
 use Rattle.pair_memory.specs.Shared.{over}
-use Rattle.tally_node.proofs.Beside.{extras_of, left_over}
-use Rattle.tally_node.proofs.Following.{take_all}
-use Rattle.tally_node.proofs.Searching.{AreListed, listed_more}
 use Rattle.tally_node.proofs.node.TallyNode.extras.Goals as goal
 
 pub loop-row-init : goal.loop-row-init

@@ -1,6 +1,5 @@
-use Rattle.tally_node.proofs.Common.{take, TellsBeside, option_map}
+use Rattle.tally_node.proofs.{Common.{take, TellsBeside, option_map}, Searching.{AreListed}}
 use Rattle.pair_memory.specs.Shared.{over}
-use Rattle.tally_node.proofs.Searching.{AreListed}
 use Rattle.tally_node.proofs.node.TallyNode.extras.Given as goal
 
 abbrev pub invariant-loop-row : goal.invariant-loop-row

@@ -1,5 +1,4 @@
-use Rattle.tally_node.proofs.Common.{◌∙◌, sym, ap, not, ◌&&◌, shown}
-use Rattle.tally_node.proofs.Turning.{shown_alike}
+use Rattle.tally_node.proofs.{Common.{◌∙◌, sym, ap, not, ◌&&◌, shown}, Turning.{shown_alike}}
 use Rattle.tally_node.proofs.node.TallyNode.forget.Goals as goal
 
 pub returns-clause-rows : goal.returns-clause-rows

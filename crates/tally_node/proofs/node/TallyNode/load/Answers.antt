@@ -1,5 +1,4 @@
-use Rattle.tally_node.proofs.Common.{◌∙◌, ap, refl, true, ◌||◌, has, keeps_then, extra_for, shown}
-use Rattle.tally_node.proofs.Loading.{loaded}
+use Rattle.tally_node.proofs.{Common.{◌∙◌, ap, refl, true, ◌||◌, has, keeps_then, extra_for, shown}, Loading.{loaded}}
 use Rattle.tally_node.proofs.node.TallyNode.load.Goals as goal
 
 pub returns-clause-kept : goal.returns-clause-kept

@@ -1,6 +1,4 @@
-use Rattle.tally_node.proofs.Common.{◌∙◌, refl, true, has, left_at, shown, extra_for, any_name}
-use Rattle.tally_node.proofs.Loading.{loaded}
-use Rattle.tally_node.proofs.Turning.{steps_same}
+use Rattle.tally_node.proofs.{Common.{◌∙◌, refl, true, has, left_at, shown, extra_for, any_name}, Loading.{loaded}, Turning.{steps_same}}
 use Rattle.tally_node.proofs.node.TallyNode.load_turned.Goals as goal
 
 pub returns-clause-difference : goal.returns-clause-difference

@@ -1,7 +1,5 @@
 use Rattle.tally_node.proofs.Common.{◌∙◌, sym, ap, List, is_some, eq_by_cmp, Row, has, name_cmp, joins, left_at, has_right, AllFollow, AllStay, name_present}
-use Rattle.tally_node.proofs.Common.{seen_after, if_not}
-use Rattle.tally_node.proofs.Following.{steps_follow_same}
-use Rattle.tally_node.proofs.Parts.{unmoved, part_then, come_all}
+use Rattle.tally_node.proofs.{Common.{seen_after, if_not}, Following.{steps_follow_same}, Parts.{unmoved, part_then, come_all}}
 use Rattle.tally_node.proofs.node.TallyNode.name_comes.Goals as goal
 
 pub returns-in-None : goal.returns-in-None

@@ -1,7 +1,5 @@
 use Rattle.tally_node.proofs.Common.{◌∙◌, sym, ap, List, is_some, eq_by_cmp, Row, has, name_cmp, joins, left_at, has_right, AllFollow, AllStay, name_absent}
-use Rattle.tally_node.proofs.Common.{seen_after}
-use Rattle.tally_node.proofs.Following.{steps_follow_same}
-use Rattle.tally_node.proofs.Parts.{unmoved, part_then, leave_all}
+use Rattle.tally_node.proofs.{Common.{seen_after}, Following.{steps_follow_same}, Parts.{unmoved, part_then, leave_all}}
 use Rattle.tally_node.proofs.node.TallyNode.name_leaves.Goals as goal
 
 pub returns-in_ok-turn_all-in-Some : goal.returns-in_ok-turn_all-in-Some

@@ -1,5 +1,4 @@
-use Rattle.tally_node.proofs.Common.{refl, get_or, eq_by_cmp, name_cmp, name_equiv, has_name, has_right, more_more, any_name}
-use Rattle.tally_node.proofs.Following.{name_within}
+use Rattle.tally_node.proofs.{Common.{refl, get_or, eq_by_cmp, name_cmp, name_equiv, has_name, has_right, more_more, any_name}, Following.{name_within}}
 use Rattle.tally_node.proofs.Parts.{part_then, follow_all}
 use Rattle.tally_node.proofs.node.TallyNode.names_come.Goals as goal
 

@@ -1,7 +1,5 @@
-use Rattle.tally_node.proofs.Common.{◌∙◌, refl, subst, List, [], Named, has_left, has_right, shown, PartStep, AllFollowMoved}
-use Rattle.tally_node.proofs.Following.{take_all}
-use Rattle.tally_node.proofs.Handing.{none_moved, one_moved}
-use Rattle.tally_node.proofs.Parts.{unmoved, part_then}
+use Rattle.tally_node.proofs.{Common.{◌∙◌, refl, subst, List, [], Named, has_left, has_right, shown, PartStep, AllFollowMoved}, Following.{take_all}}
+use Rattle.tally_node.proofs.{Handing.{none_moved, one_moved}, Parts.{unmoved, part_then}}
 use Rattle.tally_node.proofs.node.TallyNode.names_turn.Goals as goal
 
 pub loop-who-init : goal.loop-who-init

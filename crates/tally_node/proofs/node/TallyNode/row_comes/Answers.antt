@@ -1,9 +1,6 @@
 use Rattle.tally_node.proofs.Common.{◌≡◌, ◌∙◌, sym, ap, refl, subst, cond, List, Some, None, ◌||◌, true, fun_ext, eq_by_cmp, Named, Row, row_cmp, leads_alike}
 use Rattle.tally_node.proofs.Common.{joins, has_name, left_at, has_left, has_right, KeepsMemories, row_decides, row_present, shown, passing, AllArrive}
-use Rattle.tally_node.proofs.Common.{and_first}
-use Rattle.tally_node.proofs.Following.{arrives_there, arrives_one}
-use Rattle.tally_node.proofs.Parts.{unmoved}
-use Rattle.tally_node.proofs.Turning.{put_shown, shown_from, none_output}
+use Rattle.tally_node.proofs.{Common.{and_first}, Following.{arrives_there, arrives_one}, Parts.{unmoved}, Turning.{put_shown, shown_from, none_output}}
 use Rattle.tally_node.proofs.node.TallyNode.row_comes.Goals as goal
 
 pub returns-then-has_left-clause-turned : goal.returns-then-has_left-clause-turned

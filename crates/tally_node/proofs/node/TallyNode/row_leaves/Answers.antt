@@ -1,6 +1,5 @@
-use Rattle.tally_node.proofs.Common.{◌∙◌, sym, ap, eq_by_cmp, row_cmp, leads_alike, shown, output_some, AllDropped}
-use Rattle.tally_node.proofs.Parts.{unmoved}
-use Rattle.tally_node.proofs.Turning.{shown_from, gone_shown, untouched}
+use Rattle.tally_node.proofs.{Common.{◌∙◌, sym, ap, eq_by_cmp, row_cmp, leads_alike, shown, output_some, AllDropped}, Parts.{unmoved}, Turning.{shown_from}}
+use Rattle.tally_node.proofs.Turning.{gone_shown, untouched}
 use Rattle.tally_node.proofs.node.TallyNode.row_leaves.Goals as goal
 
 pub returns-in-None-clause-turned : goal.returns-in-None-clause-turned

@@ -1,10 +1,8 @@
 use Rattle.tally_node.proofs.Common.{◌≡◌, ◌∙◌, sym, ap, refl, subst, cond, List, Some, None, ◌||◌, true, Bool, Bor, fun_ext, option_map, eq_by_cmp, Extra}
 use Rattle.tally_node.proofs.Common.{Named, Row, row_cmp, leads_alike, joins, has_name, left_at, has_left, has_right, KeepsMemories, row_decides, row_present}
-use Rattle.tally_node.proofs.Common.{IsTallyLaden, shown, passing, AllLoaded}
+use Rattle.tally_node.proofs.{Common.{IsTallyLaden, shown, passing, AllLoaded}, Following.{arrives_there, arrives_one}, Parts.{unmoved}, Turning.{put_shown}}
+use Rattle.tally_node.proofs.Turning.{shown_from, none_output}
 use Rattle.fx_base.proofs.Tests.{and_first}
-use Rattle.tally_node.proofs.Following.{arrives_there, arrives_one}
-use Rattle.tally_node.proofs.Parts.{unmoved}
-use Rattle.tally_node.proofs.Turning.{put_shown, shown_from, none_output}
 use Rattle.tally_node.proofs.node.TallyNode.row_loads.Goals as goal
 
 pub returns-then-has_left-clause-turned : goal.returns-then-has_left-clause-turned

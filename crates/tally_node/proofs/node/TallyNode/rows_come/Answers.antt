@@ -1,6 +1,5 @@
-use Rattle.tally_node.proofs.Common.{◌∙◌, ◌+◌, take, eq_by_cmp, has, row_cmp, same_equiv, has_left, more_more}
-use Rattle.tally_node.proofs.Following.{rows_more}
-use Rattle.tally_node.proofs.Parts.{part_then, arrive_then}
+use Rattle.tally_node.proofs.{Common.{◌∙◌, ◌+◌, take, eq_by_cmp, has, row_cmp, same_equiv, has_left, more_more}, Following.{rows_more}, Parts.{part_then}}
+use Rattle.tally_node.proofs.Parts.{arrive_then}
 use Rattle.tally_node.proofs.node.TallyNode.rows_come.Goals as goal
 
 pub loop-row-preserved : goal.loop-row-preserved

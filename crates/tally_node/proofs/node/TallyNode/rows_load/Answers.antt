@@ -1,8 +1,6 @@
 use Rattle.tally_node.proofs.Common.{◌∙◌, ap, subst, ◌+◌, ◌||◌, take, Bor, eq_by_cmp, option_map, Extra, has, row_cmp, InOrder, same_equiv, has_left, has_right}
-use Rattle.tally_node.proofs.Common.{row_decides, more_more, extra_for, rows_of_extras, PartStep, AllLoaded, shown}
-use Rattle.tally_node.proofs.Following.{rows_more, take_all}
-use Rattle.tally_node.proofs.Loading.{load_then}
-use Rattle.tally_node.proofs.Parts.{part_then}
+use Rattle.tally_node.proofs.{Common.{row_decides, more_more, extra_for, rows_of_extras, PartStep, AllLoaded, shown}, Following.{rows_more, take_all}}
+use Rattle.tally_node.proofs.{Loading.{load_then}, Parts.{part_then}}
 use Rattle.tally_node.proofs.node.TallyNode.rows_load.Goals as goal
 
 pub loop-row-preserved : goal.loop-row-preserved

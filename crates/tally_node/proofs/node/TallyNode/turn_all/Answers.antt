@@ -1,6 +1,5 @@
-use Rattle.tally_node.proofs.Common.{◌∙◌, ◌+◌, subst, take, eq_by_cmp, has, row_cmp, has_left, has_right, shown, PartStep, AllTurned}
-use Rattle.tally_node.proofs.Following.{take_all, rows_more, rows_apart}
-use Rattle.tally_node.proofs.Parts.{part_then, turned_then}
+use Rattle.tally_node.proofs.{Common.{◌∙◌, ◌+◌, subst, take, eq_by_cmp, has, row_cmp, has_left, has_right, shown, PartStep, AllTurned}, Following.{take_all}}
+use Rattle.tally_node.proofs.{Following.{rows_more, rows_apart}, Parts.{part_then, turned_then}}
 use Rattle.tally_node.proofs.node.TallyNode.turn_all.Goals as goal
 
 pub loop-row-preserved : goal.loop-row-preserved

@@ -1,6 +1,5 @@
-use Rattle.tally_node.proofs.Common.{◌∙◌, ap, rules, of_calls, Extra, row_cmp}
+use Rattle.tally_node.proofs.{Common.{◌∙◌, ap, rules, of_calls, Extra, row_cmp}, Searching.{found_at, not_found}}
 use Rattle.std.proofs.lemmas.Fn.{always_returns_same}
-use Rattle.tally_node.proofs.Searching.{found_at, not_found}
 use Rattle.tally_node.proofs.node.loading.extra_of.Goals as goal
 
 pub returns-in-Ok : goal.returns-in-Ok

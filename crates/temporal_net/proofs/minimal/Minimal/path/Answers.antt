@@ -1,7 +1,5 @@
 use Rattle.temporal_net.proofs.Common.{◌≡◌, ◌≢◌, ◌<◌, length, map, Vec, Global, None, sym, ◌∙◌, ap, subst, All, All-from_recursion, NetEdge, edge_at}
-use Rattle.temporal_net.proofs.Common.{IsShortestPath, cell}
-use Rattle.temporal_net.proofs.Solved.{distance_known, followed, on_items, path_seen}
-use Rattle.temporal_net.proofs.Ways.{follows_known}
+use Rattle.temporal_net.proofs.{Common.{IsShortestPath, cell}, Solved.{distance_known, followed, on_items, path_seen}, Ways.{follows_known}}
 use Rattle.temporal_net.proofs.minimal.Minimal.path.Goals as goal
 
 pub way-requires-clause-known : goal.way-requires-clause-known

@@ -1,10 +1,5 @@
 use Rattle.temporal_net.proofs.Common.{◌≡◌, ℕ, ◌+◌, ◌<◌, ◌≤◌, length, false, sym, ◌∙◌, ap, subst, arith, cell, lowered, loses_over, AllShort, AreTable}
-use Rattle.temporal_net.proofs.Common.{HaveWays}
-use Rattle.temporal_net.proofs.Bounds.{solvable}
-use Rattle.temporal_net.proofs.Cycles.{all_short, next_rows}
-use Rattle.temporal_net.proofs.Solved.{written_back}
-use Rattle.temporal_net.proofs.Sums.{no_solution}
-use Rattle.temporal_net.proofs.Ways.{widened}
+use Rattle.temporal_net.proofs.{Common.{HaveWays}, Bounds.{solvable}, Cycles.{all_short, next_rows}, Solved.{written_back}, Sums.{no_solution}, Ways.{widened}}
 use Rattle.temporal_net.proofs.net.Net.solve.Goals as goal
 
 pub losing_point-requires-clause-short : goal.losing_point-requires-clause-short

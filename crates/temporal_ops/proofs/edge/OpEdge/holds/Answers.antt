@@ -1,5 +1,4 @@
-use Rattle.temporal_ops.proofs.Common.{◌≡◌, ◌-ℤ◌, arith, to_z, of_z, w128, ints}
-use Rattle.temporal_ops.specs.Edges.{edge_holds}
+use Rattle.temporal_ops.{proofs.Common.{◌≡◌, ◌-ℤ◌, arith, to_z, of_z, w128, ints}, specs.Edges.{edge_holds}}
 use Rattle.temporal_ops.proofs.edge.OpEdge.holds.Goals as goal
 
 pub returns : goal.returns

@@ -1,5 +1,4 @@
-use Rattle.temporal_ops.proofs.Common.{arith}
-use Rattle.temporal_ops.proofs.Fields.{exchanged_more, exchanged_front}
+use Rattle.temporal_ops.proofs.{Common.{arith}, Fields.{exchanged_more, exchanged_front}}
 use Rattle.temporal_ops.proofs.op.Op.exchanged.Goals as goal
 
 pub loop-item-preserved : goal.loop-item-preserved

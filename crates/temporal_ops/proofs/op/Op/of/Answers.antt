@@ -1,5 +1,4 @@
-use Rattle.temporal_ops.proofs.Common.{refl}
-use Rattle.temporal_ops.proofs.Faults.{has_row}
+use Rattle.temporal_ops.proofs.{Common.{refl}, Faults.{has_row}}
 use Rattle.temporal_ops.proofs.op.Op.of.Goals as goal
 
 pub returns-in-Some-clause-negative : goal.returns-in-Some-clause-negative

@@ -1,6 +1,4 @@
-use Rattle.temporal_ops.proofs.Common.{refl, edge_holds}
-use Rattle.temporal_ops.specs.Edges.{edges_hold}
-use Rattle.temporal_ops.proofs.Rooms.{one_more}
+use Rattle.temporal_ops.{proofs.{Common.{refl, edge_holds}, Rooms.{one_more}}, specs.Edges.{edges_hold}}
 use Rattle.temporal_ops.proofs.room.Room.keep.Goals as goal
 
 pub loop-edge-preserved : goal.loop-edge-preserved

@@ -1,5 +1,4 @@
-use Rattle.temporal_ops.proofs.Common.{arith, ints, BStart, BEnd}
-use Rattle.temporal_ops.proofs.Rooms.{start_end_by, end_end_by, start_begin_at, end_begin_at}
+use Rattle.temporal_ops.proofs.{Common.{arith, ints, BStart, BEnd}, Rooms.{start_end_by, end_end_by, start_begin_at, end_begin_at}}
 use Rattle.temporal_ops.proofs.room.Room.keep_edge.Goals as goal
 
 pub returns-in-AStart-BStart : goal.returns-in-AStart-BStart

@@ -1,5 +1,4 @@
-use Rattle.temporal_ops.proofs.Common.{◌≡◌, false, arith, to_z, of_z, w128, ints, is_empty}
-use Rattle.temporal_ops.proofs.Rooms.{endless_starts, latest_start}
+use Rattle.temporal_ops.proofs.{Common.{◌≡◌, false, arith, to_z, of_z, w128, ints, is_empty}, Rooms.{endless_starts, latest_start}}
 use Rattle.temporal_ops.proofs.room.Room.window.Goals as goal
 
 pub returns-in-None : goal.returns-in-None

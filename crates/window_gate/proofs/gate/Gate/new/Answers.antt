@@ -1,5 +1,4 @@
-use Rattle.window_gate.proofs.Common.{sym, subst, [], Kept, KeepsWindow}
-use Rattle.window_gate.proofs.gate.Gate.new.Goals.{in-Whole, in-Time, in-Length}
+use Rattle.window_gate.proofs.{Common.{sym, subst, [], Kept, KeepsWindow}, gate.Gate.new.Goals.{in-Whole, in-Time, in-Length}}
 use Rattle.window_gate.proofs.gate.Gate.new.Goals as goal
 
 pub returns-clause-stands : goal.returns-clause-stands

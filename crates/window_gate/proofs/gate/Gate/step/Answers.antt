@@ -1,7 +1,6 @@
 use Rattle.window_gate.proofs.Common.{sym, subst, ℤ, List, map, to_z-of_z, IsBetween, Time, Length, Kept, Arrival, named_of, after, rows_inside, TagsDiffer}
 use Rattle.window_gate.proofs.Common.{KeepsWindow, KeepsTime, KeepsLength, MayChange, StandsForArrivals, TakesChange, MayPass, window_kept, window_of}
-use Rattle.window_gate.proofs.Common.{between_disjoint}
-use Rattle.window_gate.proofs.Insides.{differ_after}
+use Rattle.window_gate.proofs.{Common.{between_disjoint}, Insides.{differ_after}}
 use Rattle.window_gate.proofs.gate.Gate.step.Goals as goal
 
 pub returns-in_ok-delta-in-Whole-clause-stands : goal.returns-in_ok-delta-in-Whole-clause-stands

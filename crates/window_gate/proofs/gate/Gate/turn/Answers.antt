@@ -1,7 +1,6 @@
 use Rattle.window_gate.proofs.Common.{◌≡◌, sym, subst, ℤ, List, map, IsBetween, Kept, Arrival, named_of, after, rows_inside, TagsDiffer, KeepsWindow, MayChange}
 use Rattle.window_gate.proofs.Common.{StandsForArrivals, TakesChange, window_kept, window_of, Delta, between_disjoint, GateChange, Whole}
-use Rattle.window_gate.specs.declared.gate.Gate.{Gate}
-use Rattle.window_gate.proofs.Insides.{differ_after}
+use Rattle.window_gate.{specs.declared.gate.Gate.{Gate}, proofs.Insides.{differ_after}}
 use Rattle.window_gate.specs.declared.gate.Kept.TheVariants as kept
 use Rattle.window_gate.proofs.gate.Gate.turn.Goals as goal
 

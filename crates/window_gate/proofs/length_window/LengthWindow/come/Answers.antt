@@ -1,6 +1,6 @@
-use Rattle.window_gate.proofs.Common.{◌≡◌, ◌∙◌, ap, ◌+◌, map, rules, ℕ, BTreeMap, Delta, Named, single}
-use Rattle.window_gate.proofs.Lengths.{kept_never, between_never, kept_enters, between_enters, slice_is}
-use Rattle.window_gate.proofs.length_window.LengthWindow.come.Goals.{then-size-eq0+in_ok-insert-2+in_ok-delta, else-size-eq0+in_ok-insert-3+in_ok-delta-2}
+use Rattle.window_gate.proofs.{Common.{◌≡◌, ◌∙◌, ap, ◌+◌, map, rules, ℕ, BTreeMap, Delta, Named, single}, Lengths.{kept_never, between_never, kept_enters}}
+use Rattle.window_gate.proofs.{Lengths.{between_enters, slice_is}, length_window.LengthWindow.come.Goals.{then-size-eq0+in_ok-insert-2+in_ok-delta}}
+use Rattle.window_gate.proofs.length_window.LengthWindow.come.Goals.{else-size-eq0+in_ok-insert-3+in_ok-delta-2}
 use Rattle.window_gate.proofs.length_window.LengthWindow.come.Goals as goal
 
 -- the next number

@@ -1,5 +1,5 @@
-use Rattle.window_gate.proofs.Common.{◌∙◌, sym, ap, map, ℤ, List, None, single, Arrival, named_of, KeepsLength, TagsDiffer}
-use Rattle.window_gate.proofs.Lengths.{Removed, kept_removed, kept_none_removed, removed_along, kept_went, between_went, slice_is}
+use Rattle.window_gate.proofs.{Common.{◌∙◌, sym, ap, map, ℤ, List, None, single, Arrival, named_of, KeepsLength, TagsDiffer}, Lengths.{Removed, kept_removed}}
+use Rattle.window_gate.proofs.Lengths.{kept_none_removed, removed_along, kept_went, between_went, slice_is}
 use Rattle.window_gate.proofs.length_window.LengthWindow.go.Goals.{in-Some+in_ok-take-in-Some, in-None}
 use Rattle.window_gate.proofs.length_window.LengthWindow.go.Goals as goal
 

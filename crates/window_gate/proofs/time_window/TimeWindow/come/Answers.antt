@@ -1,6 +1,5 @@
 use Rattle.window_gate.proofs.Common.{◌≡◌, ◌+ℤ◌, sym, subst, rules, arith, FitsSigned, w64, ints, to_z-of_z, GateChange, Time, MayChange, brings, Enter}
-use Rattle.window_gate.proofs.Holding.{enter_none, not_come}
-use Rattle.window_gate.proofs.Times.{moment_is}
+use Rattle.window_gate.proofs.{Holding.{enter_none, not_come}, Times.{moment_is}}
 use Rattle.window_gate.proofs.time_window.TimeWindow.come.Goals as goal
 
 pub returns-in_ok-entered-in-Come-clause-enter : goal.returns-in_ok-entered-in-Come-clause-enter

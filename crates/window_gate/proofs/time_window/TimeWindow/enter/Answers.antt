@@ -1,5 +1,4 @@
-use Rattle.window_gate.proofs.Common.{◌<ℤ◌, ◌≤ℤ◌, refl, arith, ints, to_z-of_z}
-use Rattle.window_gate.proofs.Holding.{enter_one, enter_late}
+use Rattle.window_gate.proofs.{Common.{◌<ℤ◌, ◌≤ℤ◌, refl, arith, ints, to_z-of_z}, Holding.{enter_one, enter_late}}
 use Rattle.window_gate.proofs.time_window.TimeWindow.enter.Goals as goal
 
 pub returns-then-moment-now-clause-enter : goal.returns-then-moment-now-clause-enter

@@ -1,5 +1,4 @@
-use Rattle.window_gate.proofs.Common.{Some, None, FitsSigned, w64, rules, to_z-of_z}
-use Rattle.window_gate.proofs.Quiet.{time_kept, time_same, one_leaves, first_least}
+use Rattle.window_gate.proofs.{Common.{Some, None, FitsSigned, w64, rules, to_z-of_z}, Quiet.{time_kept, time_same, one_leaves, first_least}}
 use Rattle.window_gate.proofs.time_window.TimeWindow.first_leaving.Goals as goal
 
 pub returns-in-Some-clause-keeps : goal.returns-in-Some-clause-keeps

@@ -1,5 +1,4 @@
-use Rattle.window_gate.proofs.Common.{sym, subst, option_to_list, Leave, takes_out}
-use Rattle.window_gate.proofs.Holding.{leave_none, not_gone}
+use Rattle.window_gate.proofs.{Common.{sym, subst, option_to_list, Leave, takes_out}, Holding.{leave_none, not_gone}}
 use Rattle.window_gate.proofs.time_window.TimeWindow.go.Goals as goal
 
 pub returns-in-Gone : goal.returns-in-Gone

@@ -1,7 +1,6 @@
 use Rattle.window_gate.proofs.Common.{Vec, Global, ◌≡◌, ◌∙◌, sym, ap, List, ◌++◌, append-nil, option_to_list, to_z-of_z, Named, has_version, has_time_come}
-use Rattle.window_gate.proofs.Common.{takes_out, leaves, Leave}
-use Rattle.window_gate.proofs.Holding.{leave_then, leave_listed}
-use Rattle.window_gate.proofs.time_window.TimeWindow.leave.Goals.{in-Some+in_ok-push, in_default}
+use Rattle.window_gate.proofs.{Common.{takes_out, leaves, Leave}, Holding.{leave_then, leave_listed}, time_window.TimeWindow.leave.Goals.{in-Some+in_ok-push}}
+use Rattle.window_gate.proofs.time_window.TimeWindow.leave.Goals.{in_default}
 use Rattle.window_gate.proofs.time_window.TimeWindow.leave.Goals as goal
 
 -- those that are due, and the one that goes

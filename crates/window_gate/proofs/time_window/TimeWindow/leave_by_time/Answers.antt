@@ -1,5 +1,4 @@
-use Rattle.window_gate.proofs.Common.{sym, subst, to_z-of_z, has_time_come, Leave}
-use Rattle.window_gate.proofs.Holding.{one_more_left, one_more_due, all_due_left}
+use Rattle.window_gate.proofs.{Common.{sym, subst, to_z-of_z, has_time_come, Leave}, Holding.{one_more_left, one_more_due, all_due_left}}
 use Rattle.window_gate.proofs.time_window.TimeWindow.leave_by_time.Goals as goal
 
 pub due-preserved : goal.due-preserved

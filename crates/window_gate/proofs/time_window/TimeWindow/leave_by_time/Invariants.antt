@@ -1,5 +1,4 @@
-use Rattle.window_gate.proofs.Common.{◌≡◌, ℕ, true, length, list_any, has_tag, HeldArrivals, HoldsArrivals, has_time_come, Leave}
-use Rattle.window_gate.proofs.Holding.{tagged}
+use Rattle.window_gate.proofs.{Common.{◌≡◌, ℕ, true, length, list_any, has_tag, HeldArrivals, HoldsArrivals, has_time_come, Leave}, Holding.{tagged}}
 use Rattle.window_gate.proofs.time_window.TimeWindow.leave_by_time.Given as goal
 
 abbrev pub invariant-due : goal.invariant-due

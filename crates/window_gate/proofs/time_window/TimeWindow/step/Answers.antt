@@ -1,6 +1,5 @@
 use Rattle.window_gate.proofs.Common.{◌≤ℤ◌, ◌∙◌, sym, ap, subst, map, List, to_z-of_z, most, MayChange, Named, Time, single, leaves, brings, Leave, Enter}
-use Rattle.window_gate.proofs.Lengths.{slice_is}
-use Rattle.window_gate.proofs.Times.{step_keeps, step_between}
+use Rattle.window_gate.proofs.{Lengths.{slice_is}, Times.{step_keeps, step_between}}
 use Rattle.window_gate.proofs.time_window.TimeWindow.step.Goals as goal
 
 left : (c : goal.After-drop-left-2) → Leave c.args.self c.leave.new.self (leaves c.args.self.millis c.args.now c.args.change.now) c.in_ok-left.left.items

@@ -1,5 +1,4 @@
-use Rattle.window_gate.proofs.Common.{◌∙◌, sym, ap, refl, not, int_cmp, to_z-of_z, Included, is_due}
-use Rattle.window_gate.proofs.Holding.{due_come, leave_one}
+use Rattle.window_gate.proofs.{Common.{◌∙◌, sym, ap, refl, not, int_cmp, to_z-of_z, Included, is_due}, Holding.{due_come, leave_one}}
 use Rattle.window_gate.proofs.time_window.TimeWindow.take_due.Goals as goal
 
 pub returns-in_err-tag-clause-none : goal.returns-in_err-tag-clause-none

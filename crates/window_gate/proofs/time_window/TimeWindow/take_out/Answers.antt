@@ -1,5 +1,4 @@
-use Rattle.window_gate.proofs.Common.{sym, ap, refl, [], option_to_list, has_version}
-use Rattle.window_gate.proofs.Holding.{leave_one, leave_absent, leave_listed}
+use Rattle.window_gate.proofs.{Common.{sym, ap, refl, [], option_to_list, has_version}, Holding.{leave_one, leave_absent, leave_listed}}
 use Rattle.window_gate.proofs.time_window.TimeWindow.take_out.Goals as goal
 
 pub returns : goal.returns
