@@ -7,13 +7,13 @@ pub use Rattle.std.specs.Option.{is_some}
 pub use Rattle.std.specs.Ordering.{eq_by_cmp}
 pub use Rattle.beta_join.specs.Turns.{NamesTurned, TurnedMemories}
 pub use Rattle.join_tests.specs.Joins.{Look, joins}
-pub use Rattle.pair_memory.proofs.Turning.{any_name, less_more, more_more, keeps_then, name_absent, name_present, row_absent, row_present}
-pub use Rattle.pair_memory.proofs.Handed.{keeps_shared}
-pub use Rattle.pair_memory.proofs.Keeping.{seen_after, if_not}
-pub use Rattle.pair_memory.specs.Joined.{has_name, joined, splits, unjoined}
-pub use Rattle.pair_memory.specs.Shared.{sharing}
-pub use Rattle.pair_memory.specs.Memories.{has_left, has_right, made, KeepsMemories}
-pub use Rattle.pair_memory.specs.declared.memories.Memories.{Memories}
+pub use Rattle.join_memory.proofs.Turning.{any_name, less_more, more_more, keeps_then, name_absent, name_present, row_absent, row_present}
+pub use Rattle.join_memory.proofs.Handed.{keeps_shared}
+pub use Rattle.join_memory.proofs.Keeping.{seen_after, if_not}
+pub use Rattle.join_memory.specs.Joined.{has_name, joined, splits, unjoined}
+pub use Rattle.join_memory.specs.Shared.{sharing}
+pub use Rattle.join_memory.specs.Memories.{has_left, has_right, made, KeepsMemories}
+pub use Rattle.join_memory.specs.declared.memories.Memories.{Memories}
 pub use Rattle.row_change.proofs.Alike.{difference_alike, leads_alike}
 pub use Rattle.row_delta.specs.NameOrder.{name_cmp, name_equiv}
 pub use Rattle.row_delta.specs.RowOrder.{same_equiv}

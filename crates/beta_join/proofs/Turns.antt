@@ -5,9 +5,9 @@ use Rattle.beta_join.proofs.Common.{row_absent, row_present, name_absent, name_p
 use Rattle.beta_join.proofs.Common.{[], has_name, any_name, sharing, take_all, NamesTurned}
 use Rattle.row_delta.specs.declared.row.Named.{Named}
 use Rattle.row_change.specs.{Changes.{LeadsRows, without, along}, declared.change.Change.{Change}}
-use Rattle.pair_memory.{specs.Joined.{joined}, proofs.{Joining.{row_decides, name_decides, joined_alike}, Keeping.{made_after}}}
-use Rattle.pair_memory.{specs.{declared.candidates.Candidates.{Candidates}, Handed.{moved}, Shared.{AreHanded}}, proofs.Handed.{next_may, moved_more}}
-use Rattle.pair_memory.proofs.Handed.{moved_none, may_go, may_come, handed_joined}
+use Rattle.join_memory.{specs.Joined.{joined}, proofs.{Joining.{row_decides, name_decides, joined_alike}, Keeping.{made_after}}}
+use Rattle.join_memory.{specs.{declared.candidates.Candidates.{Candidates}, Handed.{moved}, Shared.{AreHanded}}, proofs.Handed.{next_may, moved_more}}
+use Rattle.join_memory.proofs.Handed.{moved_none, may_go, may_come, handed_joined}
 use Rattle.fx_base.proofs.Tests.{and_or_and}
 
 splits_imply : (t u : Row → Named → Bool) (b : Bool) → ((l : Row) (c : Named) → t l c ≡ true → u l c ≡ b) → (o : Option (Row × Named)) → splits t o ≡ true → splits u o ≡ b

@@ -3,8 +3,8 @@ use Rattle.std.specs.Prelude.{◌≡◌, ◌&&◌, not, true, Bool, List}
 use Rattle.row_delta.specs.{declared.{row.{Named.{Named}, Row.{Row}}, delta.Delta.{Delta}}, Rows.{has}}
 use Rattle.row_change.specs.Changes.{LeadsRows, IsDifference}
 use Rattle.join_tests.specs.Joins.{Look}
-use Rattle.pair_memory.specs.{declared.memories.Memories.{Memories}, Joined.{joined}, Memories.{has_left, has_right, made, KeepsMemories}, Standing.{clean}}
-use Rattle.pair_memory.specs.{Standing.{cleaned, either, remembered, PassesAlike, StandsFor}, Inputs.{IsNameDifference, IsStepped}}
+use Rattle.join_memory.specs.{declared.memories.Memories.{Memories}, Joined.{joined}, Memories.{has_left, has_right, made, KeepsMemories}, Standing.{clean}}
+use Rattle.join_memory.specs.{Standing.{cleaned, either, remembered, PassesAlike, StandsFor}, Inputs.{IsNameDifference, IsStepped}}
 
 -- For the true differences of its two inputs, of what names no forgotten fact, a node that stands for left rows and candidates answers
 -- the true difference of its rows that name no forgotten fact, and stands for the new ones.

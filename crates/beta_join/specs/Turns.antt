@@ -3,8 +3,8 @@ use Rattle.std.specs.Prelude.{Bool, List}
 use Rattle.row_delta.specs.declared.row.{Named.{Named}, Row.{Row}}
 use Rattle.row_change.specs.{declared.change.Change.{Change}, Changes.{LeadsRows}}
 use Rattle.join_tests.specs.Joins.{Look, joins}
-use Rattle.pair_memory.specs.{declared.memories.Memories.{Memories}, Handed.{moved, MayMove}, Joined.{has_name, joined}, Memories.{has_left, made}}
-use Rattle.pair_memory.specs.Memories.{KeepsMemories}
+use Rattle.join_memory.specs.{declared.memories.Memories.{Memories}, Handed.{moved, MayMove}, Joined.{has_name, joined}, Memories.{has_left, made}}
+use Rattle.join_memory.specs.Memories.{KeepsMemories}
 
 -- the memories then keep these rows and candidates, and what has changed so far leads on to the rows that are made then
 pub record TurnedMemories {S : Type 0} (before after : Memories S) (look : Look) (left : Row → Bool) (right : Named → Bool) (change changed : Change) : Type 0 where

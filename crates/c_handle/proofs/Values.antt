@@ -1,6 +1,6 @@
 -- The machine values of a `Loose` and of a `Held`. Assumes `Logic`.
-use Rattle.std.{proofs.{Common.{◌≡◌, ℕ, List, [], ◌∷◌, ◌++◌, refl, subst, lit<}, alloc.Calls.{Al}}, specs.{Ptr.{points_to}, declared.alloc.Allocator.{Ghosts}}}
-use Rattle.std.{proofs.{alloc.Calls.{handle_tells}, cell.Inside.{Good, one}, ResultValues.{and_tt}}, specs.Box.Ownership.{box_owns}}
+use Rattle.std.{proofs.{Common.{◌≡◌, ℕ, List, [], ◌∷◌, ◌++◌, refl, subst, lit<}, alloc.Calls.{Al, handle_tells}}, specs.Ptr.{points_to}}
+use Rattle.std.{specs.{declared.alloc.Allocator.{Ghosts}, Box.Ownership.{box_owns}}, proofs.{cell.Inside.{Good, one}, ResultValues.{and_tt}}}
 use Rattle.std.specs.{declared.option.Option.{Option, TheVariants.{None, Some}}, contracts.impls.GlobalAllocator.TheImpl.{ghosts}}
 use Rattle.std.proofs.GlobalToken.{dealloc_token-Testable}
 use mathlib.Core.Bool.{true, ◌&&◌}

@@ -20,14 +20,14 @@ pub use Rattle.alpha_memory.specs.declared.join_index.JoinIndex.{JoinIndex}
 pub use Rattle.join_tests.specs.declared.sought.Sight.{Sight}
 pub use Rattle.join_tests.specs.Joins.{Look, joins}
 pub use Rattle.join_tests.specs.Kept.{rows_sought, row_value, values_seen, SeesRows}
-pub use Rattle.pair_memory.proofs.Turning.{any_name}
-pub use Rattle.pair_memory.specs.declared.candidates.Candidates.{Candidates}
-pub use Rattle.pair_memory.specs.declared.memories.Memories.{Memories}
-pub use Rattle.pair_memory.specs.Apart.{has_candidate}
-pub use Rattle.pair_memory.specs.Inputs.{row_naming}
-pub use Rattle.pair_memory.specs.Joined.{has_name, AreDistinct}
-pub use Rattle.pair_memory.specs.Memories.{has_left, has_right}
-pub use Rattle.pair_memory.specs.Shared.{sharing, KeepsAlike, KeepsNames, NamesAgree, TakesOver, ForgoesOld}
+pub use Rattle.join_memory.proofs.Turning.{any_name}
+pub use Rattle.join_memory.specs.declared.candidates.Candidates.{Candidates}
+pub use Rattle.join_memory.specs.declared.memories.Memories.{Memories}
+pub use Rattle.join_memory.specs.Apart.{has_candidate}
+pub use Rattle.join_memory.specs.Inputs.{row_naming}
+pub use Rattle.join_memory.specs.Joined.{has_name, AreDistinct}
+pub use Rattle.join_memory.specs.Memories.{has_left, has_right}
+pub use Rattle.join_memory.specs.Shared.{sharing, KeepsAlike, KeepsNames, NamesAgree, TakesOver, ForgoesOld}
 pub use Rattle.candidate_source.specs.declared.handed.Handed.{Handed}
 pub use Rattle.candidate_source.specs.declared.handed.Turned.{Turned}
 pub use Rattle.candidate_source.specs.declared.handed.Turned.TheVariants.{Gone, Came}

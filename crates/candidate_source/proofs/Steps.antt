@@ -6,7 +6,7 @@ use Rattle.candidate_source.proofs.{Common.{concerns, AreOnce, LeavesOthers, Hav
 use Rattle.std.proofs.Math.Bool.{and-true}
 use Rattle.fx_base.proofs.Tests.{and_where}
 use Rattle.rule_model.specs.{declared.program.Program.{Program}, Snapshots.{Snapshot}}
-use Rattle.pair_memory.specs.{Inputs.{IsNameDifference}, Standing.{no_names}}
+use Rattle.join_memory.specs.{Inputs.{IsNameDifference}, Standing.{no_names}}
 use Rattle.condition_rows.specs.Sets.{candidates_of}
 use Rattle.pattern_gate.specs.{declared.gate.PatternGate.{PatternGate}, Gates.{GateStands}}
 

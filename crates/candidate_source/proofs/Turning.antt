@@ -6,7 +6,7 @@ use Rattle.candidate_source.proofs.Common.{Turned, Gone, Came, Source, gone_at, 
 use Rattle.candidate_source.proofs.{Common.{HaveLeft, HaveCome, went, came}, Behind.{none_behind}, Places.{sought_by, unreached_sought}}
 use Rattle.std.{specs.Prelude.{IfSome}, proofs.lemmas.List.Folds.{list_any-append}}
 use Rattle.fx_base.proofs.Tests.{and_first, or_first_false, or_second_false}
-use Rattle.pair_memory.proofs.{Joining.{name_decides}, Sharing.{went_more, less_none, more_none}, Turning.{less_more, more_more}}
+use Rattle.join_memory.proofs.{Joining.{name_decides}, Sharing.{went_more, less_none, more_none}, Turning.{less_more, more_more}}
 
 -- ---- lists of candidates, each once
 

@@ -2,7 +2,7 @@
 use Rattle.std.specs.Prelude.{ℕ, Bool, Option, length, slice_get}
 use Rattle.fx_base.specs.declared.value.Value.{Value}
 use Rattle.rule_model.specs.declared.condition.Pattern.{Pattern}
-use Rattle.pair_memory.specs.declared.candidates.Candidates.{Candidates}
+use Rattle.join_memory.specs.declared.candidates.Candidates.{Candidates}
 use Rattle.pattern_gate.specs.declared.gate.PatternGate.{PatternGate}
 use Rattle.candidate_source.specs.{declared.{source.Source.{Source}, sources.Sources.{Sources}}, Reached.{is_under}}
 

@@ -1,7 +1,7 @@
 -- What becomes of a source that lends its candidates, and of sources that lend one of them.
 use Rattle.std.specs.{Prelude.{◌≡◌, ℕ, Option, Some, None}, Borrow.{Lends, LendsIf, MutBor, Fml}, Vec.{with_item}}
 use Rattle.fx_base.specs.declared.value.Value.{Value}
-use Rattle.pair_memory.specs.{declared.candidates.Candidates.{Candidates}, contracts.candidates.Candidates.{the_row as candidates_row}}
+use Rattle.join_memory.specs.{declared.candidates.Candidates.{Candidates}, contracts.candidates.Candidates.{the_row as candidates_row}}
 use Rattle.candidate_source.specs.{declared.{source.Source.{Source}, sources.Sources.{Sources}}, contracts.source.Source.{the_row}}
 use Rattle.candidate_source.specs.{contracts.sources.Sources.{the_row as sources_row}, Reached.{is_under}, Sources.{source_at, source_place, AreApart}}
 

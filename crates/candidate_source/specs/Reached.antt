@@ -4,7 +4,7 @@ use Rattle.fx_base.specs.{declared.value.Value.{Value}, Values.{same_value}}
 use Rattle.row_delta.specs.{declared.row.Row.{Row}, Rows.{row_cmp}}
 use Rattle.alpha_memory.specs.{declared.join_index.JoinIndex.{JoinIndex}, JoinIndex.{at}}
 use Rattle.join_tests.specs.{declared.sought.Sight.{Sight}, Joins.{Look}, Kept.{row_value, values_seen}}
-use Rattle.pair_memory.specs.{declared.memories.Memories.{Memories}, Memories.{has_left}}
+use Rattle.join_memory.specs.{declared.memories.Memories.{Memories}, Memories.{has_left}}
 
 -- whether a place is in a list
 abbrev pub has_place : List ℕ → ℕ → Bool

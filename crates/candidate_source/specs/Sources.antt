@@ -6,8 +6,8 @@ use Rattle.row_delta.specs.{declared.{delta.Delta.{Delta}, row.Named.{Named}}, N
 use Rattle.rule_model.specs.{declared.{condition.Pattern.{Pattern}, program.Program.{Program}}, Lent.{lent}, Snapshots.{Snapshot}}
 use Rattle.alpha_memory.specs.JoinIndex.{at}
 use Rattle.join_tests.specs.Joins.{Look}
-use Rattle.pair_memory.specs.{declared.memories.Memories.{Memories}, Apart.{has_candidate}, Inputs.{row_naming, IsNameDifference}, Joined.{has_name}}
-use Rattle.pair_memory.specs.Shared.{sharing, KeepsAlike, KeepsNames, NamesAgree, TakesOver, ForgoesOld}
+use Rattle.join_memory.specs.{declared.memories.Memories.{Memories}, Apart.{has_candidate}, Inputs.{row_naming, IsNameDifference}, Joined.{has_name}}
+use Rattle.join_memory.specs.Shared.{sharing, KeepsAlike, KeepsNames, NamesAgree, TakesOver, ForgoesOld}
 use Rattle.condition_rows.specs.{Looks.{empty_snapshot}, Sets.{candidates_of}}
 use Rattle.pattern_gate.specs.{Gates.{GateStands, has_good_window}, Moves.{IsOrderly, MovesSnapshot}}
 use Rattle.candidate_source.specs.{declared.{source.Source.{Source}, sources.Sources.{Sources}}, Handed.{gone_at, come_at, IsUnhanded}, Reached.{has_place}}

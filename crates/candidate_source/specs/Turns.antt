@@ -3,8 +3,8 @@ use Rattle.std.specs.{Prelude.{◌≡◌, ◌&&◌, ◌||◌, not, ℕ, Bool, Li
 use Rattle.row_delta.specs.{declared.{delta.Delta.{Delta}, row.Named.{Named}}, Rows.{has}}
 use Rattle.rule_model.specs.{declared.program.Program.{Program}, Snapshots.{Snapshot}}
 use Rattle.join_tests.specs.{Joins.{Look}, Kept.{rows_sought}}
-use Rattle.pair_memory.specs.{declared.memories.Memories.{Memories}, Apart.{has_candidate}, Inputs.{row_naming, IsNameDifference}, Joined.{has_name}}
-use Rattle.pair_memory.specs.{Joined.{AreDistinct}, Shared.{sharing, KeepsAlike, KeepsNames, TakesOver, ForgoesOld}}
+use Rattle.join_memory.specs.{declared.memories.Memories.{Memories}, Apart.{has_candidate}, Inputs.{row_naming, IsNameDifference}, Joined.{has_name}}
+use Rattle.join_memory.specs.{Joined.{AreDistinct}, Shared.{sharing, KeepsAlike, KeepsNames, TakesOver, ForgoesOld}}
 use Rattle.condition_rows.specs.Sets.{candidates_of}
 use Rattle.pattern_gate.specs.Gates.{GateStands}
 use Rattle.candidate_source.specs.{declared.{handed.Handed.{Handed}, source.Source.{Source}}, Handed.{gone_at, come_at, IsUnhanded}, Reached.{is_under_one}}

@@ -2,7 +2,7 @@
 use Rattle.std.{specs.Prelude.{List, ℕ, [], Option, Some}, proofs.Common.{String, Global}}
 use Rattle.fx_io.specs.Files.{file_of}
 use Rattle.replay.specs.{Report.{IsPrompt}, Wanted.{wanted}}
-use Rattle.session_laws.specs.{Counts.{held_counts}, Gives.{gives, fires}}
+use Rattle.session_model.specs.{Counts.{held_counts}, Gives.{gives, fires}}
 
 -- these bytes were given, and all is written that the program is to print then for these words over these files, and nothing else
 abbrev pub IsAnswered : List (String Global) → List (List ℕ × List ℕ) → List ℕ → Option (List ℕ) → Type 0

@@ -3,7 +3,7 @@ use Rattle.change_rules.proofs.Common.{Option, Program, Some, TypeInfo, List, []
 use Rattle.change_rules.{proofs.Common.{ℕ, ◌+◌, ◌<◌, ◌∙◌, ◌∷◌, ◌≡◌}, specs.Checked.{AreFirstEntries, AreFirstTypes, HaveConditionPlaces}}
 use Rattle.std.proofs.{Common.{Bool, cond, false, option_map, refl, slice_get, suc, zero}, lemmas.{Option.{get_or_from_slice_get}, Slice.Eq.{bytes_eq-Decides}}}
 use Rattle.std.specs.Str.{bytes_eq}
-use Rattle.change_read.{specs.Changes.{entry_named}, proofs.Places.{some_is}}
+use Rattle.change_resolve.{specs.Changes.{entry_named}, proofs.Places.{some_is}}
 use Rattle.fx_base.proofs.Sequences.{In-place}
 use Rattle.rule_change.{proofs.Places.{type_back}, specs.Alike.{HaveNames, HavePlaces}}
 use Rattle.rule_model.{proofs.RuleOf.{in_place}, specs.declared.program.{EntryInfo.{EntryInfo}, Rule.{Rule}}}

@@ -1,5 +1,5 @@
 -- Names from modules that two proofs and more cite, passed on from one place. Declares nothing.
-pub use Rattle.change_read.specs.Changes.{type_named}
+pub use Rattle.change_resolve.specs.Changes.{type_named}
 pub use Rattle.change_rules.specs.Judged.{IsLongerAt}
 pub use Rattle.change_rules.specs.Staying.{IsFirstFree, IsThere, place_in}
 pub use Rattle.rule_change.specs.Refused.{IsCountedAnew, counts_type}

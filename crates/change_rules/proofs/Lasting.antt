@@ -3,7 +3,7 @@ use Rattle.change_rules.proofs.Common.{Life, LifeTable, List, None, Option, Prog
 use Rattle.change_rules.{proofs.Common.{length, refl, sym, true, type_named, ℕ, ◌++◌, ◌+◌, ◌<◌, ◌∙◌, ◌∷◌, ◌≡◌, ◌≤◌}, specs.AsLong.{are_lives_as_long}}
 use Rattle.change_rules.specs.{AsLong.{is_life_as_long}, Longest.{LongestIsAsLong, LongestIsLongEnough, longer_life, longer_or_own, longest, longest_life}}
 use Rattle.change_rules.specs.Longest.{longest_lives}
-use Rattle.change_read.proofs.Places.{some_is}
+use Rattle.change_resolve.proofs.Places.{some_is}
 use Rattle.fx_base.proofs.{Orders.{int_eq-self, int_lt-false, int_lt-flip, le-int_le}, Sequences.{drop_at, drop_past}}
 use Rattle.rule_change.{proofs.Places.{type_back, type_found}, specs.{Alike.{HaveNames}, Changed.{carried_life, carried_lives, life_or}, Refused.{is_longer}}}
 use Rattle.rule_model.specs.{Lives.{AreShort, IsShortLife}, declared.life.Life.TheVariants.{Plain, Explicit, Finite, Infinite}}

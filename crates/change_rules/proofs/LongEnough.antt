@@ -1,7 +1,7 @@
 -- Lives that are as long as others.
 use Rattle.change_rules.proofs.Common.{Life, List, Program, Some, [], ap, ap₂, drop, get_or, length, refl, sym, true, ℕ, ◌+◌, ◌<◌, ◌∙◌, ◌∷◌, ◌≡◌, ◌≤◌}
 use Rattle.change_rules.specs.AsLong.{AsLongIsSafe, are_lives_as_long, is_life_as_long}
-use Rattle.change_read.proofs.Places.{some_is}
+use Rattle.change_resolve.proofs.Places.{some_is}
 use Rattle.fx_base.proofs.{Orders.{int_eq-true, int_le-true, ≤ℤ_trans}, Sequences.{drop_at, drop_past}}
 use Rattle.std.{proofs.{Common.{Bool, false, suc, zero, ◌&&◌, ◌^◌, int_le, pos}, lemmas.{Bool.{and_parts}, List.{get_or_default}}}, specs.Prelude.{slice_get}}
 use Rattle.life_meaning.specs.Tables.{IsLifeOf, IsSafeLife}

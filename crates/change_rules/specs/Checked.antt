@@ -1,6 +1,6 @@
 -- What of a program is as in every accepted rule file, as it is looked up.
 use Rattle.std.specs.Prelude.{◌≡◌, ◌<◌, ℕ, List, Some, option_map, slice_get}
-use Rattle.change_read.specs.Changes.{type_named, entry_named}
+use Rattle.change_resolve.specs.Changes.{type_named, entry_named}
 use Rattle.rule_model.specs.{declared.{condition.Condition.{Condition}, program.{EntryInfo.{EntryInfo}, TypeInfo.{TypeInfo}}}, Rows.{pattern_of}}
 
 -- the first type of the name of each is it

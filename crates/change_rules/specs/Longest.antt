@@ -1,6 +1,6 @@
 -- The lives by which events are kept for as long as other rules need them.
 use Rattle.std.specs.{Prelude.{◌≡◌, true, List, [], ◌∷◌, Option, Some, None, slice_get, ℕ}, Int.{int_max}}
-use Rattle.change_read.specs.Changes.{type_named}
+use Rattle.change_resolve.specs.Changes.{type_named}
 use Rattle.rule_change.specs.{Alike.{HaveNames}, Refused.{IsLonger}}
 use Rattle.life_meaning.specs.Tables.{AreLives}
 use Rattle.rule_model.specs.{Lives.{AreShort}, declared.{life.{Life.{Life, TheVariants.{Finite, Infinite}}, LifeTable.{LifeTable}}, program.Program.{Program}}}

@@ -1,6 +1,6 @@
 //! What of a program is as in every accepted rule file: names that are apart, and patterns of types and entry points that are there.
 ghost use Rattle.std.specs.Prelude.{◌≡◌, ◌≤◌, ◌^◌, length, option_map, false, IsTrue};
-ghost use Rattle.change_read.specs.Changes.{type_named};
+ghost use Rattle.change_resolve.specs.Changes.{type_named};
 ghost use Rattle.rule_change.specs.Alike.{HaveNames, HavePlaces};
 ghost use Rattle.change_rules.specs.Checked.{AreFirstEntries, AreFirstTypes, HasPlacesIn, HaveConditionPlaces};
 

@@ -1,6 +1,6 @@
 //! The lives by which a world goes on under other rules, and which of them are too short.
 ghost use Rattle.std.specs.Prelude.{◌≡◌, ◌↔◌, ◌≤◌, ◌^◌, length, option_and_then, slice_get, IsTrue, IfOk};
-ghost use Rattle.change_read.specs.Changes.{type_named};
+ghost use Rattle.change_resolve.specs.Changes.{type_named};
 ghost use Rattle.rule_change.specs.Changed.{carried, carried_life as carried_life_of};
 ghost use Rattle.rule_change.specs.Refused.{IsLonger, is_longer as is_longer_than};
 ghost use Rattle.change_rules.specs.Judged.{IsFirstType, IsLongerAt};

@@ -1,6 +1,6 @@
 //! The lives by which events are kept for as long as other rules need them.
 ghost use Rattle.std.specs.Prelude.{◌≡◌, ◌≤◌, ◌^◌, length, IfOk};
-ghost use Rattle.change_read.specs.Changes.{type_named};
+ghost use Rattle.change_resolve.specs.Changes.{type_named};
 ghost use Rattle.change_rules.specs.Longest.{longer_life as longer_of, longest, longest_life as longest_of};
 
 use crate::lives::life_named;

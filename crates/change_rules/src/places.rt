@@ -1,13 +1,13 @@
 //! Where the types and the entry points of one program stand in another, by their names.
 ghost use Rattle.std.specs.Prelude.{◌≡◌, ◌≤◌, ◌^◌, length, option_map, slice_get};
-ghost use Rattle.change_read.specs.Changes.{type_named, entry_named};
+ghost use Rattle.change_resolve.specs.Changes.{type_named, entry_named};
 ghost use Rattle.rule_change.specs.Changed.{type_in, entry_in, new_type as new_type_of, new_entry as new_entry_of};
 
 use fx_base::{EntryId, Text, TypeId};
 use rule_model::{EntryInfo, Program, TypeInfo};
 
 /// The type of this name, with its place. Takes no memory.
-#[tactic(auto, unfolding(change_read::specs::Changes::type_named))]
+#[tactic(auto, unfolding(change_resolve::specs::Changes::type_named))]
 pub(crate) fn declared_type<'a>(
     types: &'a [TypeInfo],
     name: &Text,
@@ -24,7 +24,7 @@ pub(crate) fn declared_type<'a>(
 }
 
 /// The entry point of this name. Takes no memory.
-#[tactic(auto, unfolding(change_read::specs::Changes::entry_named))]
+#[tactic(auto, unfolding(change_resolve::specs::Changes::entry_named))]
 pub(crate) fn declared_entry(entries: &[EntryInfo], name: &Text) -> Option<EntryId>
     requires { length entries.now ≤ 2 ^ 16 }
     ensures { option_map (λ found. found.0) result ≡ entry_named name.now entries.now 0 }

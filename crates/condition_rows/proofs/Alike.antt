@@ -3,7 +3,7 @@ use Rattle.condition_rows.proofs.Common.{◌≡◌, ◌∙◌, sym, ap, refl, Li
 use Rattle.condition_rows.proofs.Common.{option_map, option_and_then, Fact, Named, Row, Pattern, Program, Snapshot, name_of, Look, versions_at, joins}
 use Rattle.condition_rows.proofs.Common.{version_at, clean, cleaned, remembered, no_names, AlikeOn, StandsFor, LooksAlike, HasAllOf, NameHeld, held}
 use Rattle.condition_rows.{proofs.Common.{is_candidate_given, and_parts, not-true, version_is}, specs.Sets.{candidates_of}}
-use Rattle.pair_memory.{proofs.Moving.{joins_alike}, specs.declared.memories.Memories.{Memories}}
+use Rattle.join_memory.{proofs.Moving.{joins_alike}, specs.declared.memories.Memories.{Memories}}
 
 none_of : (a b : Bool) → not (a || b) ≡ true → (a ≡ false) × (not b ≡ true)
 none_of true b e = absurd (let n : false ≡ true = e in cc)

@@ -13,10 +13,10 @@ pub use Rattle.fx_base.specs.Lists.{EachOnce, In}
 pub use Rattle.fx_base.specs.declared.fact.Fact.{Fact}
 pub use Rattle.join_tests.proofs.Versions.{version_is}
 pub use Rattle.join_tests.specs.Joins.{Look, is_named_version, joins, passes_given, tuple_at, version_at, versions_at}
-pub use Rattle.pair_memory.proofs.Valued.{from_unvalued, valued_from, valued_with}
-pub use Rattle.pair_memory.specs.Joined.{has_name, joined, with_name}
-pub use Rattle.pair_memory.specs.Standing.{AlikeOn, LooksAlike, StandsFor, clean, cleaned, no_names, remembered}
-pub use Rattle.pair_memory.specs.Valued.{splits_value, unvalued, valued}
+pub use Rattle.join_memory.proofs.Valued.{from_unvalued, valued_from, valued_with}
+pub use Rattle.join_memory.specs.Joined.{has_name, joined, with_name}
+pub use Rattle.join_memory.specs.Standing.{AlikeOn, LooksAlike, StandsFor, clean, cleaned, no_names, remembered}
+pub use Rattle.join_memory.specs.Valued.{splits_value, unvalued, valued}
 pub use Rattle.row_delta.specs.NameOrder.{name_cmp, name_equiv, name_exact}
 pub use Rattle.row_delta.specs.declared.row.Named.{Named}
 pub use Rattle.row_delta.specs.declared.row.Row.{Row}

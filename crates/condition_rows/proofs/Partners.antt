@@ -2,7 +2,7 @@
 use Rattle.condition_rows.proofs.Common.{◌≡◌, ◌∙◌, sym, ap, refl, ℤ, [], Bool, true, false, ◌&&◌, ◌||◌, Option, Some, None, In, EachOnce, Fact, Named, Row}
 use Rattle.condition_rows.proofs.Common.{Pattern, Program, HaveDistinctTags, Snapshot, name_of, of_filter, joins, clean, cleaned, unvalued, splits_value, held}
 use Rattle.condition_rows.{proofs.Common.{is_candidate, candidates, from_unvalued}, specs.Sets.{partners}}
-use Rattle.pair_memory.specs.Valued.{valued}
+use Rattle.join_memory.specs.Valued.{valued}
 use Rattle.std.proofs.Math.Bool.{and-false, and-true}
 use Rattle.rule_model.proofs.Once.{once_filter, once_facts}
 

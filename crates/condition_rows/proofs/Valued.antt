@@ -6,7 +6,7 @@ use Rattle.condition_rows.proofs.Common.{rows_of, held, line, is_result, result_
 use Rattle.condition_rows.{proofs.{Common.{same_test}, Ends.{IsMade, tuple_of_row, row_of_tuple, split_end, with_end}}, specs.{Sets.{partners}, Lines.{gives}}}
 use Rattle.condition_rows.proofs.{Joined.{joins_made}, Kept.{bound_made}}
 use Rattle.rule_model.specs.{declared.condition.Accumulate.{Accumulate}, Tests.{results_hold}}
-use Rattle.pair_memory.specs.Valued.{with_row_value as with_last_value}
+use Rattle.join_memory.specs.Valued.{with_row_value as with_last_value}
 use Rattle.std.proofs.lemmas.Cmp.{int_eq_equiv}
 use Rattle.fx_base.proofs.Orders.{int_eq-true}
 

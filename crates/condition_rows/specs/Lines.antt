@@ -6,7 +6,7 @@ use Rattle.rule_model.specs.declared.condition.{Accumulate.{Accumulate}, Conditi
 use Rattle.rule_model.specs.{declared.{condition.Pattern.{Pattern}, program.Program.{Program}}, Lent.{bound_in}, Maturity.{is_mature}, Rows.{result_of}}
 use Rattle.rule_model.specs.{Snapshots.{Snapshot, floor}, Tests.{results_hold}}
 use Rattle.join_tests.specs.Joins.{joins}
-use Rattle.pair_memory.specs.{Joined.{joined}, Valued.{valued}}
+use Rattle.join_memory.specs.{Joined.{joined}, Valued.{valued}}
 use Rattle.condition_rows.specs.Sets.{held, candidates_of, has_partner, partners}
 
 -- ---- what a condition asks of a row

@@ -13,7 +13,7 @@ ghost use Rattle.rule_model.specs.Distinct.{HaveDistinctTags};
 ghost use Rattle.rule_model.specs.Rows.{rows};
 ghost use Rattle.rule_model.specs.Snapshots.{Snapshot};
 ghost use Rattle.rule_model.specs.Tuples.{name_of};
-ghost use Rattle.pair_memory.specs.Joined.{has_name};
+ghost use Rattle.join_memory.specs.Joined.{has_name};
 ghost use Rattle.condition_rows.specs.Sets.{rows_of, held, candidates_of, candidate_names};
 ghost use Rattle.condition_rows.specs.Looks.{NameHeld};
 ghost use Rattle.condition_rows.specs.Lines.{line, lines};

@@ -9,7 +9,7 @@ use Rattle.temporal_net.specs.{declared.edge.NetEdge.{NetEdge}, Potentials.{is_s
 use Rattle.rule_model.specs.{declared.program.TypeInfo.{TypeInfo}, Types.{is_event, is_point}}
 use Rattle.life_edges.specs.Edges.{place_of}
 use Rattle.expiry_infer.specs.Solvable.{can_match}
-use Rattle.drl_program.specs.Programs.{conditions_meant}
+use Rattle.drl_compile.specs.Programs.{conditions_meant}
 
 event_by : (observed names : List (List ℕ)) (o : Option TypeTree) → is_event_type (option_map (type_info observed) o) ≡ is_event_type (option_map (type_info names) o)
 event_by observed names None = refl

@@ -36,24 +36,24 @@ pub use Rattle.drl_grammar.specs.declared.file.TypeTree.{TypeTree}
 pub use Rattle.drl_limits.specs.Limits.{exceeds_limit_behind, actions_within, attr_within, condition_within, has_few_entries, rule_within, is_name, type_within}
 pub use Rattle.drl_limits.specs.Limits.{meta_within, action_within, entry_within, is_entry_name, lateness_within, part_within, source_within, tests_within}
 pub use Rattle.drl_limits.specs.Limits.{variable_within, weight, window_within}
-pub use Rattle.drl_program.proofs.Flagged.{one_for_each, observed_are_flagged}
-pub use Rattle.drl_program.proofs.Timed.{each_has_operator}
-pub use Rattle.drl_program.specs.Observed.{observed_names}
-pub use Rattle.drl_program.specs.Programs.{program_of, rule_of, type_info, condition_meant, type_place, action_of, conditions_meant, entry_info, expression_in}
-pub use Rattle.drl_program.specs.Programs.{fact_meant, set_in, types_alone, count_meant, field_info, field_place, kind_or_int, small_place, time_test}
-pub use Rattle.drl_program.specs.Programs.{time_tests_in, type_meant, variable_field_value, variable_value, window_meant}
-pub use Rattle.drl_sight.specs.Annotations.{declared_expiry, is_tree_of_events, reference_of}
-pub use Rattle.drl_sight.specs.Declarations.{rules_of, types_of, type_names, field_names, rule_in, type_in, type_tree_named, rule_names, kind_at, kind_by_word}
-pub use Rattle.drl_sight.specs.EntryPoints.{entry_names, declared_entries, entries_named, default_name, entries_declared, lateness_or_zero, lateness_with}
-pub use Rattle.drl_sight.specs.EntryPoints.{source_of, with_entry_name, with_names}
-pub use Rattle.drl_sight.specs.Names.{place_of_name, is_name_short}
+pub use Rattle.drl_compile.proofs.Flagged.{one_for_each, observed_are_flagged}
+pub use Rattle.drl_compile.proofs.Timed.{each_has_operator}
+pub use Rattle.drl_compile.specs.Observed.{observed_names}
+pub use Rattle.drl_compile.specs.Programs.{program_of, rule_of, type_info, condition_meant, type_place, action_of, conditions_meant, entry_info, expression_in}
+pub use Rattle.drl_compile.specs.Programs.{fact_meant, set_in, types_alone, count_meant, field_info, field_place, kind_or_int, small_place, time_test}
+pub use Rattle.drl_compile.specs.Programs.{time_tests_in, type_meant, variable_field_value, variable_value, window_meant}
+pub use Rattle.drl_scope.specs.Annotations.{declared_expiry, is_tree_of_events, reference_of}
+pub use Rattle.drl_scope.specs.Declarations.{rules_of, types_of, type_names, field_names, rule_in, type_in, type_tree_named, rule_names, kind_at, kind_by_word}
+pub use Rattle.drl_scope.specs.EntryPoints.{entry_names, declared_entries, entries_named, default_name, entries_declared, lateness_or_zero, lateness_with}
+pub use Rattle.drl_scope.specs.EntryPoints.{source_of, with_entry_name, with_names}
+pub use Rattle.drl_scope.specs.Names.{place_of_name, is_name_short}
 pub use Rattle.drl_expr.specs.Words.{is_among}
-pub use Rattle.drl_sight.specs.Sight.{begin, Sight, Meaning, Place, behind, of_fact, of_field, of_result, sight_of_actions, meaning_of, seen_fact, seen_field}
-pub use Rattle.drl_sight.specs.Sight.{seen_in, seen_of, seen_result, behind_all, is_bound_by}
-pub use Rattle.drl_uses.specs.Kinds.{has_wrong_kind, taken_by, word_kind, action_misfits, args_misfit, argument_misfits, insert_misfits, is_number, is_value}
-pub use Rattle.drl_uses.specs.Kinds.{modify_misfits, number_where, part_misfits, set_misfits, source_misfits, test_misfits, tree_kind}
-pub use Rattle.drl_uses.specs.Uses.{has_unknown_type, has_unknown_variable, any_condition, inserts_unknown_type, is_type_unknown, action_unseen, leaf_unseen}
-pub use Rattle.drl_uses.specs.Uses.{part_unseen, source_unseen, target_unseen, test_unseen}
+pub use Rattle.drl_scope.specs.Sight.{begin, Sight, Meaning, Place, behind, of_fact, of_field, of_result, sight_of_actions, meaning_of, seen_fact, seen_field}
+pub use Rattle.drl_scope.specs.Sight.{seen_in, seen_of, seen_result, behind_all, is_bound_by}
+pub use Rattle.drl_typing.specs.Kinds.{has_wrong_kind, taken_by, word_kind, action_misfits, args_misfit, argument_misfits, insert_misfits, is_number, is_value}
+pub use Rattle.drl_typing.specs.Kinds.{modify_misfits, number_where, part_misfits, set_misfits, source_misfits, test_misfits, tree_kind}
+pub use Rattle.drl_typing.specs.Uses.{has_unknown_type, has_unknown_variable, any_condition, inserts_unknown_type, is_type_unknown, action_unseen, leaf_unseen}
+pub use Rattle.drl_typing.specs.Uses.{part_unseen, source_unseen, target_unseen, test_unseen}
 pub use Rattle.life_edges.specs.Edges.{HaveNetwork, condition_edges, edges_of_conditions, net_edge, test_edges}
 pub use Rattle.life_meaning.specs.Networks.{AreSolvable}
 pub use Rattle.rule_model.specs.Expressions.{Expression}

@@ -10,8 +10,8 @@ use Rattle.fx_base.specs.declared.kind.Kind.{Kind}
 use Rattle.fx_base.specs.declared.kind.Kind.TheVariants as kind
 use Rattle.drl_expr.specs.declared.literal.LitTree.TheVariants as literal
 use Rattle.rule_world.specs.Typed.{args_fit}
-use Rattle.drl_sight.specs.Meanings.{field_kind, variable_kind, variable_field_kind}
-use Rattle.drl_uses.specs.Kinds.{args_misfit}
+use Rattle.drl_scope.specs.Meanings.{field_kind, variable_kind, variable_field_kind}
+use Rattle.drl_typing.specs.Kinds.{args_misfit}
 use Rattle.drl_check.proofs.Places.{type_taken, Stands, got, taken_of}
 use Rattle.fx_base.proofs.Tests.{or_first_false, or_second_false}
 

@@ -12,9 +12,9 @@ use Rattle.drl_grammar.specs.declared.condition.Part.TheVariants as part
 use Rattle.temporal_ops.specs.declared.edge.OpEdge.{OpEdge}
 use Rattle.rule_model.specs.declared.condition.Condition.TheVariants as condition
 use Rattle.rule_model.specs.Rows.{pattern_of}
-use Rattle.drl_sight.specs.Sight.{meaning_of}
-use Rattle.drl_program.specs.{Operators.{operator_of}, Programs.{conditions_meant}}
-use Rattle.drl_uses.specs.Uses.{any_condition}
+use Rattle.drl_scope.specs.Sight.{meaning_of}
+use Rattle.drl_compile.specs.{Operators.{operator_of}, Programs.{conditions_meant}}
+use Rattle.drl_typing.specs.Uses.{any_condition}
 use Rattle.fx_base.proofs.Tests.{or_first_false, or_second_false}
 
 -- ---- a fact that a variable means is bound

@@ -8,8 +8,8 @@ use Rattle.std.proofs.Common.{append-nil}
 use Rattle.drl_grammar.specs.declared.condition.CondTree.TheVariants as tree
 use Rattle.drl_grammar.specs.declared.condition.Part.TheVariants as part
 use Rattle.rule_model.specs.declared.condition.Condition.TheVariants.{Plain, Negated, Existing, Folded}
-use Rattle.drl_sight.specs.Sight.{meaning_of, behind_all}
-use Rattle.drl_program.specs.Programs.{conditions_meant}
+use Rattle.drl_scope.specs.Sight.{meaning_of, behind_all}
+use Rattle.drl_compile.specs.Programs.{conditions_meant}
 use Rattle.fx_base.proofs.Sequences.{get-append_left, get-last}
 
 -- the type of the fact of this number, given the places of the types of the facts that are bound

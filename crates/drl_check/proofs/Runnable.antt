@@ -16,9 +16,9 @@ use Rattle.drl_grammar.specs.declared.file.Body.TheVariants as body
 use Rattle.drl_grammar.specs.declared.file.Meta.{Meta}
 use Rattle.drl_grammar.specs.declared.file.Meta.TheVariants as meta
 use Rattle.rule_model.specs.Types.{is_event, is_reference}
-use Rattle.drl_sight.specs.Annotations as annotation
-use Rattle.drl_sight.specs.Names.{are_distinct}
-use Rattle.drl_program.specs.Laws.{has_type, has_types}
+use Rattle.drl_scope.specs.Annotations as annotation
+use Rattle.drl_scope.specs.Names.{are_distinct}
+use Rattle.drl_compile.specs.Laws.{has_type, has_types}
 use Rattle.drl_check.proofs.{Failures.{types_next}, Sound.{not_and_right, is_time, given_time, few_types, few_rules, few_entries, one_entry, some_entry, late}}
 use Rattle.drl_check.proofs.{Sound.{all_late, conditions_sound, actions_sound, all_sound}, Fields.{same_bytes}, Named.{rule_named}, Typed.{accepted_typed}}
 use Rattle.drl_check.proofs.Windows.{accepted_windows}

@@ -9,7 +9,7 @@ use Rattle.drl_check.proofs.Common.{action_within, actions_within, entry_info, r
 use Rattle.std.proofs.lemmas.Bool.{and_from, leb-true, ltb-true}
 use Rattle.drl_grammar.specs.declared.file.Body.TheVariants as body
 use Rattle.rule_world.specs.Events.{most_millis}
-use Rattle.drl_sight.specs.EntryPoints.{with_names, lateness_named}
+use Rattle.drl_scope.specs.EntryPoints.{with_names, lateness_named}
 use Rattle.drl_limits.specs.Limits.{span_limit}
 use Rattle.drl_check.proofs.Failures.{types_next, rules_next, known_next}
 use Rattle.fx_base.proofs.Tests.{and_first, and_second}

@@ -17,7 +17,7 @@ use Rattle.drl_grammar.specs.declared.action.ActTree.TheVariants as act
 use Rattle.drl_grammar.specs.declared.file.Body.TheVariants as body
 use Rattle.rule_model.specs.declared.action.Action.TheVariants.{Modify}
 use Rattle.rule_world.specs.Typed.{is_typed}
-use Rattle.drl_sight.specs.Operands.{any_leaf_of}
+use Rattle.drl_scope.specs.Operands.{any_leaf_of}
 use Rattle.drl_check.proofs.{Fields.{HaveFieldsApart, kinds_taken, types_apart, apart_at}, Places.{type_taken, taken_of, type_placed, few_bound, sight_stands}}
 use Rattle.drl_check.proofs.{Fitting.{HaveFewFields, InSight, fields_at, args_are_fit, sets_are_fit}, Sound.{not_and_right, few_types}}
 use Rattle.fx_base.proofs.Tests.{and_first, and_second, or_first_false, or_second_false}

@@ -15,9 +15,9 @@ use Rattle.drl_grammar.specs.declared.condition.WindowTree.{WindowTree}
 use Rattle.drl_grammar.specs.declared.condition.WindowTree.TheVariants as window
 use Rattle.drl_grammar.specs.declared.file.Body.TheVariants as body
 use Rattle.rule_model.specs.{Simple.{is_whole}, Types.{is_event}}
-use Rattle.drl_sight.specs.Annotations as annotation
-use Rattle.drl_program.specs.Programs.{conditions_meant}
-use Rattle.drl_uses.specs.{Times.{part_lacks_times, source_lacks_times, has_no_times}, Uses.{any_condition}}
+use Rattle.drl_scope.specs.Annotations as annotation
+use Rattle.drl_compile.specs.Programs.{conditions_meant}
+use Rattle.drl_typing.specs.{Times.{part_lacks_times, source_lacks_times, has_no_times}, Uses.{any_condition}}
 use Rattle.drl_check.proofs.{Places.{type_placed}, Sound.{not_and_right, is_time, given_time, few_types}}
 use Rattle.fx_base.proofs.Tests.{and_first, and_second, or_first_false, or_second_false}
 

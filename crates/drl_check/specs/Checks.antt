@@ -8,10 +8,10 @@ use Rattle.drl_check.specs.declared.fault.CheckCode.TheVariants.{NotAnEvent, Bad
 use Rattle.drl_check.specs.{declared.fault.CheckCode.TheVariants.{NeverMatches}, Twice.{is_twice}, Events.{annotation_lacks, is_no_event, has_bad_timestamp}}
 use Rattle.drl_check.specs.{Events.{marks_event, modifies_event, retracts_observed, fixes_reference}, Params.{is_negative_number, expires_at_once}}
 use Rattle.drl_check.specs.{Params.{is_condition_refused}, Solvable.{never_matches}}
-use Rattle.drl_sight.specs.{Declarations.{types_of}, Observed.{is_watched_type}, Sight.{begin, sight_of_actions}}
+use Rattle.drl_scope.specs.{Declarations.{types_of}, Observed.{is_watched_type}, Sight.{begin, sight_of_actions}}
 use Rattle.drl_limits.specs.Limits.{exceeds_limit}
-use Rattle.drl_uses.specs.Uses.{any_condition, has_unknown_type, has_unknown_field, has_unknown_variable, inserts_unknown_type, action_lacks, action_unseen}
-use Rattle.drl_uses.specs.{Kinds.{has_unknown_kind, has_wrong_kind, action_misfits}, Times.{has_no_times}}
+use Rattle.drl_typing.specs.Uses.{any_condition, has_unknown_type, has_unknown_field, has_unknown_variable, inserts_unknown_type, action_lacks, action_unseen}
+use Rattle.drl_typing.specs.{Kinds.{has_unknown_kind, has_wrong_kind, action_misfits}, Times.{has_no_times}}
 
 abbrev pub lacks_type : List TypeTree → Body → Bool
 lacks_type types (body.Rule r) = has_unknown_type types r.conditions || list_any (inserts_unknown_type types) r.actions
@@ -103,7 +103,7 @@ has_bad_params (body.Import path star) = false
 has_bad_params (body.Dialect text) = false
 
 -- whether an item fails the check of this code, given all the items of the file and those before it; that `NeverMatches` fails exactly where
--- the temporal tests of a rule have no solution (`IsSolvable` of `rule_lives/specs/Networks.antt`) is the law
+-- the temporal tests of a rule have no solution (`IsSolvable` of `life_laws/specs/Networks.antt`) is the law
 -- `drl_check::laws::rules_that_never_match_are_found`, of what has passed the checks before it
 abbrev pub fails : CheckCode → List Item → List Item → Body → Bool
 fails TwiceDeclared all before b = is_twice before b

@@ -5,9 +5,9 @@ use Rattle.drl_grammar.specs.declared.action.ActTree.TheVariants as action
 use Rattle.drl_grammar.specs.declared.file.Meta.{Meta}
 use Rattle.drl_grammar.specs.declared.file.Meta.TheVariants as meta
 use Rattle.drl_grammar.specs.declared.file.TypeTree.{TypeTree}
-use Rattle.drl_sight.specs.{Annotations.{is_tree_of_events, reference_of}, Declarations.{type_tree_named}, Meanings.{lacks, field_kind}, Sight.{Sight, Meaning}}
-use Rattle.drl_sight.specs.Sight.{of_fact, of_field, of_result, meaning_of}
-use Rattle.drl_uses.specs.Kinds.{is_int}
+use Rattle.drl_scope.specs.{Annotations.{is_tree_of_events, reference_of}, Declarations.{type_tree_named}, Meanings.{lacks, field_kind}, Sight.{Sight, Meaning}}
+use Rattle.drl_scope.specs.Sight.{of_fact, of_field, of_result, meaning_of}
+use Rattle.drl_typing.specs.Kinds.{is_int}
 
 -- ---- annotations
 

@@ -3,7 +3,7 @@
 use Rattle.std.specs.Prelude.{ℕ, List, length, Option, Some, None, if◌then◌else◌}
 use Rattle.drl_grammar.specs.declared.file.{Body.{Body}, TypeTree.{TypeTree}}
 use Rattle.rule_model.specs.declared.program.Program.{Program}
-use Rattle.drl_sight.specs.Observed.{is_event_among}
+use Rattle.drl_scope.specs.Observed.{is_event_among}
 use Rattle.drl_check.specs.declared.fault.CheckCode.{CheckCode, TheVariants.{TwiceDeclared, LimitPassed, UnknownType, UnknownField, UnknownVariable, WrongKind}}
 use Rattle.drl_check.specs.declared.fault.CheckCode.TheVariants.{NotAnEvent, BadTimestamp, BadReference, EventFixed, EventObserved, ReferenceFixed, BadParams}
 use Rattle.drl_check.specs.{declared.fault.CheckCode.TheVariants.{NeverMatches}, Twice.{is_repeated}, Checks.{lacks_type, lacks_field, lacks_variable}}

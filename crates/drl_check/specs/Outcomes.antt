@@ -2,7 +2,7 @@
 use Rattle.std.specs.Prelude.{Option, Some, None, Result, Ok, Err}
 use Rattle.drl_grammar.specs.declared.file.File.{File}
 use Rattle.rule_model.specs.declared.program.Program.{Program}
-use Rattle.drl_program.specs.Programs.{program_of}
+use Rattle.drl_compile.specs.Programs.{program_of}
 use Rattle.drl_check.specs.Checks.{Failure, failure_of}
 
 -- the program of an accepted file, or the first failure

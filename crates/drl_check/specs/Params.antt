@@ -8,7 +8,7 @@ use Rattle.drl_grammar.specs.declared.condition.WindowTree.TheVariants as window
 use Rattle.drl_grammar.specs.declared.file.Meta.{Meta}
 use Rattle.drl_grammar.specs.declared.file.Meta.TheVariants as meta
 use Rattle.drl_grammar.specs.declared.file.TypeTree.{TypeTree}
-use Rattle.drl_sight.specs.EntryPoints.{source_of}
+use Rattle.drl_scope.specs.EntryPoints.{source_of}
 
 abbrev pub is_below_zero : ℤ → Bool
 is_below_zero n = int_lt n (pos 0)

@@ -7,8 +7,8 @@ use Rattle.drl_grammar.specs.declared.file.{Item.{Item}, TypeTree.{TypeTree}}
 use Rattle.rule_model.specs.declared.program.Program.{Program}
 use Rattle.life_edges.specs.Edges.{HaveNetwork}
 use Rattle.expiry_infer.specs.Solvable.{can_match}
-use Rattle.drl_sight.specs.{Declarations.{types_of}, EntryPoints.{entry_names}, Sight.{begin}}
-use Rattle.drl_program.specs.Programs.{conditions_meant, program_of, rule_of}
+use Rattle.drl_scope.specs.{Declarations.{types_of}, EntryPoints.{entry_names}, Sight.{begin}}
+use Rattle.drl_compile.specs.Programs.{conditions_meant, program_of, rule_of}
 
 abbrev pub never_matches : List Item → Body → Bool
 never_matches all (body.Rule r) = not (can_match (program_of (record { items = all })) (rule_of (types_of all) (entry_names all) r).conditions)

@@ -14,7 +14,7 @@ use Rattle.drl_grammar.specs.declared.file.Body.TheVariants as body
 use Rattle.drl_grammar.specs.declared.file.{Item.{Item}, Meta.{Meta}}
 use Rattle.drl_grammar.specs.declared.file.Meta.TheVariants as meta
 use Rattle.drl_grammar.specs.declared.file.RuleTree.{RuleTree}
-use Rattle.drl_sight.specs.{Names.{are_distinct}, Declarations.{types_of, rules_of, type_names, rule_names, field_names}, EntryPoints.{declared_entries}}
+use Rattle.drl_scope.specs.{Names.{are_distinct}, Declarations.{types_of, rules_of, type_names, rule_names, field_names}, EntryPoints.{declared_entries}}
 use Rattle.drl_expr.specs.Words.{is_among}
 
 abbrev pub attr_word : Attr → List ℕ

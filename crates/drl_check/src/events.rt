@@ -1,14 +1,14 @@
 ghost use Rattle.std.specs.Prelude.{◌≡◌, Some, IfOk};
 ghost use Rattle.std.specs.List.{list_any};
 ghost use Rattle.drl_check.specs.Events.{meta_lacks, annotation_lacks, is_of_events, is_no_event, meta_misfits, has_bad_timestamp, marks_event, is_event_meant, modifies_event, is_observed_meant, retracts_observed, is_reference_named, is_reference_meant, fixes_reference};
-ghost use Rattle.drl_sight.specs.Observed.{is_event_among};
-ghost use Rattle.drl_sight.specs.Sight.{begin, behind_all, meaning_of, sight_of_actions};
+ghost use Rattle.drl_scope.specs.Observed.{is_event_among};
+ghost use Rattle.drl_scope.specs.Sight.{begin, behind_all, meaning_of, sight_of_actions};
 
 use drl_grammar::{ActTree, CondTree, Meta, RuleTree, TypeTree};
-use drl_sight::{
+use drl_scope::{
     Declared, DeclaredType, Meaning, Place, Places, Seen, is_event_tree, is_reference_tree,
 };
-use drl_uses::is_whole;
+use drl_typing::is_whole;
 use fx_base::{NoMemory, Text};
 use std::alloc::Global;
 
@@ -123,7 +123,7 @@ fn do_modify_event(place: &Place, actions: &[ActTree]) -> bool
 }
 
 // What is in sight behind all conditions of a rule, which is what its actions see.
-#[tactic(auto, unfolding(drl_sight::specs::Sight::behind_all))]
+#[tactic(auto, unfolding(drl_scope::specs::Sight::behind_all))]
 fn behind_conditions<'a, 'b>(
     alloc: Global,
     types: &'a Declared<'b>,

@@ -5,9 +5,9 @@ ghost use Rattle.drl_grammar.specs.declared.file.Body.TheVariants as body;
 ghost use Rattle.drl_grammar.specs.declared.file.Item.{Item};
 ghost use Rattle.drl_grammar.specs.declared.file.RuleTree.{RuleTree};
 ghost use Rattle.life_meaning.specs.Networks.{AreSolvable};
-ghost use Rattle.drl_sight.specs.Declarations.{types_of};
-ghost use Rattle.drl_sight.specs.EntryPoints.{entry_names};
-ghost use Rattle.drl_program.specs.Programs.{program_of, rule_of};
+ghost use Rattle.drl_scope.specs.Declarations.{types_of};
+ghost use Rattle.drl_scope.specs.EntryPoints.{entry_names};
+ghost use Rattle.drl_compile.specs.Programs.{program_of, rule_of};
 ghost use Rattle.drl_check.specs.declared.fault.CheckCode.TheVariants.{LimitPassed, UnknownType, UnknownVariable, WrongKind, NeverMatches};
 ghost use Rattle.drl_check.specs.Checks.{fails, Failure, failure_of, IsAcceptedFile, IsFirstFailure};
 

@@ -5,7 +5,7 @@ ghost use Rattle.temporal_ops.specs.Table.{takes_negative};
 ghost use Rattle.drl_check.specs.Params.{is_below_zero as is_below_zero_of, is_negative_number, has_short_expiry, expires_at_once, are_refused, is_part_refused, is_empty_window, is_source_refused, is_condition_refused};
 
 use drl_grammar::{CondTree, Meta, Part, SourceTree, TypeTree, WindowTree};
-use drl_sight::source_of;
+use drl_scope::source_of;
 use temporal_ops::OpWord;
 
 // ---- entry points

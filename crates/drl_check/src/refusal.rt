@@ -1,12 +1,12 @@
 ghost use Rattle.std.specs.Prelude.{◌≡◌, ◌<◌, ◌+◌, ◌^◌, ◌++◌, [], List, ℕ, IfOk};
-ghost use Rattle.drl_sight.specs.Declarations.{types_of, type_in, rule_in, type_names, rule_names};
-ghost use Rattle.drl_sight.specs.Observed.{is_event_among, watched_names};
-ghost use Rattle.drl_sight.specs.EntryPoints.{entries_declared, entries_named, with_names};
+ghost use Rattle.drl_scope.specs.Declarations.{types_of, type_in, rule_in, type_names, rule_names};
+ghost use Rattle.drl_scope.specs.Observed.{is_event_among, watched_names};
+ghost use Rattle.drl_scope.specs.EntryPoints.{entries_declared, entries_named, with_names};
 ghost use Rattle.drl_check.specs.Checks.{lacks_type, lacks_field as lacks_field_of, lacks_variable as lacks_variable_of, is_wrong_kind, needs_event, needs_whole_times, has_bad_reference, fixes_event, drops_observed, changes_reference, has_bad_params, failure_from};
 ghost use Rattle.drl_check.specs.Failing.{first_failing, first_failing_event, first_failing_use};
 ghost use Rattle.drl_check.specs.Answers.{within_32_bits, Judges};
 ghost use Rattle.drl_check.specs.Solvable.{never_matches_alone, HasFewConditions, HasNetwork};
-ghost use Rattle.drl_program.specs.Programs.{types_alone};
+ghost use Rattle.drl_compile.specs.Programs.{types_alone};
 
 use crate::events::{
     fixes_some_reference, is_marked_event, is_plain_with_times, lacks_annotated, misfits_annotated,
@@ -16,11 +16,11 @@ use crate::params::{does_expire_at_once, does_some_condition_refuse, is_below_ze
 use crate::twice::repeats;
 use crate::whole::Whole;
 use crate::{CheckCode, CheckFault};
+use drl_compile::conditions_alone;
 use drl_grammar::{Body, Item};
 use drl_limits::exceeds_limits;
-use drl_program::conditions_alone;
-use drl_sight::{Declared, Places, default_entry, with_entries};
-use drl_uses::{Asked, Kinded, insert_unknown, is_so_in_rule, lack_times, lack_type, lacks_kind};
+use drl_scope::{Declared, Places, default_entry, with_entries};
+use drl_typing::{Asked, Kinded, insert_unknown, is_so_in_rule, lack_times, lack_type, lacks_kind};
 use expiry_infer::is_solvable;
 use fx_base::NoMemory;
 use std::alloc::Global;

@@ -1,12 +1,12 @@
 ghost use Rattle.std.specs.Prelude.{◌≡◌, ◌++◌, map, IfOk, OnOk};
 ghost use Rattle.std.specs.List.{list_all};
 ghost use Rattle.drl_check.specs.Twice.{attr_word, own_variable, part_variable, source_variables, variables_bound, bound_variables, set_names, assigns_once, annotation_word, is_repeated};
-ghost use Rattle.drl_sight.specs.Names.{are_distinct};
-ghost use Rattle.drl_sight.specs.Declarations.{field_names};
+ghost use Rattle.drl_scope.specs.Names.{are_distinct};
+ghost use Rattle.drl_scope.specs.Declarations.{field_names};
 
 use drl_expr::ExprTree;
 use drl_grammar::{ActTree, Attr, Body, CondTree, Meta, Part, RuleTree, SourceTree, TypeTree};
-use drl_sight::{Places, differ, names_of_fields};
+use drl_scope::{Places, differ, names_of_fields};
 use fx_base::{Copies, NoMemory, Text};
 use std::alloc::Global;
 

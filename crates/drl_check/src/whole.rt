@@ -1,12 +1,12 @@
 ghost use Rattle.std.specs.Prelude.{◌≡◌, IfOk};
-ghost use Rattle.drl_sight.specs.Declarations.{types_of};
-ghost use Rattle.drl_sight.specs.Observed.{watched_names};
-ghost use Rattle.drl_program.specs.Programs.{types_alone};
+ghost use Rattle.drl_scope.specs.Declarations.{types_of};
+ghost use Rattle.drl_scope.specs.Observed.{watched_names};
+ghost use Rattle.drl_compile.specs.Programs.{types_alone};
 
+use drl_compile::program_of_types;
 use drl_grammar::Item;
-use drl_program::program_of_types;
-use drl_sight::{Places, watched_types};
-use drl_uses::Kinded;
+use drl_scope::{Places, watched_types};
+use drl_typing::Kinded;
 use fx_base::NoMemory;
 use rule_model::Program;
 use std::alloc::Global;

@@ -24,7 +24,7 @@ use Rattle.drl_grammar.specs.declared.file.Body.TheVariants as body
 use Rattle.drl_grammar.specs.declared.file.{Item.{Item}, Meta.{Meta}}
 use Rattle.drl_grammar.specs.declared.file.Meta.TheVariants as meta
 use Rattle.drl_grammar.specs.declared.file.{TypeTree.{TypeTree}, RuleTree.{RuleTree}}
-use Rattle.drl_sight.specs.{Names.{is_name_short}, Declarations.{types_of, rules_of, field_names}, EntryPoints.{entries_named, with_names, entry_names}}
+use Rattle.drl_scope.specs.{Names.{is_name_short}, Declarations.{types_of, rules_of, field_names}, EntryPoints.{entries_named, with_names, entry_names}}
 
 -- names of types, fields and variables have at most 64 bytes, texts at most 4,096
 abbrev pub is_name : List ℕ → Bool

@@ -1,8 +1,8 @@
 ghost use Rattle.std.specs.Prelude.{◌≡◌, ℕ, List, map, length};
 ghost use Rattle.std.specs.List.{list_all};
 ghost use Rattle.drl_grammar.specs.declared.condition.Cmp.{Cmp};
-ghost use Rattle.drl_sight.specs.Declarations.{field_names};
-ghost use Rattle.drl_sight.specs.EntryPoints.{entries_named, with_names};
+ghost use Rattle.drl_scope.specs.Declarations.{field_names};
+ghost use Rattle.drl_scope.specs.EntryPoints.{entries_named, with_names};
 ghost use Rattle.drl_limits.specs.Limits.{is_name, is_text, is_span_within_limit, is_entry_name, literal_within, operand_within, cmp_within, part_within, variable_within, entry_within, window_within, source_within, test_within, tests_within, condition_within, attr_within, rule_within, meta_within, type_within, lateness_within, exceeds_limit_behind};
 
 use crate::action_limits::are_actions_within;
@@ -12,7 +12,7 @@ use drl_grammar::{
     Attr, Body, Cmp, CondTree, Meta, Operand, Part, RuleTree, SourceTree, TypeTree, WindowTree,
 };
 use drl_lex::Rel;
-use drl_sight::has_at_most;
+use drl_scope::has_at_most;
 use fx_base::limits::{MOST_MILLIS, TEXT_MAX};
 use fx_base::{Seq, Text};
 

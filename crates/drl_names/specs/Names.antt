@@ -2,7 +2,7 @@
 -- its place among them, and no name.
 use Rattle.std.specs.{Prelude.{ℕ, ◌++◌, List, [], ◌∷◌, map, Option, option_map, codes}, List.{flat_map}}
 use Rattle.drl_grammar.specs.declared.{condition.CondTree.{CondTree, TheVariants.{Plain, Negated, Existing, Folded}}, file.{File.{File}, RuleTree.{RuleTree}}}
-use Rattle.drl_sight.specs.Declarations.{rules_of}
+use Rattle.drl_scope.specs.Declarations.{rules_of}
 use Rattle.drl_names.specs.declared.rule_names.RuleNames.{RuleNames}
 
 -- a variable as a rule file writes it

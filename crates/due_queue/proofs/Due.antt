@@ -1,8 +1,8 @@
 -- The pairs that are due stand in front of the pairs in order.
 use Rattle.due_queue.proofs.Common.{◌≡◌, ◌∙◌, sym, ap, refl, List, [], ◌∷◌, filter, Bool, true, false, cond, not, ◌&&◌, Ordering, Less, is_eq, is_gt, eq_by_cmp}
 use Rattle.due_queue.proofs.Common.{subst, found, has_pair, is_moment, eq_by_cmp_equiv, IsTotalOrder, AllByRecursion, Bound, is_past_end, pair_cmp, AreDue}
-use Rattle.due_queue.{proofs.{Common.{Agree, and_parts, take_while, is_eq-then, is_eq-true}, Agreeing.{paired}, Orders.{gt_first}}, specs.Moments.{AreDuePairs}}
-use Rattle.due_queue.proofs.Orders.{pair_total, past_same, past_later}
+use Rattle.due_queue.proofs.{Common.{Agree, and_parts, take_while, is_eq-then, is_eq-true}, Agreeing.{paired}, Orders.{gt_first, pair_total, past_same}}
+use Rattle.due_queue.{proofs.Orders.{past_later}, specs.Moments.{AreDuePairs}}
 use Rattle.std.{proofs.{Common.{map as list_map}, lemmas.List.Kept.{IsStrictlySortedBy-filter}}, specs.List.Sorted.{IsStrictlySortedBy}}
 use Rattle.std.proofs.lemmas.{List.Sums.{take_while-cons}, Map.Made.{is_member-filter}}
 

@@ -1,4 +1,4 @@
--- Whether some events can be a match of the patterns that bind events, as a function. `IsSolvable` of rule_lives is what it decides
+-- Whether some events can be a match of the patterns that bind events, as a function. `IsSolvable` of life_laws is what it decides
 -- (src/laws.rt).
 use Rattle.std.specs.Prelude.{Bool, List, []}
 use Rattle.temporal_net.specs.Potentials.{is_solvable}

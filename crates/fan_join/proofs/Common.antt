@@ -19,17 +19,17 @@ pub use Rattle.fx_base.specs.declared.value.Value.{Value}
 pub use Rattle.join_tests.specs.Joins.{joins, Look}
 pub use Rattle.join_tests.specs.Kept.{candidate_value}
 pub use Rattle.join_tests.specs.RowKeys.{row_key, value_by}
-pub use Rattle.pair_memory.proofs.Turning.{keeps_then}
-pub use Rattle.pair_memory.specs.Apart.{beside, LooksWhereKept, has_candidate, NamesCome, NamesLeave, has_row}
-pub use Rattle.pair_memory.specs.Joined.{has_name, joined, splits, unjoined}
-pub use Rattle.pair_memory.specs.Memories.{has_left, KeepsMemories, has_right, made}
-pub use Rattle.pair_memory.specs.declared.candidates.Candidates.{Candidates}
-pub use Rattle.pair_memory.specs.declared.left_rows.LeftRows.{LeftRows}
+pub use Rattle.join_memory.proofs.Turning.{keeps_then}
+pub use Rattle.join_memory.specs.Apart.{beside, LooksWhereKept, has_candidate, NamesCome, NamesLeave, has_row}
+pub use Rattle.join_memory.specs.Joined.{has_name, joined, splits, unjoined}
+pub use Rattle.join_memory.specs.Memories.{has_left, KeepsMemories, has_right, made}
+pub use Rattle.join_memory.specs.declared.candidates.Candidates.{Candidates}
+pub use Rattle.join_memory.specs.declared.left_rows.LeftRows.{LeftRows}
 pub use Rattle.row_change.specs.Changes.{IsDifference, LeadsRows, along, without}
 pub use Rattle.row_delta.specs.NameOrder.{name_cmp}
 pub use Rattle.row_delta.specs.Rows.{has, row_cmp}
 pub use Rattle.row_delta.specs.declared.delta.Delta.{Delta}
 pub use Rattle.row_delta.specs.declared.row.Named.{Named}
 pub use Rattle.row_delta.specs.declared.row.Row.{Row}
-pub use Rattle.pair_memory.proofs.Sharing.{value_beside}
+pub use Rattle.join_memory.proofs.Sharing.{value_beside}
 pub use Rattle.rule_model.specs.declared.condition.Pattern.{Pattern}

@@ -1,6 +1,6 @@
 -- What a set of rows, or of candidates, that goes or comes does to the rows that are made.
 use Rattle.fan_join.proofs.Common.{◌≡◌, ◌∙◌, sym, ap, refl, Bool, true, false, not, ◌&&◌, ◌||◌, Option, Some, None, Named, Row, unjoined, splits}
-use Rattle.pair_memory.specs.Joined.{joined}
+use Rattle.join_memory.specs.Joined.{joined}
 
 splits_imply : (t u : Row → Named → Bool) (b : Bool) → ((l : Row) (c : Named) → t l c ≡ true → u l c ≡ b) → (o : Option (Row × Named)) → splits t o ≡ true → splits u o ≡ b
 splits_imply t u b h None e = let f : false ≡ true = e in cc

@@ -9,7 +9,7 @@ use Rattle.fan_join.{specs.{Fans.{AreRowsTurned, given_delta, AreBeside, IsMembe
 use Rattle.fan_join.{proofs.Places.{last_or_before}, specs.Doors.{shared_key}}
 use Rattle.std.{proofs.{Math.{Bool.{or-false}, ListN.{length-set}}, lemmas.Option.{slice_get_within}}, specs.{Option.{option_map}, BTreeMap.{is_at, BTreeMap}}}
 use Rattle.std.specs.Map.{lookup}
-use Rattle.pair_memory.specs.{Inputs.{row_naming}, Doors.{keeps_time}}
+use Rattle.join_memory.specs.{Inputs.{row_naming}, Doors.{keeps_time}}
 use Rattle.join_tests.{specs.{declared.row_key.RowKey.{RowKey}, RowKeys.{row_time}, TimeKeys.{time_key}}, proofs.Meeting.{values_meet}}
 use Rattle.fx_base.proofs.{Orders.{eq_by_nat_cmp-true}, Sequences.{get-set_other, get-set_same, one_value}}
 

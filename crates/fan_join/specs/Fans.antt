@@ -6,8 +6,8 @@ use Rattle.row_delta.specs.{declared.{delta.Delta.{Delta}, row.{Named.{Named}, R
 use Rattle.row_change.specs.Changes.{IsDifference}
 use Rattle.alpha_memory.specs.JoinIndex.{at}
 use Rattle.join_tests.specs.Joins.{Look}
-use Rattle.pair_memory.specs.{declared.candidates.Candidates.{Candidates}, Memories.{has_left, has_right, made, KeepsMemories}, Apart.{beside, LooksWhereKept}}
-use Rattle.pair_memory.specs.Doors.{keeps_time}
+use Rattle.join_memory.specs.{declared.candidates.Candidates.{Candidates}, Memories.{has_left, has_right, made, KeepsMemories}, Apart.{beside, LooksWhereKept}}
+use Rattle.join_memory.specs.Doors.{keeps_time}
 use Rattle.fan_join.specs.{declared.fan.FanJoin.{FanJoin}, Turns.{AreNamesTurned}}
 
 -- the candidates of the member in a place

@@ -3,8 +3,8 @@ use Rattle.std.specs.{Prelude.{◌≡◌, ◌&&◌, not, ℕ, Bool, List, []}, B
 use Rattle.row_delta.specs.{declared.{delta.Delta.{Delta}, row.{Named.{Named}, Row.{Row}}}, Rows.{has, InOrder}}
 use Rattle.row_change.specs.Changes.{IsDifference}
 use Rattle.join_tests.specs.Joins.{Look}
-use Rattle.pair_memory.specs.{declared.candidates.Candidates.{Candidates}, Joined.{has_name}, Memories.{has_left, has_right, made, KeepsMemories}}
-use Rattle.pair_memory.specs.{Apart.{beside}, Inputs.{row_naming, IsStepped}, Standing.{no_rows, no_names, StandsFor}}
+use Rattle.join_memory.specs.{declared.candidates.Candidates.{Candidates}, Joined.{has_name}, Memories.{has_left, has_right, made, KeepsMemories}}
+use Rattle.join_memory.specs.{Apart.{beside}, Inputs.{row_naming, IsStepped}, Standing.{no_rows, no_names, StandsFor}}
 use Rattle.fan_join.specs.{declared.fan.FanJoin.{FanJoin}, Fans.{member_delta, IsEmpty, IsMemberAt, AreRowsTurned}, Turns.{AreNamesTurned}}
 
 -- a member of a fan that keeps nothing stands for no rows and no candidates

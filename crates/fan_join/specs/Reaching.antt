@@ -5,7 +5,7 @@ use Rattle.fx_base.specs.{declared.value.Value.{Value}, Values.{same_value}}
 use Rattle.row_delta.specs.{declared.{delta.Delta.{Delta}, row.Row.{Row}}, Rows.{has}}
 use Rattle.alpha_memory.specs.{declared.join_index.JoinIndex.{JoinIndex}, JoinIndex.{at}}
 use Rattle.join_tests.specs.{declared.row_key.RowKey.{RowKey}, Joins.{Look}, RowKeys.{value_by}}
-use Rattle.pair_memory.specs.declared.candidates.Candidates.{Candidates}
+use Rattle.join_memory.specs.declared.candidates.Candidates.{Candidates}
 use Rattle.fan_join.specs.{declared.{fan.FanJoin.{FanJoin}, row_turn.RowTurn.{RowTurn}}, Fans.{nothing}, Turns.{IsRowsDifference}, Doors.{shared_key}}
 
 -- whether a place is in a set

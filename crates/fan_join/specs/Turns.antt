@@ -3,8 +3,8 @@ use Rattle.std.specs.Prelude.{◌≡◌, ◌&&◌, ◌||◌, not, Bool, List}
 use Rattle.row_delta.specs.{declared.{delta.Delta.{Delta}, row.{Named.{Named}, Row.{Row}}}, Rows.{has}}
 use Rattle.row_change.specs.Changes.{IsDifference}
 use Rattle.join_tests.specs.Joins.{Look}
-use Rattle.pair_memory.specs.{declared.{candidates.Candidates.{Candidates}, left_rows.LeftRows.{LeftRows}}, Joined.{has_name}, Memories.{has_left, has_right}}
-use Rattle.pair_memory.specs.{Memories.{made, KeepsMemories}, Apart.{has_row, beside, LooksWhereKept, RowsLeave, RowsCome}}
+use Rattle.join_memory.specs.{declared.{candidates.Candidates.{Candidates}, left_rows.LeftRows.{LeftRows}}, Joined.{has_name}, Memories.{has_left, has_right}}
+use Rattle.join_memory.specs.{Memories.{made, KeepsMemories}, Apart.{has_row, beside, LooksWhereKept, RowsLeave, RowsCome}}
 use Rattle.fan_join.specs.declared.row_turn.RowTurn.{RowTurn}
 
 -- Rows leave and then come: the left rows before, between and after; and it is known which of those that leave were there, and which of

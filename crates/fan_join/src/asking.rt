@@ -2,7 +2,7 @@
 ghost use Rattle.std.specs.Prelude.{◌≡◌, ℕ, None, Some, slice_get, IfOk, OnOk};
 ghost use Rattle.std.specs.BTreeMap.{get};
 ghost use Rattle.std.specs.Ordering.{nat_cmp};
-ghost use Rattle.pair_memory.specs.declared.candidates.Candidates.{Candidates as CandidatesData};
+ghost use Rattle.join_memory.specs.declared.candidates.Candidates.{Candidates as CandidatesData};
 ghost use Rattle.fan_join.specs.Fans.{nothing};
 ghost use Rattle.fan_join.specs.Reaching.{AreDifferences, AreKept, IsDifferencePut};
 ghost use Rattle.fan_join.specs.Turns.{IsRowsDifference};
@@ -10,7 +10,7 @@ ghost use Rattle.fan_join.specs.Turns.{IsRowsDifference};
 use crate::member::rows_difference;
 use crate::row_turn::RowTurn;
 use fx_base::{Facts, NoMemory};
-use pair_memory::Candidates;
+use join_memory::Candidates;
 use row_change::changes_nothing;
 use row_delta::Delta;
 use std::alloc::Global;

@@ -1,6 +1,6 @@
 ghost use Rattle.std.specs.Prelude.{◌≡◌, ◌<◌, ◌++◌, ◌∷◌, [], length, IfOk, OnOk};
 ghost use Rattle.join_tests.specs.RowKeys.{row_key};
-ghost use Rattle.pair_memory.specs.declared.candidates.Candidates.{Candidates as CandidatesData};
+ghost use Rattle.join_memory.specs.declared.candidates.Candidates.{Candidates as CandidatesData};
 ghost use Rattle.fan_join.specs.Fans.{IsMemberAt, AreBeside, AreRowsTurned, IsEmpty, IsMemberTurned, IsReached};
 ghost use Rattle.fan_join.specs.Reaching.{AreAsked};
 
@@ -10,8 +10,8 @@ use crate::reach::{add_reached, all_places, put_values, take_values};
 use crate::row_turn::RowTurn;
 use alpha_memory::JoinIndex;
 use fx_base::{Facts, NoMemory, Value};
+use join_memory::{Candidates, LeftRows};
 use join_tests::RowKey;
-use pair_memory::{Candidates, LeftRows};
 use row_delta::{Delta, Named, Row};
 use rule_model::Pattern;
 use std::alloc::Global;

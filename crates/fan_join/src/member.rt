@@ -7,14 +7,14 @@ ghost use Rattle.row_delta.specs.declared.row.Row.{Row};
 ghost use Rattle.row_delta.specs.NameOrder.{name_cmp};
 ghost use Rattle.alpha_memory.specs.JoinIndex.{at};
 ghost use Rattle.join_tests.specs.Kept.{candidate_value};
-ghost use Rattle.pair_memory.specs.Joined.{has_name};
+ghost use Rattle.join_memory.specs.Joined.{has_name};
 ghost use Rattle.row_change.specs.declared.change.Change.{Change as ChangeData};
 ghost use Rattle.row_change.specs.Changes.{IsDifference, LeadsRows};
 ghost use Rattle.fan_join.specs.Turns.{AreNamesTurned, IsRowsDifference};
 
 use crate::row_turn::RowTurn;
 use fx_base::{Facts, NoMemory};
-use pair_memory::{Candidates, LeftRows};
+use join_memory::{Candidates, LeftRows};
 use row_change::Change;
 use row_delta::{Delta, Named};
 use std::alloc::Global;

@@ -8,13 +8,13 @@ ghost use Rattle.row_delta.specs.NameOrder.{name_cmp};
 ghost use Rattle.alpha_memory.specs.Bucket.{found};
 ghost use Rattle.alpha_memory.specs.JoinIndex.{at};
 ghost use Rattle.join_tests.specs.Kept.{candidate_value};
-ghost use Rattle.pair_memory.specs.Joined.{has_name};
+ghost use Rattle.join_memory.specs.Joined.{has_name};
 ghost use Rattle.fan_join.specs.Reaching.{has_place, is_member_under, AreAmong};
 
 use alpha_memory::{Bucket, JoinIndex};
 use fx_base::{Facts, NoMemory, Value};
+use join_memory::Candidates;
 use join_tests::RowKey;
-use pair_memory::Candidates;
 use row_delta::{Named, Row};
 use std::alloc::Global;
 use std::collections::BTreeSet;

@@ -8,11 +8,11 @@ use Rattle.image_change.proofs.{Kept.{behind, forgotten_same, still_safe}, Lists
 use Rattle.image_change.specs.Images.{ChangedFits, ChangedIsImage, IsMovedImage}
 use Rattle.image_laws.{proofs.{Fit.{image_fits}, Imaged.{image_facts}}, specs.{Fitting.{IsNextNumber}, Images.{fired_cmp}}}
 use Rattle.kept_meaning.{proofs.Decided.{kept_decided, kept_inside}, specs.Kept.{is_forgotten, is_kept}}
-use Rattle.pair_memory.specs.Memories.{made}
+use Rattle.join_memory.specs.Memories.{made}
 use Rattle.rule_change.specs.Changed.{changed, entry_in, moment_or_zero}
 use Rattle.rule_model.{proofs.Sorted.{sorted_marked, tag_total, tags_apart}, specs.{Distinct.{tag_cmp}, Moments.{moment_in}, Snapshots.{Reached}}}
 use Rattle.std.{proofs.lemmas.Bool.{not-false}, specs.List.Sorted.{IsStrictlySortedBy}}
-use Rattle.change_read.proofs.Places.{some_is}
+use Rattle.change_resolve.proofs.Places.{some_is}
 use Rattle.laden_rows.{proofs.Rows.{laden_rows}, specs.Laden.{laden}}
 use Rattle.row_delta.specs.declared.extra.Extra.{Extra}
 

@@ -13,7 +13,7 @@ pub use Rattle.kept_meaning.proofs.Versions.{forgotten_fact}
 pub use Rattle.kept_meaning.specs.Kept.{is_alive}
 pub use Rattle.laden_rows.specs.Extras.{AreExtras, IsFirstWith, lost_partners, values_gathered}
 pub use Rattle.laden_rows.specs.Laden.{AreOwners, IsKeptOf}
-pub use Rattle.pair_memory.specs.Standing.{clean}
+pub use Rattle.join_memory.specs.Standing.{clean}
 pub use Rattle.row_delta.specs.declared.row.Named.{Named}
 pub use Rattle.row_delta.specs.declared.row.Row.{Row}
 pub use Rattle.rule_change.proofs.Carrying.{life_stays}

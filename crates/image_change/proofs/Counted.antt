@@ -6,7 +6,7 @@ use Rattle.image_change.proofs.Common.{option_and_then, option_map, pattern_of, 
 use Rattle.image_change.proofs.{Common.{values_gathered, ℕ, ℤ, ◌&&◌, ◌<◌, ◌==◌, ◌↔◌, ◌∙◌, ◌≡◌}, Forgotten.{lost_life, of_type}, Kept.{IsTaken, are_moved}}
 use Rattle.image_change.proofs.{Kept.{behind, forgotten_same, moves, places, still_safe}, Lists.{at_last, in_take, take_fewer}, Lost.{binds_moved}}
 use Rattle.image_change.{proofs.{Lost.{gathered_moved, lost_moved, pattern_moved}, Owners.{first_with}}, specs.Images.{IsMovedExtra}}
-use Rattle.change_read.{proofs.Places.{some_is}, specs.Changes.{type_named}}
+use Rattle.change_resolve.{proofs.Places.{some_is}, specs.Changes.{type_named}}
 use Rattle.condition_rows.specs.Sets.{partners}
 use Rattle.fx_base.{proofs.Sequences.{get-below}, specs.declared.ids.RuleId.{RuleId}}
 use Rattle.kept_meaning.specs.Kept.{is_forgotten}

@@ -7,7 +7,7 @@ use Rattle.condition_rows.{proofs.Holding.{version_in}, specs.Sets.{held}}
 use Rattle.fx_base.proofs.Sequences.{list_any-In}
 use Rattle.join_tests.specs.Joins.{is_named_version}
 use Rattle.kept_meaning.specs.Kept.{is_forgotten, is_kept, is_lost, is_pending_named}
-use Rattle.pair_memory.specs.Joined.{has_name}
+use Rattle.join_memory.specs.Joined.{has_name}
 use Rattle.rule_change.proofs.{Carrying.{carried_is_safe}, Changing.{alike_at_change}, Matching.{alike_moved, lawful_places, over_moves, same_pending}}
 use Rattle.rule_change.{proofs.{Places.{Moves}, Rows.{AreMoved, HasPlace, present_same}}, specs.{Alike.{AreAlike, AreOver}, Changed.{changed}}}
 use Rattle.rule_change.specs.Refused.{IsVerdict}

@@ -4,7 +4,7 @@ use Rattle.image_change.proofs.Common.{Rule, Some, and_from, and_parts, ap, arit
 use Rattle.image_change.proofs.Common.{sym, true, ℕ, ◌∙◌, ◌≡◌}
 use Rattle.condition_rows.proofs.Ends.{has_in, in_has}
 use Rattle.laden_rows.{proofs.Rows.{laden_rows}, specs.Laden.{laden}}
-use Rattle.pair_memory.specs.Standing.{cleaned}
+use Rattle.join_memory.specs.Standing.{cleaned}
 use Rattle.rule_change.proofs.Matching.{is_match}
 use Rattle.rule_model.specs.{Rows.{rows}, Snapshots.{Snapshot}}
 use Rattle.std.proofs.{Common.{◌≤◌}, lemmas.List.{take_all}}

@@ -10,7 +10,7 @@ use Rattle.rule_model.specs.declared.condition.{Condition.TheVariants.{Plain as 
 use Rattle.rule_model.specs.{declared.program.TypeInfo.{TypeInfo}, Candidates.{is_present}, Tests.{tests_hold}, Tuples.{name_of, unbound}}
 use Rattle.rule_model.proofs.{Named.{of_filter}, Once.{one_fact}, Order.{passed}}
 use Rattle.join_tests.specs.Joins.{joins}
-use Rattle.pair_memory.{specs.Joined.{joined}, proofs.{Joining.{joined_with, joined_from}, Valued.{valued_from}}}
+use Rattle.join_memory.{specs.Joined.{joined}, proofs.{Joining.{joined_with, joined_from}, Valued.{valued_from}}}
 use Rattle.condition_rows.{specs.{Lines.{is_ripe, empty_row, is_empty_row}, Sets.{held, candidates_of, has_partner}}, proofs.Joined.{candidate_of}}
 use Rattle.kept_meaning.specs.Kept.{is_alive}
 use Rattle.laden_rows.specs.Laden.{laden}

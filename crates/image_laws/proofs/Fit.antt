@@ -14,7 +14,7 @@ use Rattle.row_delta.specs.declared.row.{Named.{Named}, Row.{Row}}
 use Rattle.rule_model.specs.{declared.condition.{Condition.TheVariants.{Negated, Existing, Folded, Plain as plain_condition}, Pattern.{Pattern}}, Rows.{rows}}
 use Rattle.rule_model.{proofs.{Named.{of_filter, named_of}, Once.{once_filter, once_facts, once_map, one_fact}}, specs.Matches.{matches, has_match}}
 use Rattle.rule_model.specs.Types.{is_event}
-use Rattle.pair_memory.specs.{Standing.{clean, cleaned}, Joined.{has_name}}
+use Rattle.join_memory.specs.{Standing.{clean, cleaned}, Joined.{has_name}}
 use Rattle.condition_rows.{specs.Sets.{rows_of, partners}, proofs.Ends.{name_in, in_has as row_in_has}}
 use Rattle.kept_meaning.specs.Kept.{is_kept}
 use Rattle.fx_base.{proofs.{Sequences.{list_any-In, list_any-none}, Orders.{nat_cmp-Less}}, specs.declared.ids.FactId.{FactId}}

@@ -6,7 +6,7 @@ use Rattle.rule_model.specs.{declared.{life.LifeTable.{LifeTable}, matched.Match
 use Rattle.rule_model.specs.{Matches.{has_match}, Moments.{moment_in, reached_in}, Snapshots.{Snapshot}}
 use Rattle.rule_world.specs.Worlds.{World, snapshot}
 use Rattle.life_meaning.specs.Tables.{IsKept}
-use Rattle.pair_memory.specs.Standing.{clean}
+use Rattle.join_memory.specs.Standing.{clean}
 use Rattle.kept_meaning.specs.Kept.{is_forgotten}
 use Rattle.laden_rows.specs.Extras.{AreExtras}
 

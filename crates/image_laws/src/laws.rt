@@ -8,7 +8,7 @@ ghost use Rattle.rule_model.specs.declared.program.Rule.{Rule};
 ghost use Rattle.rule_world.specs.Lawful.{IsLawful};
 ghost use Rattle.rule_world.specs.Worlds.{World, snapshot};
 ghost use Rattle.life_meaning.specs.Tables.{AreSafe};
-ghost use Rattle.pair_memory.specs.Standing.{cleaned};
+ghost use Rattle.join_memory.specs.Standing.{cleaned};
 ghost use Rattle.condition_rows.specs.Sets.{rows_of};
 ghost use Rattle.kept_meaning.specs.Kept.{is_forgotten};
 ghost use Rattle.image_laws.specs.Fitting.{IsNextNumber, Fits};

@@ -1,7 +1,7 @@
 -- A network can be loaded from what is made of an image.
 use Rattle.std.proofs.Common.{List, Option, Some, [], ap, ap₂, map, option_map, refl, slice_get, subst, suc, sym, take, true, ℕ, ℤ, ◌∙◌, ◌≡◌}
 use Rattle.std.{proofs.lemmas.Option.{slice_get-map}, specs.List.Sorted.{IsStrictlySortedBy}}
-use Rattle.change_read.proofs.Places.{some_is}
+use Rattle.change_resolve.proofs.Places.{some_is}
 use Rattle.checkpoint.specs.declared.image.Image.{Image}
 use Rattle.fx_base.specs.{Lists.{In}, declared.fact.Fact.{Fact}}
 use Rattle.image_change.{proofs.{Lists.{at_last, sorted_mapped}, Lost.{binds_moved}, Owners.{owners}}, specs.Images.{IsMovedExtra, IsMovedImage}}

@@ -5,7 +5,7 @@ use Rattle.fx_base.proofs.Orders.{below_or_last}
 use Rattle.image_laws.specs.Images.{AreMoments}
 use Rattle.rule_change.specs.Changed.{entry_in, moment_or_zero}
 use Rattle.rule_model.specs.{declared.program.{Program.{Program}, EntryInfo.{EntryInfo}}, Moments.{moment_in}}
-use Rattle.change_read.specs.Changes.{entry_named}
+use Rattle.change_resolve.specs.Changes.{entry_named}
 
 -- the first so many moments
 pub record AreFirst (of : ℕ → ℤ) (entries : ℕ) (moments : List ℤ) : Type 0 where

@@ -4,7 +4,7 @@ use Rattle.std.proofs.{Common.{◌∙◌, ◌∷◌, ◌≡◌, ◌⊎◌, appen
 use Rattle.std.{proofs.lemmas.Map.{Entries.{btree_map_get_place}, Lookups.{CmpEqualImpliesEq, exact_unsigned}}, specs.BTreeMap.{BTreeMap, IsOrdered, get}}
 use Rattle.std.specs.{BTreeMap.{is_at}, Cmp.{IsTotalOrder}, List.{AllByRecursion, Sorted.{IsStrictlySortedBy}}, Map.{keys_of, lookup}, Ordering.{eq_by_cmp}}
 use Rattle.std.specs.{Ordering.{nat_cmp, ordering_then}, declared.cmp.Ordering.{Ordering, TheVariants.{Equal, Greater, Less}}}
-use Rattle.change_read.proofs.Places.{some_is}
+use Rattle.change_resolve.proofs.Places.{some_is}
 use Rattle.fx_base.{proofs.{Orders.{is_eq-true}, Sequences.{In-append, In-place}}, specs.{Lists.{In}, declared.ids.RuleId.{RuleId}}}
 use Rattle.laden_rows.specs.{Extras.{extra_cmp}, Placed.{IsPlaced}}
 use Rattle.row_delta.specs.{RowOrder.{row_exact, row_total}, Rows.{row_cmp}, declared.extra.Extra.{Extra}}

@@ -1,7 +1,7 @@
 -- What is made of the parts of an image is the image under other rules.
 use Rattle.std.proofs.Common.{List, None, Option, Some, ap, arith, length, map, refl, subst, suc, sym, take, true, ℕ, ℤ, ◌&&◌, ◌+◌, ◌↔◌, ◌∙◌, ◌≡◌}
 use Rattle.std.{proofs.lemmas.{Bool.{and_from, and_parts}, List.Kept.{IsStrictlySortedBy-filter}}, specs.List.{filter, Sorted.{IsStrictlySortedBy}}}
-use Rattle.change_read.proofs.Places.{some_is}
+use Rattle.change_resolve.proofs.Places.{some_is}
 use Rattle.checkpoint.specs.declared.image.{FiredMatch.{FiredMatch}, Image.{Image}}
 use Rattle.fx_base.specs.Lists.{In}
 use Rattle.image_change.specs.Images.{IsChangedImage, IsMovedExtra, IsMovedImage}

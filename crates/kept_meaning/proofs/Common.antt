@@ -11,7 +11,7 @@ pub use Rattle.fx_base.specs.Lists.{In}
 pub use Rattle.fx_base.specs.declared.fact.Fact.{Fact}
 pub use Rattle.join_tests.specs.Joins.{version_at}
 pub use Rattle.kept_meaning.specs.Kept.{is_alive, is_kept, is_lost, is_pending_named, kept_facts}
-pub use Rattle.pair_memory.specs.Joined.{has_name}
+pub use Rattle.join_memory.specs.Joined.{has_name}
 pub use Rattle.row_delta.specs.declared.row.Named.{Named}
 pub use Rattle.life_meaning.specs.Tables.{AreSafe, IsKept, endless, living, named, plain, unexpired}
 pub use Rattle.rule_model.proofs.Firsts.{or_split}

@@ -6,7 +6,7 @@ use Rattle.rule_model.specs.declared.{life.{Life.{Life, TheVariants.{Plain, Expl
 use Rattle.rule_model.specs.{declared.program.Program.{Program}, Candidates.{is_present}, Tuples.{name_of}}
 use Rattle.rule_world.specs.Worlds.{World, snapshot, pending}
 use Rattle.join_tests.specs.Joins.{version_at}
-use Rattle.pair_memory.specs.Joined.{has_name}
+use Rattle.join_memory.specs.Joined.{has_name}
 use Rattle.condition_rows.specs.Sets.{held}
 
 -- ---- what is kept

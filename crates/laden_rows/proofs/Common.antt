@@ -19,8 +19,8 @@ pub use Rattle.fx_base.specs.declared.fact.Fact.{Fact}
 pub use Rattle.join_tests.specs.Joins.{Look, joins, version_at, versions_at}
 pub use Rattle.laden_rows.specs.Extras.{AreExtras, IsFirstWith, lost_partners, values_gathered}
 pub use Rattle.laden_rows.specs.Laden.{AreOwners, IsKeptOf, count_of, extra_at, extra_values_of, is_extra_at, laden_gives, laden_line, laden_with}
-pub use Rattle.pair_memory.specs.Joined.{joined}
-pub use Rattle.pair_memory.specs.Standing.{clean, cleaned, remembered}
+pub use Rattle.join_memory.specs.Joined.{joined}
+pub use Rattle.join_memory.specs.Standing.{clean, cleaned, remembered}
 pub use Rattle.row_delta.specs.RowOrder.{row_exact, same_equiv}
 pub use Rattle.row_delta.specs.declared.extra.Extra.{Extra}
 pub use Rattle.row_delta.specs.declared.row.Named.{Named}

@@ -5,7 +5,7 @@ use Rattle.laden_rows.proofs.Common.{Program, Snapshot, Look, joins, version_at,
 use Rattle.laden_rows.proofs.Common.{is_candidate_given, extra_at, laden_gives, laden_line, laden_with, extra_values_of, and_parts, tells_apart, row_exact}
 use Rattle.laden_rows.{proofs.Common.{Condition, joined}, specs.Laden.{laden}}
 use Rattle.condition_rows.specs.Sets.{candidates_of}
-use Rattle.pair_memory.proofs.{Joining.{joined_from, joined_with}, Valued.{valued_from}}
+use Rattle.join_memory.proofs.{Joining.{joined_from, joined_with}, Valued.{valued_from}}
 
 there_more : (o : Option Fact) (r s : Option (List Fact)) → (is_some r ≡ true → is_some s ≡ true)
     → is_some (option_and_then (λ (f : Fact). option_map (λ facts. f ∷ facts) r) o) ≡ true → is_some (option_and_then (λ (f : Fact). option_map (λ facts. f ∷ facts) s) o) ≡ true

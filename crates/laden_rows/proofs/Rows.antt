@@ -14,7 +14,7 @@ use Rattle.rule_model.{specs.{Rows.{rows}, Tests.{results_hold}, declared.condit
 use Rattle.rule_model.{proofs.{RuleOf.{in_place}, Firsts.{or_split}, Floors.{same_floor}}, specs.Maturity.{is_mature}}
 use Rattle.condition_rows.{specs.{Sets.{has_partner, partners}, Lines.{gives, is_ripe}}, proofs.{Naming.{rows_named}, Whole.{one_more}}}
 use Rattle.fold_fn.{proofs.ResultLemmas.{result_same}, specs.Results.{fold_result}}
-use Rattle.pair_memory.proofs.{Moving.{named_alike}, Worlds.{joined_clean}}
+use Rattle.join_memory.proofs.{Moving.{named_alike}, Worlds.{joined_clean}}
 
 -- ---- the first conditions of a list
 

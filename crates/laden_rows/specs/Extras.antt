@@ -6,7 +6,7 @@ use Rattle.fold_fn.specs.Order.{in_rising_order}
 use Rattle.row_delta.specs.{declared.{extra.Extra.{Extra}, row.{Named.{Named}, Row.{Row}}}, Rows.{row_cmp}}
 use Rattle.rule_model.specs.declared.{condition.{Condition.{Condition, TheVariants.{Folded}}, Pattern.{Pattern}}, program.{Program.{Program}, Rule.{Rule}}}
 use Rattle.rule_model.specs.{Rows.{argument, binds, pattern_of}, Snapshots.{Snapshot}, Tuples.{name_of}}
-use Rattle.pair_memory.specs.Standing.{clean}
+use Rattle.join_memory.specs.Standing.{clean}
 use Rattle.condition_rows.specs.Sets.{partners, rows_of}
 
 -- ---- prefixes that rules share

@@ -9,7 +9,7 @@ use Rattle.rule_model.specs.{declared.{condition.WindowTag.TheVariants.{Length},
 use Rattle.rule_model.specs.{Distinct.{HaveDistinctTags}, Lent.{bound_in}, Rows.{argument, pattern_of}, Snapshots.{Snapshot}, Tests.{results_hold}}
 use Rattle.rule_model.specs.Tuples.{name_of}
 use Rattle.join_tests.specs.Joins.{joins}
-use Rattle.pair_memory.specs.{Joined.{joined}, Valued.{valued}}
+use Rattle.join_memory.specs.{Joined.{joined}, Valued.{valued}}
 use Rattle.condition_rows.specs.{Sets.{held, candidates_of, has_partner, partners}, Lines.{is_ripe, is_result, is_empty_row}}
 use Rattle.laden_rows.specs.Extras.{IsFirstWith}
 

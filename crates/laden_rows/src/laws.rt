@@ -12,7 +12,7 @@ ghost use Rattle.rule_model.specs.declared.program.Rule.{Rule};
 ghost use Rattle.rule_model.specs.Distinct.{HaveDistinctTags};
 ghost use Rattle.rule_model.specs.Rows.{argument, binds, pattern_of};
 ghost use Rattle.rule_model.specs.Snapshots.{Snapshot};
-ghost use Rattle.pair_memory.specs.Standing.{cleaned};
+ghost use Rattle.join_memory.specs.Standing.{cleaned};
 ghost use Rattle.condition_rows.specs.Sets.{partners, rows_of};
 ghost use Rattle.laden_rows.specs.Extras.{AreExtras};
 ghost use Rattle.laden_rows.specs.Laden.{AreOwners, IsKeptOf, count_of, extra_at, laden, extra_values_of};

@@ -25,18 +25,18 @@ unfolding
     Rattle.drl_parse.specs.Reading.meta_word_of Rattle.drl_parse.specs.Reading.role_word Rattle.drl_parse.specs.Reading.item_word Rattle.drl_parse.specs.Reading.behind_meta Rattle.drl_parse.specs.Reading.meta_at Rattle.drl_parse.specs.Reading.field_at Rattle.drl_parse.specs.Reading.parent_at Rattle.drl_parse.specs.Reading.type_at Rattle.drl_parse.specs.Reading.attr_at Rattle.drl_parse.specs.Reading.actions_at Rattle.drl_parse.specs.Reading.conditions_at Rattle.drl_parse.specs.Reading.rule_at Rattle.drl_parse.specs.Reading.declare_at Rattle.drl_parse.specs.Reading.behind_item Rattle.drl_parse.specs.Reading.item_at
     Rattle.rule_model.specs.Types.is_event Rattle.rule_model.specs.Types.is_point
     Rattle.expiry_infer.specs.Solvable.can_match
-    Rattle.drl_sight.specs.Declarations.kind_by_word
-    Rattle.drl_sight.specs.EntryPoints.with_names
-    Rattle.drl_sight.specs.Names.are_distinct Rattle.drl_sight.specs.Names.place_from
-    Rattle.drl_sight.specs.Sight.meaning_of
+    Rattle.drl_scope.specs.Declarations.kind_by_word
+    Rattle.drl_scope.specs.EntryPoints.with_names
+    Rattle.drl_scope.specs.Names.are_distinct Rattle.drl_scope.specs.Names.place_from
+    Rattle.drl_scope.specs.Sight.meaning_of
     Rattle.subrules.specs.Hierarchy.ancestors Rattle.subrules.specs.Hierarchy.goes_on Rattle.subrules.specs.Ways.each_behind Rattle.subrules.specs.Ways.walked Rattle.subrules.specs.Ways.ways_of
     Rattle.subrules.specs.Expanded.inherited_metas Rattle.subrules.specs.Expanded.inherited_fields Rattle.subrules.specs.Expanded.numbered_rules Rattle.subrules.specs.Expanded.origins_from
     Rattle.subrules.specs.Faults.obstacle_from
     Rattle.drl_limits.specs.Limits.span_limit
-    Rattle.drl_uses.specs.Kinds.fields_once
-    Rattle.drl_uses.specs.Uses.any_condition
-    Rattle.drl_program.specs.Operators.is_span
-    Rattle.drl_program.specs.Programs.conditions_meant
+    Rattle.drl_typing.specs.Kinds.fields_once
+    Rattle.drl_typing.specs.Uses.any_condition
+    Rattle.drl_compile.specs.Operators.is_span
+    Rattle.drl_compile.specs.Programs.conditions_meant
     Rattle.drl_check.specs.Checks.failure_from
     Rattle.drl_check.specs.Outcomes.checked
     Rattle.gen_load.specs.Rules.rules_text

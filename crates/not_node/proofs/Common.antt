@@ -15,8 +15,8 @@ pub use Rattle.not_node.specs.Laws.{MaturityLaw, NotDropLaw, NotLaw, NotMoveLaw,
 pub use Rattle.not_node.specs.Moments.{latest_of, latest_start, moment_at}
 pub use Rattle.not_node.specs.Rows.{IsInStep, not_rows, unblocked}
 pub use Rattle.not_node.specs.Waiting.{AwaitsMoments, NoneDue, is_that_moment, later, mature, ripe, waits, waits_at}
-pub use Rattle.pair_memory.specs.Memories.{left_at}
-pub use Rattle.pair_memory.specs.Standing.{AlikeOn, cleaned, no_names}
+pub use Rattle.join_memory.specs.Memories.{left_at}
+pub use Rattle.join_memory.specs.Standing.{AlikeOn, cleaned, no_names}
 pub use Rattle.row_change.specs.Changes.{IsDifference, LeadsRows, along, without}
 pub use Rattle.row_delta.specs.RowOrder.{same_equiv}
 pub use Rattle.row_delta.specs.Rows.{has, row_cmp}
@@ -27,4 +27,4 @@ pub use Rattle.rule_model.specs.Maturity.{AreOperators, bounds_of, is_past, star
 pub use Rattle.rule_model.specs.Types.{is_event, is_point}
 pub use Rattle.rule_model.specs.declared.condition.Pattern.{Pattern}
 pub use Rattle.rule_model.specs.declared.program.Program.{Program}
-pub use Rattle.tally_node.proofs.Following.{rows_more}
+pub use Rattle.counting_node.proofs.Following.{rows_more}

@@ -5,9 +5,9 @@ use Rattle.not_node.proofs.{Common.{not_line, NotLaw, NotStepLaw, NotDropLaw, No
 use Rattle.not_node.{proofs.Maturing.{moment_alike}, specs.Doors.{blocking_pattern}}
 use mathlib.Core.Path.{subst}
 use Rattle.std.specs.{Option.{is_some}, List.{list_any}}
-use Rattle.pair_memory.{specs.{declared.memories.Memories.{Memories}, Joined.{has_name}}, proofs.Moving.{move_law as memories_move}}
-use Rattle.tally_node.specs.{declared.count.Blockers.{Blockers}, Counts.{counts_blockers, where_unblocked}, Origins.{shows_any}, Tallies.{offers, output_some}}
-use Rattle.tally_node.proofs.Lawful.{blockers_shown, tally_law}
+use Rattle.join_memory.{specs.{declared.memories.Memories.{Memories}, Joined.{has_name}}, proofs.Moving.{move_law as memories_move}}
+use Rattle.counting_node.specs.{declared.count.Blockers.{Blockers}, Counts.{counts_blockers, where_unblocked}, Origins.{shows_any}, Tallies.{offers}}
+use Rattle.counting_node.{specs.Tallies.{output_some}, proofs.Lawful.{blockers_shown, tally_law}}
 
 pub not_law : NotLaw
 not_law p node look world pass rows names forgotten was row =

@@ -1,8 +1,8 @@
 -- With a later floor that no row's moment is below, the same rows wait, and the same rows are mature.
 use Rattle.not_node.proofs.Common.{◌≡◌, ◌∙◌, sym, ap, refl, ℤ, ◌≤ℤ◌, int_lt, arith, cond, Bool, true, false, not, ◌&&◌, Option, Some, None, List, ints, Row}
 use Rattle.not_node.proofs.Common.{has, Pattern, Program, Look, left_at, moment_at, unblocked, IsInStep, waits, is_that_moment, mature, ripe, AwaitsMoments}
-use Rattle.not_node.{proofs.{Common.{NoneDue, QuietLaw, and_parts, not-true}, Lawful.{none_comes}, Pairs.{int_itself}}, specs.declared.node.NotNode.{NotNode}}
-use Rattle.not_node.{proofs.Pairs.{int_same}, specs.Doors.{blocking_pattern}}
+use Rattle.not_node.proofs.{Common.{NoneDue, QuietLaw, and_parts, not-true}, Lawful.{none_comes}, Pairs.{int_itself, int_same}}
+use Rattle.not_node.specs.{declared.node.NotNode.{NotNode}, Doors.{blocking_pattern}}
 
 below_too : (at old floor : ℤ) → old ≤ℤ floor → int_lt at old ≡ true → int_lt at floor ≡ true
 below_too at old floor h e = grind (arith, ints)

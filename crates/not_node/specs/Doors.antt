@@ -4,8 +4,8 @@ use Rattle.fx_base.specs.declared.value.Value.{Value}
 use Rattle.row_delta.specs.declared.row.{Named.{Named}, Row.{Row}}
 use Rattle.alpha_memory.specs.declared.join_index.JoinIndex.{JoinIndex}
 use Rattle.rule_model.specs.declared.condition.Pattern.{Pattern}
-use Rattle.pair_memory.specs.declared.memories.Memories.{Memories}
-use Rattle.tally_node.specs.{declared.count.Blockers.{Blockers}, Doors.{tallied_candidates, tallied_pattern}}
+use Rattle.join_memory.specs.declared.memories.Memories.{Memories}
+use Rattle.counting_node.specs.{declared.count.Blockers.{Blockers}, Doors.{tallied_candidates, tallied_pattern}}
 use Rattle.not_node.specs.declared.node.NotNode.{NotNode}
 
 -- the rows before it, each with the number of facts that block it, and these facts

@@ -5,9 +5,9 @@ use Rattle.row_change.specs.Changes.{LeadsRows, IsDifference}
 use Rattle.rule_model.specs.{declared.{condition.Pattern.{Pattern}, program.Program.{Program}}, Lent.{Holds, bound_in}, Maturity.{is_mature}, Tuples.{Tuple}}
 use Rattle.rule_model.specs.Tuples.{row_of, bound_by}
 use Rattle.join_tests.specs.Joins.{Look}
-use Rattle.pair_memory.specs.{Joined.{has_name}, Memories.{left_at, Agrees}, Standing.{clean, cleaned, either, remembered, PassesAlike, StandsFor, LooksAlike}}
-use Rattle.pair_memory.specs.Inputs.{IsNameDifference, IsStepped}
-use Rattle.tally_node.specs.{Counts.{counts_blockers}, Laws.{StandsCounted, ForgottenStay}, Tallies.{SeeAlike, TallyStep}}
+use Rattle.join_memory.specs.{Joined.{has_name}, Memories.{left_at, Agrees}, Standing.{clean, cleaned, either, remembered, PassesAlike, StandsFor, LooksAlike}}
+use Rattle.join_memory.specs.Inputs.{IsNameDifference, IsStepped}
+use Rattle.counting_node.specs.{Counts.{counts_blockers}, Laws.{StandsCounted, ForgottenStay}, Tallies.{SeeAlike, TallyStep}}
 use Rattle.not_node.specs.{declared.node.NotNode.{NotNode}, Moments.{moment_at}, Rows.{IsInStep, not_rows}, Waiting.{waits, mature}, Doors.{blocking_pattern}}
 
 -- A row that waits for its moment is mature where its tuple is.

@@ -3,8 +3,8 @@ use Rattle.std.specs.Prelude.{Bool}
 use Rattle.row_delta.specs.declared.row.Row.{Row}
 use Rattle.rule_model.specs.declared.program.Program.{Program}
 use Rattle.join_tests.specs.Joins.{Look}
-use Rattle.pair_memory.specs.declared.memories.Memories.{Memories}
-use Rattle.tally_node.specs.{declared.count.Blockers.{Blockers}, Counts.{where_unblocked}, Origins.{itself, shows_any}, Tallies.{shown}}
+use Rattle.join_memory.specs.declared.memories.Memories.{Memories}
+use Rattle.counting_node.specs.{declared.count.Blockers.{Blockers}, Counts.{where_unblocked}, Origins.{itself, shows_any}, Tallies.{shown}}
 use Rattle.not_node.specs.{declared.node.NotNode.{NotNode}, Moments.{moment_at}, Waiting.{AwaitsMoments, ripe}, Doors.{blocking_pattern}}
 
 -- the left rows for which no candidate is counted

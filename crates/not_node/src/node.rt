@@ -5,14 +5,14 @@ ghost use Rattle.row_delta.specs.Rows.{has, InOrder};
 ghost use Rattle.row_change.specs.Changes.{IsDifference};
 ghost use Rattle.rule_model.specs.declared.program.Program.{Program};
 ghost use Rattle.join_tests.specs.Joins.{Look};
-ghost use Rattle.pair_memory.specs.Joined.{has_name};
-ghost use Rattle.pair_memory.specs.Memories.{left_at, has_left, has_right, KeepsMemories};
-ghost use Rattle.pair_memory.specs.Standing.{no_rows, no_names, StandsFor};
-ghost use Rattle.pair_memory.specs.Inputs.{IsStepped};
-ghost use Rattle.pair_memory.specs.Shared.{over};
-ghost use Rattle.tally_node.specs.Counts.{counts_blockers};
-ghost use Rattle.tally_node.specs.Extras.{AllLaden, AreExtrasOf, blockers_laden, nothing_gathered};
-ghost use Rattle.tally_node.specs.Tallies.{TallyStep};
+ghost use Rattle.join_memory.specs.Joined.{has_name};
+ghost use Rattle.join_memory.specs.Memories.{left_at, has_left, has_right, KeepsMemories};
+ghost use Rattle.join_memory.specs.Standing.{no_rows, no_names, StandsFor};
+ghost use Rattle.join_memory.specs.Inputs.{IsStepped};
+ghost use Rattle.join_memory.specs.Shared.{over};
+ghost use Rattle.counting_node.specs.Counts.{counts_blockers};
+ghost use Rattle.counting_node.specs.Extras.{AllLaden, AreExtrasOf, blockers_laden, nothing_gathered};
+ghost use Rattle.counting_node.specs.Tallies.{TallyStep};
 ghost use Rattle.not_node.specs.Rows.{IsInStep, not_rows};
 ghost use Rattle.not_node.specs.Waiting.{waits, IsMomentFrom, NoneDue, later};
 ghost use Rattle.not_node.specs.Doors.{blocking_pattern};
@@ -20,12 +20,12 @@ ghost use Rattle.not_node.specs.Doors.{blocking_pattern};
 mod handed;
 
 use crate::ripening::Ripening;
+use counting_node::{Blockers, TallyNode};
 use fx_base::{Facts, NoMemory, RuleId, Seq};
-use pair_memory::Candidates;
+use join_memory::Candidates;
 use row_delta::{Delta, Extra, Named, Row};
 use rule_model::{Pattern, Program};
 use std::alloc::Global;
-use tally_node::{Blockers, TallyNode};
 
 /// The node of a `not`: it counts for each left row the candidates that pass, and behind that the rows for which it counts none
 /// wait until they are mature. After a call that was refused memory it is to be given up.

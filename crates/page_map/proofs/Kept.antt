@@ -5,8 +5,9 @@ use Rattle.page_map.proofs.Common.{WritesThrough, lookup, keys_of, values_of, Al
 use Rattle.page_map.proofs.Common.{Directory, free, value_for_number, entries_from, entries_by, entries_of, ArePagesApart, AreDirectories, number_in}
 use Rattle.page_map.proofs.Common.{number_in_pages, value_at, T, IfNone, OnSome, is_some, eq_by_cmp, is_eq, is_lt, insert_entry, set_value, remove_entry}
 use Rattle.page_map.proofs.Common.{All-keys-insert_entry, All-values-insert_entry, All-map-remove_entry, All-values-set_value, NumberMap, entry_of}
-use Rattle.std.specs.{Cmp.{nat_cmp_total, unsigned_tied}, List.Sorted.{IsStrictlySortedBy}, FinMap.{find, is_sorted, from_sorted, Entries.{below_all}}}
-use Rattle.std.specs.FinMap.{from_entries, get-from_entries, get-from_sorted, get-insert, get-remove, entries-from_sorted, same_map, nat_cmp-IsAntisymmetric}
+use Rattle.std.specs.{Cmp.{nat_cmp_total, unsigned_tied}, List.Sorted.{IsStrictlySortedBy}, FinMap.{find, is_sorted, from_sorted, from_entries}}
+use Rattle.std.specs.FinMap.{get-from_entries, get-from_sorted, get-insert, get-remove, entries-from_sorted, same_map, nat_cmp-IsAntisymmetric}
+use Rattle.std.specs.FinMap.Entries.{below_all}
 use Rattle.std.specs.FinMap as map
 use Rattle.std.proofs.lemmas.Cmp.{ranked}
 use Rattle.page_map.specs.Pages.{numbers_of}

@@ -16,8 +16,8 @@ pub use Rattle.condition_rows.specs.Sets.{candidates_of}
 pub use Rattle.fx_base.specs.Lists.{In}
 pub use Rattle.fx_base.specs.declared.fact.Fact.{Fact}
 pub use Rattle.fx_base.specs.declared.ids.Tag.{Tag}
-pub use Rattle.pair_memory.specs.Inputs.{IsNameDifference, row_naming}
-pub use Rattle.pair_memory.specs.Standing.{no_names, no_rows}
+pub use Rattle.join_memory.specs.Inputs.{IsNameDifference, row_naming}
+pub use Rattle.join_memory.specs.Standing.{no_names, no_rows}
 pub use Rattle.pattern_gate.specs.Gates.{GateStands, LeavesBy, arrival_of, arrivals, has_good_window, window_kind_of}
 pub use Rattle.pattern_gate.specs.Moves.{IsOrderly, MovesSnapshot, at_clock, shares_tag}
 pub use Rattle.pattern_gate.specs.Turns.{LetsAllCome, LetsAllGo, LetsCome, LetsGo, ReachesArrivals, TakesStep, is_given_meant, is_meant, is_one_meant}

@@ -8,7 +8,7 @@ ghost use Rattle.row_delta.specs.declared.row.Named.{Named};
 ghost use Rattle.rule_model.specs.Snapshots.{Snapshot};
 ghost use Rattle.rule_model.specs.declared.condition.Pattern.{Pattern};
 ghost use Rattle.rule_model.specs.declared.program.Program.{Program};
-ghost use Rattle.pair_memory.specs.Inputs.{row_naming};
+ghost use Rattle.join_memory.specs.Inputs.{row_naming};
 ghost use Rattle.condition_rows.specs.Sets.{candidates_of};
 ghost use Rattle.window_gate.specs.Windows.{rows_inside};
 ghost use Rattle.pattern_gate.specs.Alike.{SameCandidatesLaw, SameGateLaw, SameMeantLaw, SameWindowLaw};

@@ -9,8 +9,8 @@ use Rattle.fx_base.proofs.Sequences.{drop_past}
 use Rattle.drl_expr.specs.Words.{is_among}
 use Rattle.drl_grammar.specs.declared.{file.{File.{File}, Item.{Item}}, written.{WrittenItem.{WrittenItem}, WrittenType.{WrittenType}}}
 use Rattle.drl_names.specs.Names.{names_of}
-use Rattle.drl_program.specs.Programs.{program_of}
-use Rattle.drl_sight.specs.{Declarations.{types_of, rules_of}, Observed.{watched_names}}
+use Rattle.drl_compile.specs.Programs.{program_of}
+use Rattle.drl_scope.specs.{Declarations.{types_of, rules_of}, Observed.{watched_names}}
 use Rattle.subrules.specs.{Hierarchy.{written_types_of}, Expanded.{expanded, plain_items, titles, titles_in, origins, origins_from}, Front.{short_items}}
 use Rattle.subrules.{specs.{declared.expanding.Expanded.{Expanded}, Outcomes.{IsExpanded}}, proofs.FrontLaws.{as_many_origins, as_many_titles, origins_append}}
 use Rattle.subrules.proofs.FrontLaws.{same_types, same_watched, watched_append}

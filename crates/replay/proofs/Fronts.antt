@@ -9,10 +9,10 @@ use Rattle.drl_grammar.specs.declared.action.ActTree.TheVariants as action
 use Rattle.drl_grammar.specs.declared.file.Body.{Body}
 use Rattle.drl_grammar.specs.declared.file.Body.TheVariants as body
 use Rattle.drl_grammar.specs.declared.file.{Item.{Item}, TypeTree.{TypeTree}}
-use Rattle.drl_sight.specs.{Annotations.{is_tree_of_events}, Declarations.{types_of, rules_of, type_names, rule_names, rule_in}, EntryPoints.{declared_entries}}
-use Rattle.drl_sight.specs.{EntryPoints.{entry_names}, Observed.{is_event_among, watched_names}, Sight.{Sight, Meaning, of_fact, of_field, of_result}}
-use Rattle.drl_sight.specs.Sight.{meaning_of, sight_of_actions}
-use Rattle.drl_program.specs.Programs.{types_alone}
+use Rattle.drl_scope.specs.{Annotations.{is_tree_of_events}, Declarations.{types_of, rules_of, type_names, rule_names, rule_in}, EntryPoints.{declared_entries}}
+use Rattle.drl_scope.specs.{EntryPoints.{entry_names}, Observed.{is_event_among, watched_names}, Sight.{Sight, Meaning, of_fact, of_field, of_result}}
+use Rattle.drl_scope.specs.Sight.{meaning_of, sight_of_actions}
+use Rattle.drl_compile.specs.Programs.{types_alone}
 use Rattle.drl_limits.specs.Limits.{has_few_entries, rule_within}
 use Rattle.drl_check.specs.{declared.fault.CheckCode.{CheckCode, TheVariants.{TwiceDeclared, LimitPassed}}, Checks.{codes_in_order, drops_observed, fails}}
 use Rattle.drl_check.specs.{Checks.{failure_at, failure_from, first_code}, Events.{is_observed_meant, retracts_observed}, Failing.{first_failing}}

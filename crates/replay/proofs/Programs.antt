@@ -7,7 +7,7 @@ use Rattle.replay.{proofs.Common.{wanted_from, wanted_rules, sums_up}, specs.{Re
 use Rattle.replay.proofs.Titles.{is_runnable}
 use Rattle.drl_check.{specs.Outcomes.{checked}, proofs.{Exact.{exact_none}, Runnable.{accepted_runnable}}}
 use Rattle.drl_grammar.specs.declared.file.File.{File}
-use Rattle.drl_program.specs.Programs.{program_of}
+use Rattle.drl_compile.specs.Programs.{program_of}
 use Rattle.rule_world.specs.Programs.{IsRunnable}
 use Rattle.subrules.specs.{declared.fault.Obstacle.{Obstacle}, Expanded.{titles}}
 

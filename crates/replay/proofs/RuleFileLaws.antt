@@ -6,7 +6,7 @@ use Rattle.replay.specs.RuleFiles.IsReading.{is_accepted}
 use Rattle.std.specs.Prelude.{◌≤◌, ◌<◌}
 use Rattle.drl_lex.specs.declared.fault.LexCode.{LexCode}
 use Rattle.drl_grammar.specs.Files.{IsFile, IsOutside}
-use Rattle.drl_program.specs.Programs.{program_of}
+use Rattle.drl_compile.specs.Programs.{program_of}
 use Rattle.subrules.specs.declared.fault.Obstacle.{Obstacle}
 use Rattle.drl_check.{specs.Outcomes.{checked}, proofs.Exact.{exact_none, is_first_failure, first_failure_is}}
 

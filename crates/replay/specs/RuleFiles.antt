@@ -3,7 +3,7 @@ use Rattle.std.specs.Prelude.{◌≡◌, ℕ, ◌<◌, ◌≤◌, List, length, 
 use Rattle.drl_lex.specs.declared.fault.LexCode.{LexCode}
 use Rattle.drl_grammar.specs.{declared.written.Written.{Written}, Files.{IsFile, IsOutside}}
 use Rattle.drl_parse.specs.Parsed.{file_limit, IsLexical}
-use Rattle.drl_program.specs.Programs.{program_of}
+use Rattle.drl_compile.specs.Programs.{program_of}
 use Rattle.drl_check.specs.{declared.fault.CheckCode.{CheckCode}, Checks.{IsAcceptedFile, IsFirstFailure}}
 use Rattle.subrules.specs.{declared.fault.ExpandCode.{ExpandCode}, Expanded.{titles}, Faults.{obstacle}}
 use Rattle.replay.specs.declared.{refusal.RefusalCode.TheVariants.{TooLong, Lexical, Syntax, Expanded, Checked}, rule_file.Reading.{Reading}}

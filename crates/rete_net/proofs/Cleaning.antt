@@ -4,7 +4,7 @@ use Rattle.rete_net.proofs.Common.{filter, list_any, Named, Row, same_equiv, has
 use Rattle.rete_net.proofs.Common.{joined, clean, cleaned, either, remembered, no_names, unvalued, splits_value, row_decides, from_unvalued, joined_clean}
 use Rattle.rete_net.proofs.Common.{clean_either, gives, is_ripe, line, held, candidates_of, has_partner}
 use Rattle.std.proofs.lemmas.Map.Made.{is_member-filter}
-use Rattle.pair_memory.specs.Valued.{valued}
+use Rattle.join_memory.specs.Valued.{valued}
 use Rattle.fx_base.proofs.Sequences.{filter-all}
 
 -- ---- where nothing is forgotten

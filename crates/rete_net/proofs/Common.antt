@@ -28,18 +28,18 @@ pub use Rattle.std.specs.declared.cmp.Ordering.TheVariants.{Less, Equal, Greater
 pub use Rattle.beta_join.specs.declared.join.BetaJoin.{BetaJoin}
 pub use Rattle.condition_rows.proofs.Alike.{held_known, joining_alike, clean_of_none, facts_alike}
 pub use Rattle.beta_join.specs.Doors.{joined_pattern}
-pub use Rattle.condition_node.proofs.Knowing.{AsksOfSet, blockers_ask, gathers_ask, witnesses_ask}
-pub use Rattle.condition_node.proofs.Moved.{node_moves, no_candidates}
-pub use Rattle.condition_node.proofs.Quietness.{join_quiet, exists_quiet, fold_quiet}
-pub use Rattle.condition_node.proofs.Still.{Stays, TellsNothing, exists_still, exists_tells_nothing, fold_still, fold_tells_nothing, join_still}
-pub use Rattle.condition_node.proofs.Still.{join_tells_nothing, not_still, not_tells_nothing}
-pub use Rattle.condition_node.specs.Doors.{gathered_tallies}
-pub use Rattle.condition_node.specs.Loading.{AreExtrasBeside, IsAside, IsExtraBeside, IsLoad, IsLost, IsResumed, Laden, node_rows}
+pub use Rattle.beta_node.proofs.Knowing.{AsksOfSet, blockers_ask, gathers_ask, witnesses_ask}
+pub use Rattle.beta_node.proofs.Moved.{node_moves, no_candidates}
+pub use Rattle.beta_node.proofs.Quietness.{join_quiet, exists_quiet, fold_quiet}
+pub use Rattle.beta_node.proofs.Still.{Stays, TellsNothing, exists_still, exists_tells_nothing, fold_still, fold_tells_nothing, join_still}
+pub use Rattle.beta_node.proofs.Still.{join_tells_nothing, not_still, not_tells_nothing}
+pub use Rattle.beta_node.specs.Doors.{gathered_tallies}
+pub use Rattle.beta_node.specs.Loading.{AreExtrasBeside, IsAside, IsExtraBeside, IsLoad, IsLost, IsResumed, Laden, node_rows}
 pub use Rattle.laden_rows.specs.Extras.{lost_partners, values_gathered, extra_cmp, IsFirstWith, AreExtras, IsExtraIn}
-pub use Rattle.condition_node.specs.Nodes.{condition_of, NodeStands, is_negated, CountsPartners}
-pub use Rattle.condition_node.specs.Quiet.{IsBefore, IsQuiet}
-pub use Rattle.condition_node.specs.Turns.{CountedStay, IsConditionTurn}
-pub use Rattle.condition_node.specs.declared.node.Node.{Node}
+pub use Rattle.beta_node.specs.Nodes.{condition_of, NodeStands, is_negated, CountsPartners}
+pub use Rattle.beta_node.specs.Quiet.{IsBefore, IsQuiet}
+pub use Rattle.beta_node.specs.Turns.{CountedStay, IsConditionTurn}
+pub use Rattle.beta_node.specs.declared.node.Node.{Node}
 pub use Rattle.condition_rows.proofs.Ends.{has_in, in_has, name_in}
 pub use Rattle.condition_rows.proofs.Holding.{held_fact, held_in}
 pub use Rattle.condition_rows.proofs.Joined.{candidate_of, candidate_named, candidates_named}
@@ -59,17 +59,17 @@ pub use Rattle.laden_rows.proofs.Extras.{extra_count, extra_values, found_in}
 pub use Rattle.laden_rows.specs.Laden.{extra_at, laden_line, count_of, laden, laden_with, extra_values_of}
 pub use Rattle.join_tests.specs.Joins.{Look, joins}
 pub use Rattle.join_tests.specs.RowKeys.{row_key}
-pub use Rattle.pair_memory.proofs.Joining.{name_decides, row_decides}
-pub use Rattle.pair_memory.proofs.Valued.{from_unvalued}
-pub use Rattle.pair_memory.proofs.Worlds.{joined_clean, clean_either}
-pub use Rattle.pair_memory.specs.Apart.{beside}
-pub use Rattle.pair_memory.specs.Inputs.{row_naming, IsNameDifference, IsStepped}
-pub use Rattle.pair_memory.specs.Joined.{has_name, joined, splits, unjoined}
-pub use Rattle.pair_memory.specs.Memories.{made, has_left, has_right}
-pub use Rattle.pair_memory.specs.Standing.{cleaned, no_names, clean, either, remembered, StandsFor, no_rows, AlikeOn}
-pub use Rattle.pair_memory.specs.Valued.{splits_value, unvalued}
-pub use Rattle.pair_memory.specs.declared.candidates.Candidates.{Candidates}
-pub use Rattle.pair_memory.specs.declared.memories.Memories.{Memories}
+pub use Rattle.join_memory.proofs.Joining.{name_decides, row_decides}
+pub use Rattle.join_memory.proofs.Valued.{from_unvalued}
+pub use Rattle.join_memory.proofs.Worlds.{joined_clean, clean_either}
+pub use Rattle.join_memory.specs.Apart.{beside}
+pub use Rattle.join_memory.specs.Inputs.{row_naming, IsNameDifference, IsStepped}
+pub use Rattle.join_memory.specs.Joined.{has_name, joined, splits, unjoined}
+pub use Rattle.join_memory.specs.Memories.{made, has_left, has_right}
+pub use Rattle.join_memory.specs.Standing.{cleaned, no_names, clean, either, remembered, StandsFor, no_rows, AlikeOn}
+pub use Rattle.join_memory.specs.Valued.{splits_value, unvalued}
+pub use Rattle.join_memory.specs.declared.candidates.Candidates.{Candidates}
+pub use Rattle.join_memory.specs.declared.memories.Memories.{Memories}
 pub use Rattle.pattern_gate.proofs.Arriving.{rising, filter_among, is_other, filter_both, filter_made, meant, number}
 pub use Rattle.pattern_gate.proofs.Inside.{inside_are}
 pub use Rattle.pattern_gate.proofs.Moving.{nothing_differs, same_arrivals, same_candidates, stands_still, arrivals_still}
@@ -156,11 +156,11 @@ pub use Rattle.rule_model.specs.declared.program.Program.{Program}
 pub use Rattle.rule_model.specs.declared.program.Rule.{Rule}
 pub use Rattle.rule_world.proofs.Kept.{filter_swap, filter_same}
 pub use Rattle.rule_world.specs.Programs.{IsRunnable, has_window, has_conditions, has_windows}
-pub use Rattle.tally_node.specs.Doors.{tallied_pattern}
-pub use Rattle.tally_node.specs.Counts.{counts_blockers, counts_witnesses}
-pub use Rattle.tally_node.specs.Extras.{extra_for, rows_of_extras}
-pub use Rattle.tally_node.specs.Gathers.{gathers}
-pub use Rattle.tally_node.specs.Laws.{ForgottenStay, StandsCounted, all_passing}
+pub use Rattle.counting_node.specs.Doors.{tallied_pattern}
+pub use Rattle.counting_node.specs.Counts.{counts_blockers, counts_witnesses}
+pub use Rattle.counting_node.specs.Extras.{extra_for, rows_of_extras}
+pub use Rattle.counting_node.specs.Gathers.{gathers}
+pub use Rattle.counting_node.specs.Laws.{ForgottenStay, StandsCounted, all_passing}
 pub use Rattle.window_gate.proofs.Insides.{differ_after, inside_whole}
 pub use Rattle.window_gate.specs.Standing.{StandsForArrivals, KeepsWindow, window_kept, KeepsTime, TagsDiffer, window_of, with_tag, HoldsArrivals}
 pub use Rattle.window_gate.specs.Windows.{Arrival, rows_inside, named_of, has_tag, inside, single}

@@ -4,8 +4,8 @@ use Rattle.rete_net.proofs.Common.{◌≡◌, ◌∙◌, sym, ap, refl, subst, �
 use Rattle.rete_net.proofs.Common.{slice_get_within, option_map, Row, Plain, Pattern, Look, Candidates, row_key, condition_of, Answered, Fan, Fans, Seat, Index}
 use Rattle.rete_net.proofs.Common.{NetNode, answer_in, left_given, some_answer, IsAnswerPut, half_at, half_of, in_fan, member_at, member_of, seat_at, showing}
 use Rattle.rete_net.proofs.Common.{with_fans, AreFans, AreFanRowsTurned, IsFanLike, IsHalf, IsLaidAs, IsLeft, IsOfSeat, Member, no_change, IsReplaced, true}
-use Rattle.rete_net.{proofs.{Common.{false, are_none, Lists, is_listed, has_place, AreWoken}, Showing.{same_lists, shown_at}}, specs.Answers.{given as kept}}
-use Rattle.rete_net.proofs.{Showing.{shown_none}, Siblings.{half_none}, Walking.{equal_or_not}}
+use Rattle.rete_net.proofs.{Common.{false, are_none, Lists, is_listed, has_place, AreWoken}, Showing.{same_lists, shown_at, shown_none}}
+use Rattle.rete_net.{specs.Answers.{given as kept}, proofs.{Siblings.{half_none}, Walking.{equal_or_not}}}
 use Rattle.fx_base.proofs.{Orders.{below_or_last}, Sequences.{get-below, get-set_other, get-set_same, one_value}}
 
 -- ---- where members stand

@@ -12,7 +12,7 @@ use Rattle.rete_net.proofs.{Common.{filter_among, filter_both, is_other, facts_a
 use Rattle.rete_net.proofs.{Advancing.{same_first}, Beside.{held_at}, Chaining.{AreMade}, Cleaning.{line_cleaned}}
 use Rattle.std.proofs.lemmas.Bool.{and_parts, eqb-true, false_from_ne_true, or_parts}
 use Rattle.rule_model.specs.{declared.condition.Accumulate.{Accumulate}, Maturity.{is_mature}, Snapshots.{floor}}
-use Rattle.pair_memory.{specs.Valued.{valued}, proofs.Moving.{joins_alike, named_alike}}
+use Rattle.join_memory.{specs.Valued.{valued}, proofs.Moving.{joins_alike, named_alike}}
 use Rattle.condition_rows.specs.{Lines.{gives, is_ripe}, Sets.{has_partner, partners}}
 use Rattle.fx_base.proofs.Tests.{and_implied, both_ways_absurd, or_and_excluded, or_and_implied}
 

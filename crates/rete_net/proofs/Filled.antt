@@ -9,7 +9,7 @@ use Rattle.rete_net.proofs.{Common.{laden_line, found_in, NetNode, is_fact_of_ty
 use Rattle.std.specs.List.Sorted.{IsStrictlySortedBy}
 use Rattle.condition_rows.specs.Sets.{held}
 use Rattle.pattern_gate.proofs.Inside.{rows_named}
-use Rattle.condition_node.proofs.Lines.{node_laden, node_shown}
+use Rattle.beta_node.proofs.Lines.{node_laden, node_shown}
 
 -- ---- facts of one type
 

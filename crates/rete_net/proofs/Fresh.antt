@@ -5,13 +5,13 @@ use Rattle.rete_net.proofs.Common.{StandsIn, Member, showing, shown, taking, Fan
 use Rattle.std.proofs.lemmas.Bool.{false≢true}
 use Rattle.join_tests.specs.NameKeys.{name_key}
 use Rattle.condition_rows.specs.Sets.{candidates_of, held}
-use Rattle.pair_memory.specs.{declared.{candidates.Candidates.{Candidates}, memories.Memories.{Memories}}, Shared.{sharing}, Standing.{StandsFor}}
-use Rattle.tally_node.specs.Laws.{StandsCounted}
+use Rattle.join_memory.specs.{declared.{candidates.Candidates.{Candidates}, memories.Memories.{Memories}}, Shared.{sharing}, Standing.{StandsFor}}
+use Rattle.counting_node.specs.Laws.{StandsCounted}
 use Rattle.pattern_gate.{specs.Alike.{TakesAlike}, proofs.Alike.{same_gate}}
 use Rattle.candidate_source.specs.{declared.{source.Source.{Source}, sources.Sources.{Sources}}, Doors.{source_candidates, source_gate, source_pattern}}
 use Rattle.candidate_source.specs.Sources.{source_at, IsNewSource}
-use Rattle.condition_node.specs.Lending.{with_candidates}
-use Rattle.condition_node.specs.declared.node.Node.TheVariants as node
+use Rattle.beta_node.specs.Lending.{with_candidates}
+use Rattle.beta_node.specs.declared.node.Node.TheVariants as node
 use Rattle.rete_net.{specs.Sources.{AreSources, IsSourced}, proofs.{Lent.{condition_lent}, Showing.{condition_shown, shown_from}}}
 
 pub no_candidate : (p : Program) (q : Pattern) (who : Named) → candidates_of p q empty_snapshot who ≡ false

@@ -4,10 +4,10 @@ use Rattle.rete_net.proofs.Common.{Pattern, Moment, Program, pattern_of, Snapsho
 use Rattle.rete_net.proofs.Common.{HasNoOld, NodeForgets, Fan, Seat, member_of, showing, IsHalf, IsHalfTurned, IsOfSeat, Member, no_change, NodeStep}
 use Rattle.rete_net.proofs.Common.{condition_of, is_negated, node_moves}
 use Rattle.std.proofs.Math.Bool.{or-false}
-use Rattle.pair_memory.specs.{declared.left_rows.LeftRows.{LeftRows}, Memories.{KeepsMemories}}
-use Rattle.condition_node.specs.Forgetting.{ForgetsIn}
-use Rattle.condition_node.specs.declared.node.Node.TheVariants as node
-use Rattle.condition_node.proofs.Forgetting.{join_forgot}
+use Rattle.join_memory.specs.{declared.left_rows.LeftRows.{LeftRows}, Memories.{KeepsMemories}}
+use Rattle.beta_node.specs.Forgetting.{ForgetsIn}
+use Rattle.beta_node.specs.declared.node.Node.TheVariants as node
+use Rattle.beta_node.proofs.Forgetting.{join_forgot}
 use Rattle.rete_net.proofs.{Forgets.{node_forgets}, Lone.{alone_gate, IsAlone}, Siblings.{as_node, own_join, shown_is, still_steps, whole_half}}
 use Rattle.rete_net.proofs.Sparing.{none_old}
 use Rattle.fx_base.proofs.Tests.{and_not_excluded}

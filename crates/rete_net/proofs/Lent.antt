@@ -5,11 +5,11 @@ use Rattle.rete_net.proofs.Common.{Value}
 use Rattle.fx_base.specs.SameValues.{equal_values}
 use Rattle.join_tests.specs.{Kept.{row_value}, NameKeys.{name_key}}
 use Rattle.not_node.specs.Doors.{with_tallies}
-use Rattle.pair_memory.specs.Shared.{sharing, TakesOver, ForgoesOld}
+use Rattle.join_memory.specs.Shared.{sharing, TakesOver, ForgoesOld}
 use Rattle.candidate_source.specs.{declared.source.Source.{Source}, Doors.{source_candidates, source_pattern, is_reached}, Sources.{HasTurnedAt, HaveLeftAt}}
 use Rattle.candidate_source.proofs.Sharing.{turn_at_law, forget_at_law}
-use Rattle.condition_node.specs.Lending.{candidates_in, with_candidates, stands_under, node_keeps_under, node_value, NodeTakes, NodeForgoes}
-use Rattle.condition_node.specs.declared.node.Node.TheVariants as node
+use Rattle.beta_node.specs.Lending.{candidates_in, with_candidates, stands_under, node_keeps_under, node_value, NodeTakes, NodeForgoes}
+use Rattle.beta_node.specs.declared.node.Node.TheVariants as node
 
 -- the value under which a row before the node is kept
 abbrev pub value_before : Node → Look → Row → Value

@@ -9,8 +9,8 @@ use Rattle.rete_net.proofs.Common.{Gate}
 use Rattle.not_node.specs.{Doors.{awaited_entry}, declared.node.NotNode.{NotNode}}
 use Rattle.window_gate.specs.declared.change.WindowKind.{WindowKind}
 use Rattle.window_gate.specs.declared.gate.Kept.TheVariants as kept
-use Rattle.condition_node.specs.declared.node.Node.TheVariants as node
-use Rattle.condition_node.proofs.Turning.{floor_told}
+use Rattle.beta_node.specs.declared.node.Node.TheVariants as node
+use Rattle.beta_node.proofs.Turning.{floor_told}
 use Rattle.rete_net.proofs.Skipping.{GateStays, skipped}
 use Rattle.fx_base.proofs.Tests.{or_first_false}
 

@@ -6,10 +6,10 @@ use Rattle.join_tests.specs.NameKeys.{name_key}
 use Rattle.not_node.specs.{Doors.{awaited_entry}, declared.node.NotNode.{NotNode}}
 use Rattle.pattern_gate.specs.Alike.{TakesAlike}
 use Rattle.candidate_source.specs.{declared.source.Source.{Source}, Doors.{source_candidates, source_pattern, is_reached}}
-use Rattle.condition_node.proofs.{Lending.{exists_with, fold_with, join_with, not_with}, Turning.{floor_told}, Untouched.{StaysUntouched, TellsUntouched}}
-use Rattle.condition_node.proofs.Untouched.{exists_tells_untouched, exists_untouched, fold_tells_untouched, fold_untouched, join_tells_untouched}
-use Rattle.condition_node.{proofs.Untouched.{join_untouched, not_tells_untouched, not_untouched}, specs.Lending.{with_candidates}}
-use Rattle.condition_node.specs.declared.node.Node.TheVariants as node
+use Rattle.beta_node.proofs.{Lending.{exists_with, fold_with, join_with, not_with}, Turning.{floor_told}, Untouched.{StaysUntouched, TellsUntouched}}
+use Rattle.beta_node.proofs.Untouched.{exists_tells_untouched, exists_untouched, fold_tells_untouched, fold_untouched, join_tells_untouched, join_untouched}
+use Rattle.beta_node.{proofs.Untouched.{not_tells_untouched, not_untouched}, specs.Lending.{with_candidates}}
+use Rattle.beta_node.specs.declared.node.Node.TheVariants as node
 use Rattle.rete_net.{specs.Lending.{IsFoundAnew, TurnsAt}, proofs.{Fanned.{none_of}, Lending.{turn_step}, Lent.{condition_lent, lent_last}}}
 use Rattle.rete_net.proofs.Skipping.{no_difference}
 

@@ -5,7 +5,7 @@ use Rattle.fan_join.proofs.Reaches.{among_more}
 use Rattle.fx_base.{proofs.Orders.{eq_by_nat_cmp-self, eq_by_nat_cmp-true}, specs.{SameValues.{equal_values, same_itself}, Values.{same_value}}}
 use Rattle.std.proofs.lemmas.Bool.{and_from, false_from_ne_true}
 use Rattle.candidate_source.specs.{declared.source.Source.{Source}, Doors.{source_candidates, source_gate, is_reached}}
-use Rattle.condition_node.specs.Lending.{node_keeps_under, node_value}
+use Rattle.beta_node.specs.Lending.{node_keeps_under, node_value}
 
 -- nothing has changed
 pub found_still : (n : Node) (look : Look) (k : ℕ) (source : Source) → IsFoundAnew n look k [] source source

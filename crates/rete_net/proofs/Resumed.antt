@@ -12,7 +12,7 @@ use Rattle.candidate_source.proofs.Moving.{lead_alike}
 use Rattle.std.proofs.lemmas.Bool.{eqb-true}
 use Rattle.rule_model.specs.declared.condition.WindowTag.TheVariants as tag
 use Rattle.condition_rows.specs.Sets.{held}
-use Rattle.condition_node.proofs.Resuming.{resumes_law}
+use Rattle.beta_node.proofs.Resuming.{resumes_law}
 use Rattle.laden_rows.{specs.Laden.{AreOwners}, proofs.{Kept.{candidates_kept, known}, Rows.{laden_rows}}}
 use Rattle.pattern_gate.{specs.Fronts.{IsLetBe, HasInFront}, proofs.Fronts.{gate_of_all}}
 use Rattle.rete_net.{specs.{Loading.{IsBehind}, Loads.{IsFoundUnder, TurnLoads}, Owners.{AreNodeOwners as HaveOwners}}, proofs.Counted.{fronts_within}}

@@ -4,7 +4,7 @@ use Rattle.rete_net.proofs.Common.{Some, None, slice_get, ≤ℤ_refl, filter, F
 use Rattle.rete_net.proofs.Common.{floor, floor_on, held, IsOrderly, MovesSnapshot, at_clock, shares_tag, PatternGate, is_one_meant, BetaJoin, Node}
 use Rattle.rete_net.proofs.Common.{condition_of, is_negated, IsBefore, join_quiet, NetNode, Schedule, Member, shown, showing, with_member, is_changed_by_clock}
 use Rattle.rete_net.proofs.Common.{AreQuiet, IsNodeQuiet, AreScheduled, IsGateStill, IsScheduled, IsStillAt, IsReplaced, joined_pattern}
-use Rattle.condition_node.specs.declared.node.Node.TheVariants as node
+use Rattle.beta_node.specs.declared.node.Node.TheVariants as node
 use Rattle.rete_net.proofs.{Lone.{IsAlone}, Turning.{held_has, rising}}
 use Rattle.fx_base.proofs.Sequences.{one_value}
 

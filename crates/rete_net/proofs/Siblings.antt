@@ -8,9 +8,9 @@ use Rattle.rete_net.proofs.Common.{nothing_differs, IsOrderly, MovesSnapshot, Pa
 use Rattle.rete_net.proofs.Common.{Seat, half_at, half_of, member_at, member_of, seat_at, showing, with_member, AreNamesTurnedAt, IsHalf, IsHalfTurned, IsLeft}
 use Rattle.rete_net.proofs.Common.{IsOfSeat, Member, type_of, is_fact_of_type, NodeLoad, no_change, NodeStep, joined_pattern, tallied_pattern, blocking_pattern}
 use Rattle.std.{proofs.Math.Bool.{or-false}, specs.{Option.{IfSome}, List.Sorted.{IsStrictlySortedBy}}}
-use Rattle.pair_memory.{specs.{declared.left_rows.LeftRows.{LeftRows}, Memories.{KeepsMemories}}, proofs.Turning.{keeps_then}}
-use Rattle.condition_node.specs.declared.node.Node.TheVariants as node
-use Rattle.condition_node.proofs.{Forgetting.{join_forgot}, Loading.{join_loads}, Telling.{join_turns, join_tells}}
+use Rattle.join_memory.{specs.{declared.left_rows.LeftRows.{LeftRows}, Memories.{KeepsMemories}}, proofs.Turning.{keeps_then}}
+use Rattle.beta_node.specs.declared.node.Node.TheVariants as node
+use Rattle.beta_node.proofs.{Forgetting.{join_forgot}, Loading.{join_loads}, Telling.{join_turns, join_tells}}
 use Rattle.rete_net.proofs.{Filled.{loads_node}, Forgets.{node_forgets}, Skipping.{no_difference}, Turning.{node_step}}
 
 -- ---- a node of a pattern that binds a fact

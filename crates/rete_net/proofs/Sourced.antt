@@ -8,7 +8,7 @@ use Rattle.candidate_source.{proofs.Moving.{place_alike}, specs.{declared.{sourc
 use Rattle.candidate_source.{specs.{Handed.{come_at, gone_at}, Lending.{with_given, with_source}}, proofs.Lent.{lent_apart, lent_or_not, lent_other, lent_same}}
 use Rattle.candidate_source.specs.Sources.{handed_come, handed_gone, in_list, source_at, source_place, AreApart, AreLaidAs}
 use Rattle.fx_base.proofs.Sequences.{get-below, get-set_other, get-set_same, one_value}
-use Rattle.pair_memory.specs.declared.candidates.Candidates.{Candidates}
+use Rattle.join_memory.specs.declared.candidates.Candidates.{Candidates}
 
 -- a source is the same as itself
 pub same_for : (o : Option Source) (k : ℕ) → IsSameFor o o k

@@ -5,14 +5,14 @@ use Rattle.rete_net.proofs.Common.{HasAllOf, NameHeld, held, candidates_of, Node
 use Rattle.rete_net.proofs.Common.{showing, IsHalf, IsOfSeat, Member, no_change, HasNoOld, TurnForgets, NetNodeStands, StandsIn, blocker_tallies, type_of}
 use Rattle.rete_net.proofs.Common.{AreSources, IsWired, Index, slice_get, has_place, IsNodeFound}
 use Rattle.join_tests.{proofs.Naming.{kept_alike}, specs.NameKeys.{name_key}}
-use Rattle.pair_memory.specs.{Apart.{has_candidate}, Memories.{has_right}, Shared.{sharing, KeepsNames}}
+use Rattle.join_memory.specs.{Apart.{has_candidate}, Memories.{has_right}, Shared.{sharing, KeepsNames}}
 use Rattle.candidate_source.specs.{declared.{source.Source.{Source}, sources.Sources.{Sources}}, Doors.{source_candidates, source_pattern}, Reached.{is_under}}
 use Rattle.candidate_source.specs.Sources.{handed_gone, is_led, lead_of, source_at, AreApart, AreLaidAs, AreReachedAs, HaveLeftAt, IsPassedOver}
 use Rattle.candidate_source.{specs.Sources.{HaveForgotten as SourcesForgot}, proofs.{Moving.{place_within}, Resting.{has_lead, lead_is}}}
 use Rattle.fx_base.proofs.Sequences.{get-below}
 use Rattle.std.proofs.lemmas.Bool.{false_from_ne_true}
-use Rattle.condition_node.specs.Lending.{with_candidates}
-use Rattle.condition_node.specs.declared.node.Node.TheVariants as node
+use Rattle.beta_node.specs.Lending.{with_candidates}
+use Rattle.beta_node.specs.declared.node.Node.TheVariants as node
 use Rattle.rete_net.{specs.{Lending.{ForgetsAt, IsSameFor, IsSameIn, MayForget, MayForgetIn}, Sources.{IsSourced}}, proofs.Alone.{own_forgets, same_taking}}
 use Rattle.rete_net.proofs.{Forgone.{passed_forgetting}, Idle.{idle_forgets}, Showing.{condition_shown}, Sparing.{none_old, spared}, Sourced.{by_both}}
 use Rattle.rete_net.proofs.{Turned.{follows_none, leads_not}, Turning.{held_has}}

@@ -7,8 +7,8 @@ use Rattle.rete_net.proofs.Common.{has_partner, held_fact, candidate_of, Node, c
 use Rattle.rete_net.proofs.Common.{NodeStands, NetNode, HasNoOld, IsForgetting, NodeForgets, HaveDistinctTags, HasAllOf, blocker_tallies, joined_pattern}
 use Rattle.rete_net.proofs.Common.{gathered_tallies}
 use Rattle.std.{proofs.lemmas.Bool.{and_parts, false_from_ne_true}, specs.List.Sorted.{IsStrictlySortedBy}}
-use Rattle.pair_memory.specs.Valued.{valued}
-use Rattle.condition_node.specs.declared.node.Node.TheVariants as node
+use Rattle.join_memory.specs.Valued.{valued}
+use Rattle.beta_node.specs.declared.node.Node.TheVariants as node
 use Rattle.rete_net.proofs.Cleaning.{cleaned_either}
 
 kept_whole : (a k : Bool) → false ≡ (a && not k) → (a && k) ≡ a

@@ -7,11 +7,11 @@ use Rattle.rete_net.proofs.Common.{NodeLoad, taking}
 use Rattle.join_tests.specs.NameKeys.{name_key}
 use Rattle.fx_base.specs.declared.ids.TypeId.{TypeId}
 use Rattle.pattern_gate.proofs.Alike.{same_candidates, same_gate, same_window}
-use Rattle.pair_memory.specs.{Apart.{has_candidate}, Shared.{sharing, NamesAgree}}
-use Rattle.candidate_source.{specs.{declared.source.Source.{Source}, Doors.{source_candidates, source_gate}}, proofs.Sharing.{agree_alike, there as has_lent}}
-use Rattle.candidate_source.specs.{Doors.{source_pattern}, Sources.{facts_in, facts_of_type, IsLoadedWith}}
-use Rattle.condition_node.specs.Lending.{with_candidates, HasCandidates, NodeHas}
-use Rattle.condition_node.specs.declared.node.Node.TheVariants as node
+use Rattle.join_memory.specs.{Apart.{has_candidate}, Shared.{sharing, NamesAgree}}
+use Rattle.candidate_source.{specs.{declared.source.Source.{Source}, Doors.{source_candidates, source_gate, source_pattern}}, proofs.Sharing.{agree_alike}}
+use Rattle.candidate_source.{proofs.Sharing.{there as has_lent}, specs.Sources.{facts_in, facts_of_type, IsLoadedWith}}
+use Rattle.beta_node.specs.Lending.{with_candidates, HasCandidates, NodeHas}
+use Rattle.beta_node.specs.declared.node.Node.TheVariants as node
 use Rattle.rete_net.{specs.{Lending.{IsFoundAnew, IsSameFor, IsSameIn}, Loads.{HasLoaded, MayLoad, TurnLoads}}, proofs.Alone.{same_taking}}
 use Rattle.rete_net.proofs.{Filled.{loads_with}, Lent.{condition_lent}}
 

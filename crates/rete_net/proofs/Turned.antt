@@ -7,7 +7,7 @@ use Rattle.std.proofs.lemmas.Bool.{false_from_ne_true}
 use Rattle.candidate_source.specs.{declared.{source.Source.{Source}, sources.Sources.{Sources}}, Reached.{is_under}, Sources.{handed_come, handed_gone}}
 use Rattle.candidate_source.specs.Sources.{in_list, is_follower, is_lead, is_other, is_this, source_at, source_place, AreApart, AreLaidAs, AreOthersAtRest}
 use Rattle.candidate_source.specs.Sources.{AreReachedAs, HaveTurned, IsPassedOver}
-use Rattle.condition_node.specs.declared.node.Node.TheVariants as node
+use Rattle.beta_node.specs.declared.node.Node.TheVariants as node
 use Rattle.fx_base.proofs.Tests.{or_first_false}
 use Rattle.rete_net.{specs.{Lending.{MayTurn, MayTurnIn}, Schedules.{timed_gate}}, proofs.{Alone.{IsAloneBy}, Sourced.{by_both}, Stillness.{others_rest}}}
 

@@ -17,13 +17,13 @@ use Rattle.window_gate.specs.declared.change.GateChange.TheVariants.{Gone}
 use Rattle.window_gate.specs.declared.change.WindowKind.TheVariants as kind
 use Rattle.window_gate.specs.declared.gate.Kept.TheVariants as kept
 use Rattle.window_gate.specs.declared.time_window.TimeWindow.{TimeWindow}
-use Rattle.condition_node.specs.declared.node.Node.TheVariants as node
+use Rattle.beta_node.specs.declared.node.Node.TheVariants as node
 use Rattle.rete_net.proofs.{Beside.{at_end}, Cleaning.{has_clean}, Lent.{lent_alike}, Stillness.{condition_taking}, Common.{Option, None, StandsIn, IsFound}}
 use Rattle.rete_net.proofs.{Common.{taking}, Fewer.{IsApart, Unobserved, of_other, of_binding, tag_of, unobserved_of, same_left, no_fit, candidates_apart}}
 use Rattle.rete_net.proofs.Fewer.{candidate_other, held_still, less_known, candidates_less, remembered_same, joins_named, front_same}
 use Rattle.fx_base.{specs.declared.value.Value.{Value}, proofs.Tests.{and_where}}
 use Rattle.candidate_source.specs.{declared.source.Source.{Source}, Doors.{is_reached, source_candidates}, Sources.{source_at}}
-use Rattle.condition_node.specs.Lending.{with_candidates}
+use Rattle.beta_node.specs.Lending.{with_candidates}
 
 -- ---- a snapshot without a fact
 

@@ -2,7 +2,7 @@
 use Rattle.std.specs.Prelude.{◌≡◌, ◌<◌, ◌∷◌, ◌++◌, true, ℕ, List, [], length, take, Option, Some, None, slice_get}
 use Rattle.rule_model.specs.{declared.{condition.Condition.{Condition}, program.{Program.{Program}, Rule.{Rule}}}, Rows.{pattern_of}}
 use Rattle.pattern_gate.specs.Gates.{has_good_window}
-use Rattle.condition_node.specs.Nodes.{condition_of}
+use Rattle.beta_node.specs.Nodes.{condition_of}
 use Rattle.rete_net.specs.{declared.{node.NetNode.{NetNode}, build.Origin.{Origin}}, Standing.{IsFresh}, Shapes.{IsRuleFront}}
 
 -- a parent, of nodes with these conditions, is the node of those conditions; without one there is no condition

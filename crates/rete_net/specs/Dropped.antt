@@ -3,9 +3,9 @@ use Rattle.std.specs.Prelude.{◌≡◌, ◌<◌, ◌==◌, ◌&&◌, not, ℕ, 
 use Rattle.row_delta.specs.{declared.row.{Named.{Named}, Row.{Row}}, Rows.{has, InOrder}}
 use Rattle.rule_model.specs.{declared.program.{Program.{Program}, Rule.{Rule}}, Distinct.{HaveDistinctTags}, Snapshots.{Snapshot}}
 use Rattle.join_tests.specs.Joins.{Look}
-use Rattle.pair_memory.specs.Standing.{clean, cleaned, either}
+use Rattle.join_memory.specs.Standing.{clean, cleaned, either}
 use Rattle.condition_rows.specs.{Lines.{line}, Looks.{HasAllOf, NameHeld}, Sets.{rows_of}}
-use Rattle.condition_node.specs.Nodes.{condition_of}
+use Rattle.beta_node.specs.Nodes.{condition_of}
 use Rattle.rete_net.specs.declared.{forgetting.RuleRows.{RuleRows}, node.NetNode.{NetNode}, answered.Answered.{Answered}, index.Index.{Index}}
 use Rattle.rete_net.specs.{Answers.{given, some_answer, AreRuled}, Indexes.{is_listed, type_of}, Standing.{NetNodeStands, StandsIn}}
 use Rattle.fx_base.specs.declared.fact.Fact.{Fact}

@@ -5,12 +5,12 @@ use Rattle.row_delta.specs.{declared.{delta.Delta.{Delta}, row.{Named.{Named}, R
 use Rattle.row_change.specs.Changes.{are_none, IsDifference}
 use Rattle.rule_model.specs.declared.condition.Condition.TheVariants.{Plain}
 use Rattle.join_tests.specs.Joins.{Look}
-use Rattle.pair_memory.specs.{declared.{candidates.Candidates.{Candidates}, left_rows.LeftRows.{LeftRows}}, Apart.{beside}, Memories.{has_left, has_right}}
-use Rattle.pair_memory.specs.Memories.{made, KeepsMemories}
+use Rattle.join_memory.specs.{declared.{candidates.Candidates.{Candidates}, left_rows.LeftRows.{LeftRows}}, Apart.{beside}, Memories.{has_left, has_right}}
+use Rattle.join_memory.specs.Memories.{made, KeepsMemories}
 use Rattle.fan_join.specs.{Fans.{member_delta, AreBeside, IsEmpty, IsReached}, Turns.{AreNamesTurned}}
-use Rattle.condition_node.specs.declared.node.Node.{Node}
-use Rattle.condition_node.specs.declared.node.Node.TheVariants as node
-use Rattle.condition_node.specs.Nodes.{condition_of}
+use Rattle.beta_node.specs.declared.node.Node.{Node}
+use Rattle.beta_node.specs.declared.node.Node.TheVariants as node
+use Rattle.beta_node.specs.Nodes.{condition_of}
 use Rattle.rete_net.specs.declared.{fans.{Fan.{Fan}, Fans.{Fans}, Seat.{Seat}, Span.{Span}}, lists.Lists.{Lists}, net.Rete.{Rete}, node.NetNode.{NetNode}}
 use Rattle.rete_net.specs.{Indexes.{is_listed}, Steps.{no_change}}
 use Rattle.fan_join.specs.{Reaching.{has_place}, Doors.{shared_key}}

@@ -7,7 +7,7 @@ use Rattle.row_delta.specs.declared.delta.Delta.{Delta}
 use Rattle.row_change.specs.Changes.{changes_nothing}
 use Rattle.rule_model.specs.{declared.condition.Pattern.{Pattern}, Rows.{pattern_of}, Simple.{is_whole}}
 use Rattle.pattern_gate.specs.Turns.{is_meant, is_one_meant}
-use Rattle.condition_node.specs.Nodes.{condition_of, is_negated}
+use Rattle.beta_node.specs.Nodes.{condition_of, is_negated}
 use Rattle.rete_net.specs.declared.{alpha_index.AlphaIndex.{AlphaIndex}, index.Index.{Index}, lists.Lists.{Lists}, node.NetNode.{NetNode}}
 use Rattle.rete_net.specs.{declared.ranges.{FieldRanges.{FieldRanges}, Ranges.{Ranges}}, Selectors.{list_slot_of}}
 use Rattle.candidate_source.specs.{declared.sources.Sources.{Sources}, Sources.{is_follower}}

@@ -9,7 +9,7 @@ use Rattle.pattern_gate.specs.{Gates.{GateStands, has_good_window}, Moves.{Moves
 use Rattle.candidate_source.specs.{declared.source.Source.{Source}, Doors.{source_candidates, source_gate, source_pattern, is_reached}}
 use Rattle.candidate_source.specs.{declared.sources.Sources.{Sources}, Sources.{handed_come, handed_gone, source_at, AreApart, AreLaidAs, HasTurnedAt}}
 use Rattle.candidate_source.specs.Sources.{HaveLeftAt}
-use Rattle.condition_node.specs.{declared.node.Node.{Node}, Lending.{node_keeps_under, node_value}}
+use Rattle.beta_node.specs.{declared.node.Node.{Node}, Lending.{node_keeps_under, node_value}}
 use Rattle.rete_net.specs.{declared.node.NetNode.{NetNode}, Sources.{IsSourced}, Standing.{StandsIn}}
 
 -- the source has turned for the node in a place, by what the clock and these facts change, and this is handed to it

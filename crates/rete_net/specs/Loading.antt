@@ -8,7 +8,7 @@ use Rattle.rule_model.specs.{declared.program.Rule.{Rule}, Candidates.{is_candid
 use Rattle.rule_model.specs.Tuples.{name_of}
 use Rattle.rule_world.specs.Programs.{IsRunnable}
 use Rattle.join_tests.specs.Joins.{Look}
-use Rattle.pair_memory.specs.Standing.{no_names}
+use Rattle.join_memory.specs.Standing.{no_names}
 use Rattle.condition_rows.specs.Looks.{empty_snapshot, HasAllOf}
 use Rattle.pattern_gate.specs.Moves.{IsOrderly}
 use Rattle.laden_rows.specs.{Extras.{AreExtras, extra_cmp}, Laden.{IsKeptOf, laden}, Placed.{IsPlaced}}

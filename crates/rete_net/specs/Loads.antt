@@ -6,11 +6,11 @@ use Rattle.row_delta.specs.{declared.{delta.Delta.{Delta}, extra.Extra.{Extra}, 
 use Rattle.rule_model.specs.{declared.{condition.Pattern.{Pattern}, moment.Moment.{Moment}, program.Program.{Program}}, Lent.{lent}, Moments.{IsAt}}
 use Rattle.rule_model.specs.{Rows.{pattern_of}, Snapshots.{Snapshot, floor}}
 use Rattle.join_tests.specs.{Joins.{Look}, NameKeys.{name_key}}
-use Rattle.pair_memory.specs.{Apart.{has_candidate}, Joined.{has_name}, Shared.{NamesAgree}, Standing.{no_names}}
-use Rattle.tally_node.specs.Extras.{extra_for, rows_of_extras}
+use Rattle.join_memory.specs.{Apart.{has_candidate}, Joined.{has_name}, Shared.{NamesAgree}, Standing.{no_names}}
+use Rattle.counting_node.specs.Extras.{extra_for, rows_of_extras}
 use Rattle.condition_rows.specs.{Looks.{empty_snapshot, HasAllOf, NameHeld}, Sets.{candidates_of}}
 use Rattle.pattern_gate.specs.{Gates.{GateStands, has_good_window}, Moves.{IsOrderly}}
-use Rattle.condition_node.specs.{Lending.{node_value}, Loading.{Laden}, Nodes.{condition_of}}
+use Rattle.beta_node.specs.{Lending.{node_value}, Loading.{Laden}, Nodes.{condition_of}}
 use Rattle.laden_rows.specs.Laden.{laden_line}
 use Rattle.rete_net.specs.{declared.{answered.Answered.{Answered}, build.Owner.{Owner}, node.NetNode.{NetNode}}, Answers.{answer_in, left_given, some_answer}}
 use Rattle.rete_net.specs.{Answers.{AreRuled}, Standing.{taking, IsFresh}, Steps.{no_change}}

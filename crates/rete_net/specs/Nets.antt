@@ -5,11 +5,11 @@ use Rattle.row_delta.specs.{declared.{delta.Delta.{Delta}, row.{Named.{Named}, R
 use Rattle.row_change.specs.Changes.{changes_nothing}
 use Rattle.rule_model.specs.{declared.{condition.Condition.{Condition}, program.{Program.{Program}, Rule.{Rule}}}, Rows.{pattern_of, rows}}
 use Rattle.rule_model.specs.Snapshots.{Snapshot}
-use Rattle.pair_memory.specs.Standing.{clean, cleaned}
+use Rattle.join_memory.specs.Standing.{clean, cleaned}
 use Rattle.condition_rows.specs.Sets.{candidates_of, rows_of}
 use Rattle.pattern_gate.specs.Moves.{IsOrderly, at_clock}
 use Rattle.candidate_source.specs.Sources.{source_at}
-use Rattle.condition_node.specs.{Nodes.{condition_of}, Quiet.{IsBefore}}
+use Rattle.beta_node.specs.{Nodes.{condition_of}, Quiet.{IsBefore}}
 use Rattle.rete_net.specs.{declared.{changes.RuleChange.{RuleChange}, node.NetNode.{NetNode}, net.Rete.{Rete}}, Fans.{AreFans, shown_nodes}}
 use Rattle.rete_net.specs.{Indexes.{IsIndexOf}, Owners.{AreNodeOwners}, Schedules.{AreScheduled}, Sources.{AreSources}, Standing.{StandsIn}, Shapes.{before}}
 use Rattle.rete_net.specs.Shapes.{IsNetOf}

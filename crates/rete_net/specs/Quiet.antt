@@ -2,11 +2,11 @@
 use Rattle.std.specs.Prelude.{◌≡◌, ◌≤ℤ◌, ◌<ℤ◌, ◌^◌, pos, ℕ, ℤ, Bool, List, Option, Some, slice_get}
 use Rattle.row_delta.specs.declared.row.{Named.{Named}, Row.{Row}}
 use Rattle.rule_model.specs.{declared.program.Program.{Program}, Rows.{pattern_of}, Snapshots.{Snapshot}}
-use Rattle.pair_memory.specs.Standing.{cleaned}
+use Rattle.join_memory.specs.Standing.{cleaned}
 use Rattle.condition_rows.specs.{Lines.{line}, Looks.{NameHeld}, Sets.{candidates_of}}
 use Rattle.pattern_gate.specs.Moves.{IsOrderly, at_clock}
 use Rattle.candidate_source.specs.{declared.sources.Sources.{Sources}, Sources.{source_at}}
-use Rattle.condition_node.specs.{Nodes.{condition_of}, Quiet.{IsBefore}}
+use Rattle.beta_node.specs.{Nodes.{condition_of}, Quiet.{IsBefore}}
 use Rattle.rete_net.specs.{declared.node.NetNode.{NetNode}, Standing.{taking, NetNodeStands}}
 
 -- the clock alone changes nothing in the candidates of a node, nor in what its condition makes of rows before it, of what is not forgotten

@@ -7,11 +7,11 @@ use Rattle.rule_model.specs.{Rows.{pattern_of}, Snapshots.{Snapshot, floor}}
 use Rattle.condition_rows.specs.Sets.{candidates_of}
 use Rattle.not_node.specs.{Waiting.{NoneDue}, Doors.{waiting_rows}}
 use Rattle.pattern_gate.specs.{declared.gate.PatternGate.{PatternGate}, Gates.{GateStands}, Moves.{MovesSnapshot}, Turns.{is_one_meant}}
-use Rattle.pair_memory.specs.declared.candidates.Candidates.{Candidates}
+use Rattle.join_memory.specs.declared.candidates.Candidates.{Candidates}
 use Rattle.row_change.specs.Changes.{changes_nothing}
 use Rattle.candidate_source.specs.{declared.{source.Source.{Source}, sources.Sources.{Sources}}, Doors.{source_gate}, Sources.{source_at, is_follower, is_lead}}
-use Rattle.condition_node.specs.{Lending.{with_candidates}, Nodes.{condition_of}, Quiet.{IsBefore, IsQuiet}, declared.node.Node.{Node}}
-use Rattle.condition_node.specs.declared.node.Node.TheVariants as node
+use Rattle.beta_node.specs.{Lending.{with_candidates}, Nodes.{condition_of}, Quiet.{IsBefore, IsQuiet}, declared.node.Node.{Node}}
+use Rattle.beta_node.specs.declared.node.Node.TheVariants as node
 use Rattle.rete_net.specs.{declared.{node.NetNode.{NetNode}, schedule.{EntryTimers.{EntryTimers}, Schedule.{Schedule}}}, Indexes.{is_changed_by_clock}}
 use Rattle.rete_net.specs.Timers.{IsFrom, IsSet}
 

@@ -2,7 +2,7 @@
 use Rattle.std.specs.Prelude.{◌≡◌, ◌<◌, ◌≤◌, ◌∷◌, ◌++◌, ℕ, List, [], length, Some, slice_get}
 use Rattle.rule_model.specs.declared.condition.Pattern.{Pattern}
 use Rattle.join_tests.specs.declared.row_key.RowKey.{RowKey}
-use Rattle.pair_memory.specs.declared.candidates.Candidates.{Candidates}
+use Rattle.join_memory.specs.declared.candidates.Candidates.{Candidates}
 use Rattle.fan_join.specs.{Fans.{AreBeside, IsEmpty, IsReached}, Doors.{shared_key}}
 use Rattle.rete_net.specs.{declared.{fans.{Fan.{Fan}, Fans.{Fans}, Span.{Span}}, node.NetNode.{NetNode}}, Fans.{AreEmpty, AreFansBelow, IsInSpan}}
 

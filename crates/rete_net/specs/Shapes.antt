@@ -3,7 +3,7 @@ use Rattle.std.specs.Prelude.{◌≡◌, ◌<◌, ◌∷◌, ◌++◌, ℕ, true
 use Rattle.fx_base.specs.Lists.{In}
 use Rattle.rule_model.specs.{declared.{condition.Condition.{Condition}, program.{Program.{Program}, Rule.{Rule}}}, Rows.{pattern_of}}
 use Rattle.pattern_gate.specs.Gates.{has_good_window}
-use Rattle.condition_node.specs.Nodes.{condition_of}
+use Rattle.beta_node.specs.Nodes.{condition_of}
 use Rattle.rete_net.specs.declared.node.NetNode.{NetNode}
 
 -- the conditions before a node: those of its parent, where it has one

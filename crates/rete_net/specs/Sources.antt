@@ -5,7 +5,7 @@ use Rattle.join_tests.specs.NameKeys.{name_key}
 use Rattle.pattern_gate.specs.Alike.{TakesAlike}
 use Rattle.candidate_source.specs.{declared.{source.Source.{Source}, sources.Sources.{Sources}}, Doors.{source_pattern, node_count}, Sources.{source_at}}
 use Rattle.candidate_source.specs.Sources.{AreApart}
-use Rattle.condition_node.specs.Nodes.{condition_of}
+use Rattle.beta_node.specs.Nodes.{condition_of}
 use Rattle.rete_net.specs.{declared.{fans.Fans.{Fans}, node.NetNode.{NetNode}}, Fans.{seat_at}}
 
 -- the node takes and keeps alike with the source

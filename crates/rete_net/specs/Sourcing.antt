@@ -5,7 +5,7 @@ use Rattle.join_tests.specs.NameKeys.{name_key}
 use Rattle.pattern_gate.specs.Alike.{TakesAlike}
 use Rattle.candidate_source.specs.{declared.{source.Source.{Source}, sources.Sources.{Sources}}, Doors.{node_count, source_pattern}, Sources.{source_at}}
 use Rattle.candidate_source.specs.Sources.{AreApart, IsNewSource}
-use Rattle.condition_node.specs.Nodes.{condition_of}
+use Rattle.beta_node.specs.Nodes.{condition_of}
 use Rattle.rete_net.specs.{declared.{alike.SourceKey.{SourceKey}, fans.Seat.{Seat}, node.NetNode.{NetNode}}, Fans.{seat_at}}
 
 -- what a pattern asks of a fact alone

@@ -3,11 +3,11 @@ use Rattle.std.specs.Prelude.{◌≡◌, ℕ, Bool, true, Option, Some, None}
 use Rattle.row_delta.specs.declared.row.{Named.{Named}, Row.{Row}}
 use Rattle.rule_model.specs.{declared.program.Program.{Program}, Rows.{pattern_of}, Snapshots.{Snapshot}}
 use Rattle.join_tests.specs.Kept.{row_value}
-use Rattle.pair_memory.specs.Standing.{cleaned, no_rows}
+use Rattle.join_memory.specs.Standing.{cleaned, no_rows}
 use Rattle.condition_rows.specs.{Looks.{empty_snapshot}, Sets.{held}}
 use Rattle.pattern_gate.specs.Gates.{GateStands}
 use Rattle.candidate_source.specs.{declared.source.Source.{Source}, Doors.{source_candidates, source_gate, is_reached}}
-use Rattle.condition_node.specs.{Lending.{with_candidates}, Nodes.{condition_of, NodeStands}}
+use Rattle.beta_node.specs.{Lending.{with_candidates}, Nodes.{condition_of, NodeStands}}
 use Rattle.rete_net.specs.declared.node.NetNode.{NetNode}
 
 -- A node and its gate stand for the rows of the conditions before it, in a snapshot. The node has dropped what was forgotten; the gate

@@ -6,10 +6,10 @@ use Rattle.row_change.specs.Changes.{LeadsRows, IsDifference, changes_nothing}
 use Rattle.rule_model.specs.{declared.{condition.Condition.{Condition}, program.Program.{Program}}, Rows.{pattern_of}, Snapshots.{Snapshot}, Moments.{IsAt}}
 use Rattle.rule_model.specs.declared.moment.Moment.{Moment}
 use Rattle.join_tests.specs.Joins.{Look}
-use Rattle.pair_memory.specs.Standing.{cleaned, no_names}
+use Rattle.join_memory.specs.Standing.{cleaned, no_names}
 use Rattle.condition_rows.specs.{Lines.{line, empty_row}, Looks.{HasAllOf, NameHeld}, Sets.{candidates_of}}
 use Rattle.pattern_gate.specs.{Gates.{has_good_window}, Moves.{MovesSnapshot}}
-use Rattle.condition_node.specs.{Nodes.{condition_of}, Turns.{CountedStay}}
+use Rattle.beta_node.specs.{Nodes.{condition_of}, Turns.{CountedStay}}
 use Rattle.rete_net.specs.{declared.{changes.RuleChange.{RuleChange}, node.NetNode.{NetNode}}, Standing.{NetNodeStands, StandsIn}}
 use Rattle.candidate_source.specs.declared.source.Source.{Source}
 

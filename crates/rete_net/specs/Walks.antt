@@ -7,7 +7,7 @@ use Rattle.join_tests.specs.Joins.{Look}
 use Rattle.candidate_source.specs.declared.{sources.Sources.{Sources}, source.Source.{Source}}
 use Rattle.rete_net.specs.{declared.{index.Index.{Index}, node.NetNode.{NetNode}, answered.Answered.{Answered}}, Answers.{given, some_answer, AreRuled}}
 use Rattle.rete_net.specs.{Indexes.{IsIndexOf}, Steps.{no_change, delta_at, SteppedBelow}}
-use Rattle.condition_node.specs.Nodes.{condition_of}
+use Rattle.beta_node.specs.Nodes.{condition_of}
 
 -- nodes in the places of others: as many, each with the parent and the condition of the one that was there
 pub record IsReplaced (old new : List NetNode) : Type 0 where

@@ -8,7 +8,7 @@ ghost use Rattle.rule_model.specs.Lent.{lent};
 ghost use Rattle.rule_model.specs.Rows.{pattern_of};
 ghost use Rattle.row_change.specs.Changes.{changes_nothing};
 ghost use Rattle.pattern_gate.specs.Turns.{is_meant, is_one_meant};
-ghost use Rattle.condition_node.specs.Nodes.{condition_of};
+ghost use Rattle.beta_node.specs.Nodes.{condition_of};
 ghost use Rattle.rete_net.specs.Indexes.{is_in, is_listed, IsNodeFound};
 ghost use Rattle.fan_join.specs.Reaching.{has_place};
 ghost use Rattle.rete_net.specs.Selectors.{list_slot_of};

@@ -1,5 +1,5 @@
 ghost use Rattle.std.specs.Prelude.{◌≡◌, ℕ, [], false, true, length, Some, slice_get, IfOk, OnOk};
-ghost use Rattle.pair_memory.specs.Joined.{has_name};
+ghost use Rattle.join_memory.specs.Joined.{has_name};
 ghost use Rattle.rete_net.specs.Answers.{answer_in, AreRuled, IsAnswerPut};
 ghost use Rattle.rete_net.specs.Dropped.{rows_for, with_rows, AreDue, AreListed, HasNoOld};
 ghost use Rattle.rete_net.specs.Indexes.{IsNodeFound};

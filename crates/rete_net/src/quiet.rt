@@ -1,5 +1,5 @@
 ghost use Rattle.std.specs.Prelude.{◌≡◌, ◌↔◌, ◌<ℤ◌, ℤ, IsTrue};
-ghost use Rattle.condition_node.specs.Quiet.{IsBefore};
+ghost use Rattle.beta_node.specs.Quiet.{IsBefore};
 
 use fx_base::Millis;
 

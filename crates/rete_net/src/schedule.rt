@@ -5,7 +5,7 @@ ghost use Rattle.rule_model.specs.Snapshots.{floor};
 ghost use Rattle.rete_net.specs.Indexes.{is_changed_by_clock};
 ghost use Rattle.fan_join.specs.Reaching.{has_place};
 ghost use Rattle.candidate_source.specs.declared.sources.Sources.{Sources as SourcesData};
-ghost use Rattle.condition_node.specs.Quiet.{IsBefore};
+ghost use Rattle.beta_node.specs.Quiet.{IsBefore};
 ghost use Rattle.rete_net.specs.Schedules.{AreScheduled, IsScheduled, IsUndue};
 ghost use Rattle.rete_net.specs.Timers.{IsFrom, IsSet};
 ghost use Rattle.rete_net.specs.declared.node.NetNode.{NetNode as NetNodeData};

@@ -1,7 +1,7 @@
 ghost use Rattle.std.specs.Prelude.{◌≡◌, ◌∷◌, ◌++◌, ◌≤◌, ◌<◌, ℕ, List, [], length, None, Some, true, slice_get, IfOk, IfSome, IsTrue, OnOk};
 ghost use Rattle.rule_model.specs.declared.condition.Condition.TheVariants.{Plain};
 ghost use Rattle.join_tests.specs.RowKeys.{row_key};
-ghost use Rattle.condition_node.specs.Nodes.{condition_of};
+ghost use Rattle.beta_node.specs.Nodes.{condition_of};
 ghost use Rattle.rete_net.specs.declared.fans.Fan.{Fan as FanData};
 ghost use Rattle.rete_net.specs.declared.node.NetNode.{NetNode as NetNodeData};
 ghost use Rattle.rete_net.specs.Fans.{seat_at, AreEmpty, AreFans, AreLoneFound};

@@ -3,7 +3,7 @@ ghost use Rattle.rule_model.specs.declared.condition.Pattern.{Pattern as Pattern
 ghost use Rattle.candidate_source.specs.declared.source.Source.{Source as SourceData};
 ghost use Rattle.candidate_source.specs.Doors.{listed_source, source_pattern};
 ghost use Rattle.candidate_source.specs.Sources.{is_follower, is_lead, AreApart};
-ghost use Rattle.condition_node.specs.Quiet.{IsBefore};
+ghost use Rattle.beta_node.specs.Quiet.{IsBefore};
 ghost use Rattle.rete_net.specs.Schedules.{gate_told, IsGateStill};
 ghost use Rattle.rete_net.specs.declared.fans.Seat.{Seat as SeatData};
 ghost use Rattle.rete_net.specs.Sourcing.{AreAlike, AreSourcesBelow, IsNodePut};

@@ -1,5 +1,5 @@
 ghost use Rattle.std.specs.Prelude.{◌≡◌, ℕ, ℤ, Option, Some, false, IfOk, OnOk};
-ghost use Rattle.condition_node.specs.Quiet.{IsBefore};
+ghost use Rattle.beta_node.specs.Quiet.{IsBefore};
 ghost use Rattle.rete_net.specs.Indexes.{is_in};
 ghost use Rattle.rete_net.specs.Timers.{IsFrom, IsSet};
 

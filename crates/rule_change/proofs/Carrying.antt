@@ -7,7 +7,7 @@ use Rattle.fx_base.proofs.Orders.{int_lt-false}
 use Rattle.life_meaning.{proofs.Safe.{safe_life}, specs.Tables.{AreLives, IsLifeOf, IsSafeLife, IsSafeTable}}
 use Rattle.rule_model.specs.{Lives.{AreShort, IsShortLife}, Types.{is_event, expiry_of}, declared.life.Life.{Life, TheVariants.{Plain, Explicit, Finite}}}
 use Rattle.rule_model.specs.declared.life.{Life.TheVariants.{Infinite}, LifeTable.{LifeTable}}
-use Rattle.change_read.specs.Changes.{type_named}
+use Rattle.change_resolve.specs.Changes.{type_named}
 
 -- ---- the carried table
 

@@ -15,7 +15,7 @@ pub use Rattle.fx_base.specs.declared.fact.Fact.{Fact}
 pub use Rattle.fx_base.specs.declared.times.Times.{Times}
 pub use Rattle.fx_base.specs.declared.value.Value.{Value}
 pub use Rattle.row_delta.specs.declared.row.Row.{Row}
-pub use Rattle.change_read.proofs.Places.{some_is}
+pub use Rattle.change_resolve.proofs.Places.{some_is}
 pub use Rattle.rule_change.specs.Alike.{AlikeAtChange, AlikeMarked, AlikeSteps, AlikeWithout, AreAlike, AreOver, HasPlaces, HaveNames, HavePlaces, IsStepOf}
 pub use Rattle.rule_change.specs.Alike.{SameFault, SamePending, as_old, moved_step}
 pub use Rattle.rule_change.specs.Changed.{AreFrom, IsSameRule, carried, carried_life, entry_in, is_marked, life_or, moment_or_zero, moved_condition, moved_fact}

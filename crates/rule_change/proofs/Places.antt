@@ -5,7 +5,7 @@ use Rattle.rule_change.proofs.Common.{is_event_type, is_reference_type, is_point
 use Rattle.rule_change.{proofs.Common.{HaveEntries, HaveNames, some_is}, specs.Changed.{new_type, new_entry}}
 use Rattle.std.{proofs.lemmas.Slice.Eq.{bytes_eq-Decides}, specs.Str.{bytes_eq}}
 use Rattle.rule_model.specs.{declared.program.EntryInfo.{EntryInfo}, Types.{is_event, is_reference, is_point, expiry_of, lateness_of}}
-use Rattle.change_read.specs.Changes.{type_named, entry_named}
+use Rattle.change_resolve.specs.Changes.{type_named, entry_named}
 
 -- ---- what a name finds
 

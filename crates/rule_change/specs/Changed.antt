@@ -8,7 +8,7 @@ use Rattle.rule_model.specs.declared.{condition.{Condition.TheVariants.{Negated,
 use Rattle.rule_model.specs.declared.{life.LifeTable.{LifeTable}, matched.Match.{Match}, program.{EntryInfo.{EntryInfo}, Program.{Program}, Rule.{Rule}}}
 use Rattle.rule_model.specs.{declared.program.TypeInfo.{TypeInfo}, Matches.{matches, has_match}, Snapshots.{Reached}}
 use Rattle.rule_world.specs.Worlds.{World, snapshot}
-use Rattle.change_read.specs.Changes.{type_named, entry_named}
+use Rattle.change_resolve.specs.Changes.{type_named, entry_named}
 
 -- ---- where the types and the entry points of one program stand in another, by their names
 

@@ -5,7 +5,7 @@ use Rattle.fx_base.specs.declared.fact.Fact.{Fact}
 use Rattle.rule_model.specs.declared.{life.LifeTable.{LifeTable}, program.{Program.{Program}, TypeInfo.{TypeInfo}}}
 use Rattle.rule_world.specs.{declared.code.Code.TheVariants.{UnknownType}, Worlds.{World}}
 use Rattle.engine.specs.{KeptFacts.{kept_by_tag}, declared.world_counts.WorldCounts.{WorldCounts}, WorldCounts.{world_counts}}
-use Rattle.change_read.specs.Changes.{type_named}
+use Rattle.change_resolve.specs.Changes.{type_named}
 use Rattle.script_read.specs.{Asked.{Asked, asks, bad_json, bad_command, asked}, Blank.{is_line_blank}}
 use Rattle.desk_read.specs.{declared.asked.Question.{Question, TheVariants.{Save, Facts, Counts}}, Questions.{question_of}}
 use Rattle.answer_json.specs.declared.counted.Counted.{Counted}

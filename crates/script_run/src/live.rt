@@ -3,7 +3,7 @@ ghost use Rattle.std.specs.Prelude.{◌≡◌, ◌++◌, ◌+◌, ◌*◌, ◌-�
 ghost use Rattle.fx_io.specs.Answers.{Answers, UsesBytesUp};
 ghost use Rattle.rule_model.specs.Lent.{lent};
 ghost use Rattle.rule_world.specs.Worlds.{World};
-ghost use Rattle.change_read.specs.Changes.{type_named};
+ghost use Rattle.change_resolve.specs.Changes.{type_named};
 ghost use Rattle.line_run.specs.Run.{state_in};
 ghost use Rattle.line_run.specs.Turns.{Does, EndsAt, HasAtMost, Smaller, StaysReady, Turns};
 ghost use Rattle.script_run.specs.Live.{counted as counted_of, counts_step, facts_of_type, live_by, live_step, most_firings, of_type, question_in, question_step, told_facts, told_or_asked};
@@ -51,7 +51,7 @@ fn question_read(alloc: Global, read: &LineRead, line: &[u8]) -> Result<Option<Q
 }
 
 // The place of the type of this name.
-#[tactic(auto, unfolding(change_read::specs::Changes::type_named))]
+#[tactic(auto, unfolding(change_resolve::specs::Changes::type_named))]
 fn place_of_type(types: &[TypeInfo], name: &Text) -> Option<usize>
     ensures { result ≡ option_map (λ found. found.0) (type_named name.now types.now 0) }
 {

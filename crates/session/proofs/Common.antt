@@ -15,13 +15,13 @@ pub use Rattle.checkpoint.specs.declared.image.FiredMatch.{FiredMatch}
 pub use Rattle.checkpoint.specs.declared.image.Image.{Image}
 pub use Rattle.engine.specs.Known.{are_known}
 pub use Rattle.fact_store.specs.Held.{HeldFacts, facts_of}
-pub use Rattle.forgetting.specs.Steps.{HasLeft}
+pub use Rattle.forgetting_laws.specs.Steps.{HasLeft}
 pub use Rattle.fx_base.specs.Lists.{In}
 pub use Rattle.fx_base.specs.declared.fact.Fact.{Fact}
 pub use Rattle.fx_base.specs.declared.ids.TypeId.{TypeId}
 pub use Rattle.image_fitting.specs.Plain.{FitsByRows, FitsPlainly}
 pub use Rattle.image_laws.specs.Images.{match_fired, IsImageOf}
-pub use Rattle.pair_memory.specs.Standing.{cleaned, no_names}
+pub use Rattle.join_memory.specs.Standing.{cleaned, no_names}
 pub use Rattle.pattern_gate.specs.Moves.{IsOrderly}
 pub use Rattle.rete_net.specs.Nets.{AreBetween, NetStands, clean_rows}
 pub use Rattle.rete_net.specs.declared.changes.RuleChange.{RuleChange}
@@ -44,39 +44,39 @@ pub use Rattle.rule_world.specs.Events.{times_of, clock_fault, end_of_presence, 
 pub use Rattle.rule_world.specs.Worlds.{stepped, is_of_type, marked, modify_fault, World, empty_world, with_values}
 pub use Rattle.rule_world.specs.declared.code.Code.{Code}
 pub use Rattle.rule_world.specs.declared.code.Code.TheVariants.{ReferenceFixed, Absent, EventFixed, EventObserved}
-pub use Rattle.session_laws.proofs.Adding.{next_taken, AreAdding, added_pending, added_turn, in_at, none_added, none_yet, one_added, one_come, one_marked}
-pub use Rattle.session_laws.proofs.Beginning.{begin_awaits, begin_is_done}
-pub use Rattle.session_laws.proofs.Dropping.{all_ahead, drop_turn, nothing_ahead, place_within}
-pub use Rattle.session_laws.proofs.Faults.{clock_same, zero_clock, advance_fault, advance_moves, at_fault, fresh_less, insert_fault, insert_line, moved_same}
-pub use Rattle.session_laws.proofs.Faults.{presented, promise_refused, retract_absent, retract_event, retract_fixed, retract_found, retract_observed}
-pub use Rattle.session_laws.proofs.Faults.{safe_again, safe_left, safe_less, safe_new, safe_numbers}
-pub use Rattle.session_laws.proofs.Forgotten.{no_keys, safe_fewer, stands_less, stands_same}
-pub use Rattle.session_laws.proofs.Inserting.{held_again, numbers_await, present_awaits, released_free}
-pub use Rattle.session_laws.proofs.Knowing.{followed_sound, new_no_more, one_more_known, asked_known, line_known, revision_known, new_known, retraction_known, merely_known, none_more, promise_no_more}
-pub use Rattle.session_laws.proofs.Knowing.{standing_sound, top_known}
-pub use Rattle.session_laws.proofs.Leaving.{AreGone, no_tags, none_gone, turn_gone}
-pub use Rattle.session_laws.proofs.Looking.{modify_fault_is, retract_fault_is}
-pub use Rattle.session_laws.proofs.Matched.{residual_unfit, fired_refuses, image_safe, matched_is, merely_no_more, old_refuses, restored_is, row_refuses}
-pub use Rattle.session_laws.proofs.Matched.{some_key}
-pub use Rattle.session_laws.proofs.Members.{got_new}
-pub use Rattle.session_laws.proofs.Newest.{store_found, store_none}
-pub use Rattle.session_laws.proofs.Olds.{named_at, same_tags}
-pub use Rattle.session_laws.proofs.Passing.{none_left, later_awaits, later_leads, later_leads_on, quiet_refreshed, remaining, remaining_is}
-pub use Rattle.session_laws.proofs.Restored.{kept_in_order, storable}
-pub use Rattle.session_laws.proofs.Rules.{all_made, none_made, AreAhead, AreMade, change_turn, left_turn, names_in, none_ahead, rules_turn}
-pub use Rattle.session_laws.proofs.Sessions.{change_lines, change_stands, empty_stands, fires_none, fires_some, from_parts, is_due}
-pub use Rattle.session_laws.proofs.Stands.{contents, has_start}
-pub use Rattle.session_laws.proofs.Storing.{ArePut, none_put, none_waits, one_more_held, one_put}
-pub use Rattle.session_laws.proofs.Tried.{on_ok_weaker, tried_done, no_lines, on_ok, refused_lines, refused_tries, SoFar, all_done_lines, all_done_stands}
-pub use Rattle.session_laws.proofs.Tried.{done_lines, none_done, one_done, refused_stands, refused_writes, tried_stands, tried_writes}
-pub use Rattle.session_laws.specs.Counts.{AreCounts}
-pub use Rattle.session_laws.specs.Following.{instant_of, facts_at_clock, facts_at, instant_at}
-pub use Rattle.session_laws.specs.Gives.{cells, does_all, fires_in, gives_in}
-pub use Rattle.session_laws.specs.Leading.{MovesSession, StayKnown, AllWantKnown, AllFit}
-pub use Rattle.session_laws.specs.Places.{newest, IsNewestTag, planned}
-pub use Rattle.session_laws.specs.Refreshed.{IsRefreshed, no_rule_rows, over, rows_at}
-pub use Rattle.session_laws.specs.Restoring.{comes_by, AreMarking, stored, AreHeld, AreStorable, IsMatched, IsRestored, NoneGo, all_held}
-pub use Rattle.session_laws.specs.Saving.{IsSessionSaved, ArePadded}
-pub use Rattle.session_laws.specs.Standing.{Contents, IsSound, Standing, Awaits, reached_of, AreOfRules, Course, ReachesNoMore, Runs, StaysSound, reached_by}
-pub use Rattle.session_laws.specs.declared.memory.Memory.{Memory}
-pub use Rattle.session_laws.specs.declared.setting.Setting.{Setting}
+pub use Rattle.session_model.proofs.Adding.{next_taken, AreAdding, added_pending, added_turn, in_at, none_added, none_yet, one_added, one_come, one_marked}
+pub use Rattle.session_model.proofs.Beginning.{begin_awaits, begin_is_done}
+pub use Rattle.session_model.proofs.Dropping.{all_ahead, drop_turn, nothing_ahead, place_within}
+pub use Rattle.session_model.proofs.Faults.{clock_same, zero_clock, advance_fault, advance_moves, at_fault, fresh_less, insert_fault, insert_line, moved_same}
+pub use Rattle.session_model.proofs.Faults.{presented, promise_refused, retract_absent, retract_event, retract_fixed, retract_found, retract_observed}
+pub use Rattle.session_model.proofs.Faults.{safe_again, safe_left, safe_less, safe_new, safe_numbers}
+pub use Rattle.session_model.proofs.Forgotten.{no_keys, safe_fewer, stands_less, stands_same}
+pub use Rattle.session_model.proofs.Inserting.{held_again, numbers_await, present_awaits, released_free}
+pub use Rattle.session_model.proofs.Knowing.{followed_sound, new_no_more, one_more_known, asked_known, line_known, revision_known, new_known, retraction_known, merely_known, none_more, promise_no_more}
+pub use Rattle.session_model.proofs.Knowing.{standing_sound, top_known}
+pub use Rattle.session_model.proofs.Leaving.{AreGone, no_tags, none_gone, turn_gone}
+pub use Rattle.session_model.proofs.Looking.{modify_fault_is, retract_fault_is}
+pub use Rattle.session_model.proofs.Matched.{residual_unfit, fired_refuses, image_safe, matched_is, merely_no_more, old_refuses, restored_is, row_refuses}
+pub use Rattle.session_model.proofs.Matched.{some_key}
+pub use Rattle.session_model.proofs.Members.{got_new}
+pub use Rattle.session_model.proofs.Newest.{store_found, store_none}
+pub use Rattle.session_model.proofs.Olds.{named_at, same_tags}
+pub use Rattle.session_model.proofs.Passing.{none_left, later_awaits, later_leads, later_leads_on, quiet_refreshed, remaining, remaining_is}
+pub use Rattle.session_model.proofs.Restored.{kept_in_order, storable}
+pub use Rattle.session_model.proofs.Rules.{all_made, none_made, AreAhead, AreMade, change_turn, left_turn, names_in, none_ahead, rules_turn}
+pub use Rattle.session_model.proofs.Sessions.{change_lines, change_stands, empty_stands, fires_none, fires_some, from_parts, is_due}
+pub use Rattle.session_model.proofs.Stands.{contents, has_start}
+pub use Rattle.session_model.proofs.Storing.{ArePut, none_put, none_waits, one_more_held, one_put}
+pub use Rattle.session_model.proofs.Tried.{on_ok_weaker, tried_done, no_lines, on_ok, refused_lines, refused_tries, SoFar, all_done_lines, all_done_stands}
+pub use Rattle.session_model.proofs.Tried.{done_lines, none_done, one_done, refused_stands, refused_writes, tried_stands, tried_writes}
+pub use Rattle.session_model.specs.Counts.{AreCounts}
+pub use Rattle.session_model.specs.Following.{instant_of, facts_at_clock, facts_at, instant_at}
+pub use Rattle.session_model.specs.Gives.{cells, does_all, fires_in, gives_in}
+pub use Rattle.session_model.specs.Leading.{MovesSession, StayKnown, AllWantKnown, AllFit}
+pub use Rattle.session_model.specs.Places.{newest, IsNewestTag, planned}
+pub use Rattle.session_model.specs.Refreshed.{IsRefreshed, no_rule_rows, over, rows_at}
+pub use Rattle.session_model.specs.Restoring.{comes_by, AreMarking, stored, AreHeld, AreStorable, IsMatched, IsRestored, NoneGo, all_held}
+pub use Rattle.session_model.specs.Saving.{IsSessionSaved, ArePadded}
+pub use Rattle.session_model.specs.Standing.{Contents, IsSound, Standing, Awaits, reached_of, AreOfRules, Course, ReachesNoMore, Runs, StaysSound, reached_by}
+pub use Rattle.session_model.specs.declared.memory.Memory.{Memory}
+pub use Rattle.session_model.specs.declared.setting.Setting.{Setting}

@@ -10,7 +10,7 @@ use Rattle.rule_world.specs.Worlds.{pending}
 use Rattle.kept_meaning.specs.Kept.{is_kept, kept_facts}
 use Rattle.engine.specs.{WorldCounts.{count_of_type, kept_counts, floors, pending_count, world_counts}, KeptFacts.{kept_by_tag}}
 use Rattle.engine.{specs.declared.world_counts.WorldCounts.{WorldCounts}, proofs.{Kept.{kept_sorted, kept_members}, Pending.{pending_once}}}
-use Rattle.session_laws.proofs.{Members.{Holds}, Tallied.{all_counted, holds_kept}}
+use Rattle.session_model.proofs.{Members.{Holds}, Tallied.{all_counted, holds_kept}}
 
 -- ---- the order of tags
 

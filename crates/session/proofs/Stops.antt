@@ -2,7 +2,7 @@
 use Rattle.session.proofs.Common.{◌≡◌, ◌+◌, ℕ, ℤ, Option, refl, sym, subst, Fact, HeldFacts, safe_new, safe_numbers, safe_again, safe_left, remaining}
 use Rattle.session.proofs.Common.{remaining_is, ◌≤ℤ◌, List, pos, most_millis}
 use Rattle.due_queue.specs.Timers.{Timers, TakesDue}
-use Rattle.session_laws.specs.{Places.{IsSafe}, Waiting.{with_timer}}
+use Rattle.session_model.specs.{Places.{IsSafe}, Waiting.{with_timer}}
 use Rattle.std.specs.FinMap as map
 
 -- a fact waits already, and is not held yet

@@ -5,7 +5,7 @@ use Rattle.fx_base.specs.{Lists.{In}, declared.fact.Fact.{Fact}}
 use Rattle.rule_model.specs.{declared.{life.Life.TheVariants.{Finite}, matched.Match.{Match}}, Matches.{has_match}, Tuples.{name_of}}
 use Rattle.rule_world.specs.Worlds.{World, pending}
 use Rattle.life_meaning.specs.Tables.{IsKept}
-use Rattle.session_laws.specs.Standing.{Runs}
+use Rattle.session_model.specs.Standing.{Runs}
 use Rattle.session.specs.{declared.session.Session.{Session}, Sessions.{SessionStands}}
 
 -- Of each world for which a session stands its store has exactly what is kept, by the table that it was made with.

@@ -3,7 +3,7 @@ use Rattle.std.specs.{Prelude.{◌≡◌, ℕ, ℤ, List, map, length}, List.{ra
 use Rattle.fx_base.specs.declared.ids.TypeId.{TypeId}
 use Rattle.engine.specs.declared.world_counts.WorldCounts.{WorldCounts}
 use Rattle.rule_model.specs.{declared.program.Program.{Program}, Matches.{fire_cmp}}
-use Rattle.session_laws.specs.{Counts.{AreCounts}, Places.{floor_in}, Standing.{Contents}}
+use Rattle.session_model.specs.{Counts.{AreCounts}, Places.{floor_in}, Standing.{Contents}}
 
 abbrev pub type_at : ℕ → TypeId
 type_at place = record { 0 = place }

@@ -5,7 +5,7 @@ use Rattle.checkpoint.specs.declared.image.{FiredMatch.{FiredMatch}, Image.{Imag
 use Rattle.fact_store.specs.Held.{HeldFacts}
 use Rattle.rule_model.specs.declared.moment.Moment.{Moment}
 use Rattle.image_fitting.specs.Plain.{FitsPlainly}
-use Rattle.session_laws.specs.{declared.setting.Setting.{Setting}, Restoring.{stored}}
+use Rattle.session_model.specs.{declared.setting.Setting.{Setting}, Restoring.{stored}}
 
 -- the moment, what is counted beyond the facts, the fired matches and the held facts are those of an image that fits by plain tests
 pub record AreOfImage (setting : Setting) (image : Image) (moment : Moment) (extras : List Extra) (fired : List FiredMatch) (facts : HeldFacts) : Type 0 where

@@ -3,7 +3,7 @@ use Rattle.std.specs.Prelude.{◌≡◌}
 use Rattle.rule_world.specs.Worlds.{World}
 use Rattle.answer_lines.specs.declared.lines.Detail.TheVariants.{Brief, Full}
 use Rattle.session.specs.declared.{session.Session.{Session}, detailed.DetailedSession.{DetailedSession}}
-use Rattle.session_laws.specs.Standing.{Standing}
+use Rattle.session_model.specs.Standing.{Standing}
 
 abbrev pub SessionStands : Session → World → Type 0
 SessionStands s w = Standing s.setting s.memory.value s.state.value w

@@ -1,6 +1,6 @@
 ghost use Rattle.std.specs.Prelude.{◌≡◌, ◌≤◌, ◌^◌, length, IfOk};
 ghost use Rattle.rule_model.specs.Types.{event_types as types_of_events};
-ghost use Rattle.session_laws.specs.Counts.{AreCounts};
+ghost use Rattle.session_model.specs.Counts.{AreCounts};
 
 use crate::state::State;
 use fact_store::FactStore;

@@ -2,7 +2,7 @@ ghost use Rattle.std.specs.Prelude.{◌≡◌, ◌<◌, ◌||◌, ◌^◌, ℕ, 
 ghost use Rattle.rule_model.specs.Moments.{moment_in};
 ghost use Rattle.rule_model.specs.Types.{is_event};
 ghost use Rattle.rule_world.specs.Worlds.{last_start_with, promise_with};
-ghost use Rattle.session_laws.specs.Saving.{ArePadded};
+ghost use Rattle.session_model.specs.Saving.{ArePadded};
 
 use fx_base::{EntryId, Fact, Millis, NoMemory};
 use rule_model::{Moment, Program};
@@ -21,7 +21,7 @@ pub(crate) struct Course {
 
 impl Model for Course {
     ghost use Rattle.std.specs.Coded.{codes};
-    ghost use Rattle.session_laws.specs.Standing.{Course as CourseData};
+    ghost use Rattle.session_model.specs.Standing.{Course as CourseData};
 
     ghost Value = { CourseData };
 

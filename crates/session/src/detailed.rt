@@ -15,8 +15,8 @@ pub struct DetailedSession {
 impl Engine for DetailedSession {
     ghost use Rattle.std.specs.Prelude.{◌-◌};
     ghost use Rattle.answer_lines.specs.declared.lines.Detail.TheVariants.{Full};
-    ghost use Rattle.session_laws.specs.Counts.{held_counts};
-    ghost use Rattle.session_laws.specs.Gives.{gives_in, fires_in};
+    ghost use Rattle.session_model.specs.Counts.{held_counts};
+    ghost use Rattle.session_model.specs.Gives.{gives_in, fires_in};
     ghost use Rattle.session.specs.Sessions.{StandsInFull};
 
     ghost stands = { StandsInFull };

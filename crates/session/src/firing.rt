@@ -6,10 +6,10 @@ ghost use Rattle.rule_model.specs.First.{first};
 ghost use Rattle.rule_world.specs.Programs.{has_few_actions, IsRunnable};
 ghost use Rattle.rule_world.specs.Worlds.{World, marked};
 ghost use Rattle.engine.specs.Known.{is_known};
-ghost use Rattle.session_laws.specs.Gives.{cells, conditions_of, actions_of, does_all};
-ghost use Rattle.session_laws.specs.Leading.{AllFit, AllWantKnown, StayKnown};
-ghost use Rattle.session_laws.specs.Standing.{IsSound, Runs, Standing, StaysSound};
-ghost use Rattle.session_laws.specs.Places.{planned_for, planned, seen_at, told};
+ghost use Rattle.session_model.specs.Gives.{cells, conditions_of, actions_of, does_all};
+ghost use Rattle.session_model.specs.Leading.{AllFit, AllWantKnown, StayKnown};
+ghost use Rattle.session_model.specs.Standing.{IsSound, Runs, Standing, StaysSound};
+ghost use Rattle.session_model.specs.Places.{planned_for, planned, seen_at, told};
 
 use crate::copying::copy_of;
 use crate::refreshing::add_names;
@@ -22,7 +22,7 @@ use fx_base::{Copies, Fact, Facts, NoMemory, Seq};
 use row_delta::{Named, Row};
 use rule_model::{Action, Condition, Match, Program, Rule, Step};
 use rule_world::Code;
-use session_laws::{Memory, Setting};
+use session_model::{Memory, Setting};
 use std::alloc::Global;
 
 /// A firing that is planned: its line, and what its actions are to do.

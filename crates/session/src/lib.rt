@@ -25,4 +25,4 @@ pub use detailed::DetailedSession;
 pub use engine::{Cell, Detail, Engine, Fired, Inspect, Lines, OutLine, WorldCounts};
 pub use rule_world::Code;
 pub use session::Session;
-pub use session_laws::{Memory, Setting};
+pub use session_model::{Memory, Setting};

@@ -6,12 +6,12 @@ ghost use Rattle.rule_world.specs.Events.{end_of_presence, most_millis, times_of
 ghost use Rattle.rule_world.specs.Programs.{IsRunnable};
 ghost use Rattle.rule_world.specs.Worlds.{with_values, is_of_type, modify_fault, revised as revised_fact};
 ghost use Rattle.retention.specs.Retentions.{lingers};
-ghost use Rattle.forgetting.specs.Sights.{end_of_life, ends_by};
-ghost use Rattle.session_laws.specs.Gives.{modified_lines, revision};
-ghost use Rattle.session_laws.specs.Leading.{MovesSession};
-ghost use Rattle.session_laws.specs.Places.{IsNewestTag, newest};
-ghost use Rattle.session_laws.specs.Standing.{Runs, StaysSound};
-ghost use Rattle.session_laws.specs.Waiting.{with_timer, without_timer};
+ghost use Rattle.forgetting_laws.specs.Sights.{end_of_life, ends_by};
+ghost use Rattle.session_model.specs.Gives.{modified_lines, revision};
+ghost use Rattle.session_model.specs.Leading.{MovesSession};
+ghost use Rattle.session_model.specs.Places.{IsNewestTag, newest};
+ghost use Rattle.session_model.specs.Standing.{Runs, StaysSound};
+ghost use Rattle.session_model.specs.Waiting.{with_timer, without_timer};
 ghost use Rattle.std.specs.FinMap as map;
 
 use crate::copying::copy_of;
@@ -24,7 +24,7 @@ use fx_base::{Copies, EntryId, Fact, FactId, Facts, Millis, NoMemory, Seq, Tag, 
 use retention::Retention;
 use rule_model::{Life, LifeTable, Program};
 use rule_world::presence_end;
-use session_laws::{Memory, Setting};
+use session_model::{Memory, Setting};
 use std::alloc::Global;
 
 // The fields with these values in these places.

@@ -8,8 +8,8 @@ ghost use Rattle.rule_model.specs.declared.matched.Match.{Match as MatchData};
 ghost use Rattle.rule_model.specs.Matches.{has_match, saliences as saliences_in};
 ghost use Rattle.image_laws.specs.Images.{match_fired};
 ghost use Rattle.retention.specs.Retentions.{lingers};
-ghost use Rattle.session_laws.specs.Restoring.{stored, AreHeld, HasTimes, AreStorable, comes_by, NoneGo, AreMarked, AreMarking};
-ghost use Rattle.session_laws.specs.Standing.{Runs};
+ghost use Rattle.session_model.specs.Restoring.{stored, AreHeld, HasTimes, AreStorable, comes_by, NoneGo, AreMarked, AreMarking};
+ghost use Rattle.session_model.specs.Standing.{Runs};
 
 use crate::moving::{hold, life_end, put_fact, put_timer};
 use crate::session::saliences_of;
@@ -23,7 +23,7 @@ use rete_net::RuleChange;
 use retention::Retention;
 use row_delta::Row;
 use rule_model::{Match, Rule};
-use session_laws::Setting;
+use session_model::Setting;
 use std::alloc::Global;
 use std::collections::BTreeSet;
 

@@ -1,5 +1,5 @@
 use fx_base::NoMemory;
-use session_laws::Setting;
+use session_model::Setting;
 use std::alloc::Global;
 use std::marker::Model;
 
@@ -12,8 +12,8 @@ pub(crate) struct Running {
 impl Model for Running {
     ghost use Rattle.std.specs.Coded.{codes};
     ghost use Rattle.rule_model.specs.ExpressionCode.{expression_code};
-    ghost use Rattle.session_laws.specs.declared.setting.Setting.{Setting as SettingData};
-    ghost use Rattle.session_laws.specs.Standing.{Runs};
+    ghost use Rattle.session_model.specs.declared.setting.Setting.{Setting as SettingData};
+    ghost use Rattle.session_model.specs.Standing.{Runs};
 
     ghost Value = { SettingData };
 
@@ -26,7 +26,7 @@ impl Model for Running {
 
 impl Running {
     ghost use Rattle.std.specs.Prelude.{◌≡◌, IfOk};
-    ghost use Rattle.session_laws.specs.Standing.{Runs};
+    ghost use Rattle.session_model.specs.Standing.{Runs};
 
     pub(crate) fn new(alloc: Global, setting: Setting) -> Result<Running, NoMemory>
         requires { Runs setting }

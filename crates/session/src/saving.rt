@@ -11,9 +11,9 @@ ghost use Rattle.image_laws.specs.Fitting.{Fits};
 ghost use Rattle.image_laws.specs.Images.{IsImageOf, match_fired};
 ghost use Rattle.laden_rows.specs.Laden.{AreOwners};
 ghost use Rattle.image_fitting.specs.Plain.{FitsPlainly, FitsByRows};
-ghost use Rattle.session_laws.specs.Restoring.{IsMatched, IsRestored};
-ghost use Rattle.session_laws.specs.Saving.{IsSessionSaved};
-ghost use Rattle.session_laws.specs.Standing.{Runs};
+ghost use Rattle.session_model.specs.Restoring.{IsMatched, IsRestored};
+ghost use Rattle.session_model.specs.Saving.{IsSessionSaved};
+ghost use Rattle.session_model.specs.Standing.{Runs};
 ghost use Rattle.answer_lines.specs.declared.lines.Detail.TheVariants.{Brief};
 ghost use Rattle.checkpoint.specs.Pieces.{whole};
 ghost use Rattle.checkpoint.specs.declared.image.Image.{Image as ImageData};
@@ -35,7 +35,7 @@ use image_fitting::laws::an_image_fits_by_tests_and_rows;
 use rete_net::{LoadFault, Rete};
 use row_delta::Extra;
 use rule_model::{LifeTable, Match, Moment, Program};
-use session_laws::{Memory, Setting};
+use session_model::{Memory, Setting};
 use std::alloc::Global;
 
 // The network over the facts of an image that fits by plain tests, at its moment, and the agenda of its matches; `Unfit` where the row of an

@@ -1,13 +1,13 @@
 ghost use Rattle.std.specs.Prelude.{◌≡◌, ◌+◌, ◌-◌, ◌≤◌, ◌^◌, true, IfOk, is_some};
 ghost use Rattle.rule_model.specs.Matches.{saliences};
-ghost use Rattle.session_laws.specs.Standing.{IsSound};
+ghost use Rattle.session_model.specs.Standing.{IsSound};
 
 use crate::counting::event_types;
 use crate::refreshing::refresh;
 use crate::running::Running;
 use crate::state::State;
 use agenda::Agenda;
-use change_read::asked_step;
+use change_resolve::asked_step;
 use checkpoint::{Image, LentImage, RunPart};
 use engine::{Detail, Engine, Fired, Lines, ResumeFault};
 use fx_base::{Millis, NoMemory, Seq};
@@ -15,7 +15,7 @@ use rete_net::Rete;
 use retention::Retention;
 use rule_model::{LifeTable, Program, Rule};
 use script_read::Change;
-use session_laws::{Memory, Setting};
+use session_model::{Memory, Setting};
 use std::alloc::Global;
 
 /// The saliences of rules, in their order.
@@ -47,9 +47,9 @@ impl Session {
     ghost use Rattle.engine.specs.Answers.{FiringAnswers};
     ghost use Rattle.engine.specs.Known.{are_known, is_known_firing};
     ghost use Rattle.engine.specs.Counts.{HasEach};
-    ghost use Rattle.session_laws.specs.Counts.{held_counts};
+    ghost use Rattle.session_model.specs.Counts.{held_counts};
     ghost use Rattle.answer_lines.specs.declared.lines.Detail.TheVariants.{Brief};
-    ghost use Rattle.session_laws.specs.Gives.{gives_in, fires_in};
+    ghost use Rattle.session_model.specs.Gives.{gives_in, fires_in};
     ghost use Rattle.session.specs.Sessions.{SessionStands};
 
     /// An engine in the empty world of a program, with a safe table of lives. Its lines tell in brief.
@@ -218,8 +218,8 @@ impl Session {
 }
 
 impl Engine for Session {
-    ghost use Rattle.session_laws.specs.Counts.{held_counts};
-    ghost use Rattle.session_laws.specs.Gives.{gives as session_gives, fires as session_fires};
+    ghost use Rattle.session_model.specs.Counts.{held_counts};
+    ghost use Rattle.session_model.specs.Gives.{gives as session_gives, fires as session_fires};
     ghost use Rattle.session.specs.Sessions.{StandsInBrief};
 
     ghost stands = { StandsInBrief };

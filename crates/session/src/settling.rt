@@ -8,7 +8,7 @@ ghost use Rattle.rule_model.specs.Tuples.{name_of};
 ghost use Rattle.rule_world.specs.Worlds.{World};
 ghost use Rattle.retention.specs.Retentions.{has_listed_tag, is_tag_among};
 ghost use Rattle.rete_net.specs.Dropped.{AreListed, rows_for};
-ghost use Rattle.session_laws.specs.Standing.{Awaits, Runs, Standing, StaysSound};
+ghost use Rattle.session_model.specs.Standing.{Awaits, Runs, Standing, StaysSound};
 
 use crate::refreshing::take_all;
 use crate::state::State;
@@ -17,7 +17,7 @@ use fact_store::FactStore;
 use fx_base::{Facts, NoMemory, RuleId, Tag};
 use rete_net::RuleRows;
 use row_delta::Named;
-use session_laws::{Memory, Setting};
+use session_model::{Memory, Setting};
 use std::alloc::Global;
 use std::collections::BTreeSet;
 

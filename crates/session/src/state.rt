@@ -2,12 +2,12 @@ ghost use Rattle.std.specs.Prelude.{◌≡◌, ◌-◌, [], pos, IfOk, option_ma
 ghost use Rattle.rule_model.specs.Matches.{fire_cmp};
 ghost use Rattle.rule_model.specs.First.{first};
 ghost use Rattle.rule_world.specs.Worlds.{modify_fault, is_of_type};
-ghost use Rattle.session_laws.specs.Places.{IsNewestTag, newest};
+ghost use Rattle.session_model.specs.Places.{IsNewestTag, newest};
 ghost use Rattle.std.specs.FinMap as map;
 
 use crate::course::Course;
 use agenda::Agenda;
-use change_read::Present;
+use change_resolve::Present;
 use due_queue::DueQueue;
 use fact_store::FactStore;
 use fx_base::{Fact, FactId, Millis, Tag, TypeId};
@@ -34,8 +34,8 @@ pub(crate) struct State {
 impl Model for State {
     ghost use Rattle.std.specs.Coded.{codes};
     ghost use Rattle.session.specs.Codes.{held_code, timers_code};
-    ghost use Rattle.session_laws.specs.Places.{IsSafe};
-    ghost use Rattle.session_laws.specs.Standing.{Contents};
+    ghost use Rattle.session_model.specs.Places.{IsSafe};
+    ghost use Rattle.session_model.specs.Standing.{Contents};
 
     ghost Value = { Contents };
 
@@ -119,7 +119,7 @@ impl State {
 }
 
 impl Present for State {
-    ghost use Rattle.session_laws.specs.Places.{newest};
+    ghost use Rattle.session_model.specs.Places.{newest};
 
     ghost present = { newest };
 

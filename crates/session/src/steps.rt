@@ -6,10 +6,10 @@ ghost use Rattle.rule_world.specs.Events.{most_millis, times_of};
 ghost use Rattle.rule_world.specs.Programs.{IsRunnable};
 ghost use Rattle.answer_lines.specs.declared.lines.OutLine.{OutLine as OutLineData};
 ghost use Rattle.answer_lines.specs.declared.lines.OutLine.TheVariants.{Fault};
-ghost use Rattle.session_laws.specs.Gives.{new_line, retracted_lines};
-ghost use Rattle.session_laws.specs.Leading.{AllWantKnown, has_known_places, StandsAfter, StandsAfterAll, StayKnown, Tries, WantsKnown, Writes, WritesAll, WritesFor};
-ghost use Rattle.session_laws.specs.Standing.{Runs, StaysSound};
-ghost use Rattle.session_laws.specs.Places.{insert_fault_in};
+ghost use Rattle.session_model.specs.Gives.{new_line, retracted_lines};
+ghost use Rattle.session_model.specs.Leading.{AllWantKnown, has_known_places, StandsAfter, StandsAfterAll, StayKnown, Tries, WantsKnown, Writes, WritesAll, WritesFor};
+ghost use Rattle.session_model.specs.Standing.{Runs, StaysSound};
+ghost use Rattle.session_model.specs.Places.{insert_fault_in};
 
 use crate::copying::copy_of;
 use crate::state::State;
@@ -17,7 +17,7 @@ use engine::{Detail, OutLine};
 use fx_base::{EntryId, Fact, FactId, Millis, NoMemory, Seq, Tag, Times, TypeId, Value};
 use rule_model::{Program, Step};
 use rule_world::{Code, clock_after, clock_at, floor, new_times, promise_at};
-use session_laws::{Memory, Setting};
+use session_model::{Memory, Setting};
 use std::alloc::Global;
 
 /// What the actions of a firing are to do, in their order: a step, or the fault for which an action is refused.

@@ -5,10 +5,10 @@ use Rattle.rule_model.specs.declared.step.Step.TheVariants.{Promise, Begin}
 use Rattle.rule_world.specs.{declared.code.Code.{Code}, Programs.{IsRunnable}, Worlds.{World, moved, stepped, step_fault, first_pending, found, marked}}
 use Rattle.rule_world.specs.Worlds.{present}
 use Rattle.script_read.specs.declared.asked.Change.{Change}
-use Rattle.change_read.specs.Changes.{change_step}
+use Rattle.change_resolve.specs.Changes.{change_step}
 use Rattle.answer_lines.specs.declared.lines.{Detail.TheVariants.{Brief}, OutLine.{OutLine}}
-use Rattle.session_laws.specs.Gives.{gives, gives_in, fires, fires_in, does, does_all, tries_with, fires_match, fires_with, wanted, actions_of}
-use Rattle.session_laws.proofs.{Acting.{fires_lawful}, Asking.{gives_lawful}}
+use Rattle.session_model.specs.Gives.{gives, gives_in, fires, fires_in, does, does_all, tries_with, fires_match, fires_with, wanted, actions_of}
+use Rattle.session_model.proofs.{Acting.{fires_lawful}, Asking.{gives_lawful}}
 use Rattle.replay.specs.Behind.{IsSoundWorld, KeepWorlds}
 
 -- ids and tags are given from 1 on

@@ -9,8 +9,8 @@ ghost use Rattle.desk.specs.Meanings.{both};
 ghost use Rattle.answer_lines.specs.declared.lines.Detail.TheVariants.{Full};
 ghost use Rattle.desk.specs.Report.{IsPrompt, IsServed, IsStopped, usage};
 ghost use Rattle.desk.specs.Wanted.{wanted};
-ghost use Rattle.session_laws.specs.Counts.{held_counts};
-ghost use Rattle.session_laws.specs.Gives.{gives, fires, gives_in, fires_in};
+ghost use Rattle.session_model.specs.Counts.{held_counts};
+ghost use Rattle.session_model.specs.Gives.{gives, fires, gives_in, fires_in};
 
 use fx_io::{Shelf, Source};
 use fx_store::FileSink;

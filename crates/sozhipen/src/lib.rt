@@ -13,8 +13,8 @@ ghost use Rattle.replay.specs.Refusals.{refusal_text};
 ghost use Rattle.replay.specs.Report.{Report, IsFront, IsReport, Reports, IsWritten, IsStopped, TakesFor, IsLong, IsPrompt};
 ghost use Rattle.replay.specs.Notices.{usage};
 ghost use Rattle.replay.specs.Wanted.{Files, wanted, IfRefuses, ReadsFile, RunsScript, SavesRun, IsUnfit, ReadFails, MayRefuse};
-ghost use Rattle.session_laws.specs.Counts.{held_counts};
-ghost use Rattle.session_laws.specs.Gives.{gives, fires};
+ghost use Rattle.session_model.specs.Counts.{held_counts};
+ghost use Rattle.session_model.specs.Gives.{gives, fires};
 
 pub use desk_call::desk;
 use fx_io::{Shelf, Sink, Source};
@@ -31,9 +31,9 @@ use std::alloc::Global;
 /// of that, which were confirmed: these leave the script alone, and the limit means nothing to them. Where the words ask for the load of a
 /// number, it runs the load's script over the load's rule file, with the limit of the words, prints nothing of that, and writes how many
 /// lines it would print, and how many of these say what fires and what is faulty: the shelf and the script are left alone. The report of a run is that of an engine which keeps
-/// everything that was inserted and takes every match anew after each change (`gives` and `fires` of `session_laws/specs/Gives.antt`). The
+/// everything that was inserted and takes every match anew after each change (`gives` and `fires` of `session_model/specs/Gives.antt`). The
 /// numbers of its `held` lines alone are those of what is kept of that: for each event type how many of its events are kept
-/// (`held_counts` of `session_laws/specs/Counts.antt`).
+/// (`held_counts` of `session_model/specs/Counts.antt`).
 ///
 /// The status is 0 where the script was read to its end, or the rule file of another mode is accepted, 1 where a line of the script
 /// was a fault, 2 where the words are refused, 3 where the rule file is missing or refused, 4 where a match was pending when no firing

@@ -15,8 +15,8 @@ pub use Rattle.drl_grammar.specs.declared.condition.CondTree.{CondTree}
 pub use Rattle.drl_grammar.specs.declared.condition.CondTree.TheVariants.{Negated, Plain}
 pub use Rattle.drl_grammar.specs.declared.written.Piece.{Piece}
 pub use Rattle.drl_grammar.specs.declared.written.WrittenType.{WrittenType}
-pub use Rattle.drl_sight.specs.EntryPoints.{with_entry_name, with_names}
-pub use Rattle.drl_sight.specs.Names.{place_of_name}
+pub use Rattle.drl_scope.specs.EntryPoints.{with_entry_name, with_names}
+pub use Rattle.drl_scope.specs.Names.{place_of_name}
 pub use Rattle.subrules.specs.Expanded.{at_line, has_word, inherited_fields, inherited_metas, meta_word, numbered_rules, origins_from, plain_items, plain_type}
 pub use Rattle.subrules.specs.Expanded.{titles_in, type_behind}
 pub use Rattle.subrules.specs.Faults.{are_too_many, has_many_fields, is_over_subtypes, is_varied, number_of_fields, obstacle_from}

@@ -15,7 +15,7 @@ use Rattle.drl_grammar.specs.declared.written.Piece.TheVariants as piece
 use Rattle.drl_grammar.specs.declared.written.WrittenBody.{WrittenBody}
 use Rattle.drl_grammar.specs.declared.written.WrittenBody.TheVariants as body
 use Rattle.drl_grammar.specs.declared.written.{WrittenItem.{WrittenItem}, WrittenRule.{WrittenRule}}
-use Rattle.drl_sight.specs.{Declarations.{types_of, rules_of}, Observed.{is_of_length, watched_by, watched_names}}
+use Rattle.drl_scope.specs.{Declarations.{types_of, rules_of}, Observed.{is_of_length, watched_by, watched_names}}
 use Rattle.subrules.specs.{Expanded.{numbered_rules, origins_from, plain_bodies, plain_rules, rules_of_ways}, Front.{is_closed, open_at_end, open_behind}}
 use Rattle.subrules.specs.{Front.{watches, watcher, shortened}, Ways.{each_behind, walked, ways_of}}
 

@@ -6,7 +6,7 @@ use Rattle.subrules.proofs.Common.{written_type_names, first_names, written_type
 use Rattle.subrules.proofs.Common.{kinds_of, is_other, is_subtype, option_to_list, list_any-append, with_entry_name, is_among, bytes_eq}
 use Rattle.subrules.{specs.Hierarchy.{ancestors}, proofs.HierarchyLaws.{above_none}}
 use Rattle.std.{proofs.Math.Bool.{or-false, or-true, or_assoc}, specs.Cmp.Lexicographic.{nat_list_eq_equiv}}
-use Rattle.drl_sight.{specs.{EntryPoints.{with_names}, Names.{place_from}}, proofs.NameLemmas.{placed_among}}
+use Rattle.drl_scope.{specs.{EntryPoints.{with_names}, Names.{place_from}}, proofs.NameLemmas.{placed_among}}
 
 -- ---- a type has the name by which it is found
 

@@ -1,7 +1,7 @@
 -- Which item cannot be written out.
 use Rattle.std.specs.Prelude.{ℕ, ◌+◌, ◌&&◌, ◌||◌, not, nat_lt, Bool, true, false, is_some, if◌then◌else◌, List, [], ◌∷◌, length, Option, Some, None}
 use Rattle.std.specs.{Prelude.{option_to_list}, List.{list_any}}
-use Rattle.drl_sight.specs.{EntryPoints.{source_of}, Observed.{is_of_length}}
+use Rattle.drl_scope.specs.{EntryPoints.{source_of}, Observed.{is_of_length}}
 use Rattle.drl_expr.specs.Words.{is_among}
 use Rattle.drl_grammar.specs.declared.condition.CondTree.{CondTree}
 use Rattle.drl_grammar.specs.declared.condition.CondTree.TheVariants as condition

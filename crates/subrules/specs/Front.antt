@@ -10,7 +10,7 @@ use Rattle.drl_grammar.specs.declared.written.Piece.TheVariants as piece
 use Rattle.drl_grammar.specs.declared.written.WrittenBody.{WrittenBody}
 use Rattle.drl_grammar.specs.declared.written.WrittenBody.TheVariants as body
 use Rattle.drl_grammar.specs.declared.written.{WrittenItem.{WrittenItem}, WrittenRule.{WrittenRule}, WrittenType.{WrittenType}}
-use Rattle.drl_sight.specs.Observed.{is_of_length}
+use Rattle.drl_scope.specs.Observed.{is_of_length}
 use Rattle.subrules.specs.{Ways.{Way, choices}, Expanded.{body_of, plain_rules, at_line}}
 
 -- how many alternatives are open behind a piece, given how many are before it

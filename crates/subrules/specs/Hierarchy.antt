@@ -1,7 +1,7 @@
 -- Which types extend which. A name that is declared twice means its first declaration.
 use Rattle.std.specs.Prelude.{◌≡◌, ℕ, zero, suc, cond, not, ◌&&◌, Bool, true, false, List, [], ◌∷◌, map, length, Option, Some, None, slice_get, option_and_then}
 use Rattle.std.specs.{Prelude.{option_to_list}, List.{filter, flat_map, list_any}, Str.{bytes_eq}}
-use Rattle.drl_sight.specs.{EntryPoints.{with_names}, Names.{place_of_name}}
+use Rattle.drl_scope.specs.{EntryPoints.{with_names}, Names.{place_of_name}}
 use Rattle.drl_expr.specs.Words.{is_among}
 use Rattle.drl_grammar.specs.declared.written.WrittenBody.{WrittenBody}
 use Rattle.drl_grammar.specs.declared.written.WrittenBody.TheVariants as body

@@ -1,7 +1,7 @@
 -- What is found by name, and by place.
 use Rattle.std.specs.Prelude.{◌≡◌, ℕ, List, map, Option, option_and_then}
 use Rattle.drl_grammar.specs.declared.written.WrittenType.{WrittenType}
-use Rattle.drl_sight.specs.Names.{place_of_name}
+use Rattle.drl_scope.specs.Names.{place_of_name}
 use Rattle.subrules.specs.Hierarchy.{written_type_names, first_names, extended}
 
 -- the names of types, the place that each name means, the names that other types extend, and the places of the types that types extend

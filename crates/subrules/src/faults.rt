@@ -3,7 +3,7 @@ ghost use Rattle.std.specs.Prelude.{◌≡◌, IfOk};
 ghost use Rattle.std.specs.List.{list_any};
 ghost use Rattle.subrules.specs.Faults.{looks_at_many, is_over_subtypes, fault_of_rule, fault_of, obstacle_from};
 ghost use Rattle.subrules.specs.Known.{AreKnown, IsCount};
-ghost use Rattle.drl_sight.specs.Observed.{is_of_length};
+ghost use Rattle.drl_scope.specs.Observed.{is_of_length};
 
 use crate::counts::counts;
 use crate::fault::{ExpandCode, Obstacle};
@@ -12,7 +12,7 @@ use crate::sizes::are_too_many;
 use crate::type_faults::fault_of_type;
 use crate::varied::any_varied;
 use drl_grammar::{CondTree, Piece, WindowTree, WrittenBody, WrittenItem, WrittenRule};
-use drl_sight::source_of;
+use drl_scope::source_of;
 use fx_base::NoMemory;
 use std::alloc::Global;
 

@@ -1,13 +1,13 @@
 ghost use Rattle.std.specs.Prelude.{◌≡◌, [], map, option_map, option_and_then, option_to_list, length, slice_get, IfOk, IfSome};
 ghost use Rattle.std.specs.List.{filter, flat_map};
-ghost use Rattle.drl_sight.specs.EntryPoints.{with_names};
-ghost use Rattle.drl_sight.specs.Names.{place_of_name};
+ghost use Rattle.drl_scope.specs.EntryPoints.{with_names};
+ghost use Rattle.drl_scope.specs.Names.{place_of_name};
 ghost use Rattle.drl_expr.specs.Words.{is_among};
 ghost use Rattle.subrules.specs.Hierarchy.{written_types_of, written_type_names, first_names, written_type_named, parent_of, above, is_type_of_name, is_other, goes_round, extended_by as extended_by_name, has_subtypes};
 
 use crate::order::upper_first;
 use drl_grammar::{WrittenBody, WrittenItem, WrittenType};
-use drl_sight::Places;
+use drl_scope::Places;
 use fx_base::{Copies, NoMemory, Text};
 use std::alloc::Global;
 use std::marker::Model;
@@ -89,7 +89,7 @@ fn extended_by<'a>(tree: Option<&'a WrittenType>, name: &Text) -> Option<&'a Tex
 }
 
 // The names of this list, each once.
-#[tactic(auto, unfolding(drl_sight::specs::EntryPoints::with_names))]
+#[tactic(auto, unfolding(drl_scope::specs::EntryPoints::with_names))]
 fn each_once(alloc: Global, names: &[Text]) -> Result<Places, NoMemory>
     ensures { IfOk result (λ once. once ≡ with_names [] names.now) }
 {

@@ -63,7 +63,7 @@ class Finding:
 
 
 def head_type(text: str) -> str:
-    """The name of a type without what it is given: of `&'a pair_memory::Memories<T>` it is `Memories`."""
+    """The name of a type without what it is given: of `&'a join_memory::Memories<T>` it is `Memories`."""
     text = text.strip()
     while THIN.match(text):
         text = THIN.sub("", text).strip()

@@ -1,6 +1,6 @@
 use Rattle.drl_check.proofs.{Common.{◌≡◌, ◌+◌, Some, None, take, refl, sym, ap, ◌∙◌, arith, first_code, codes_in_order, Refused}, Failures.{failing_is}}
 use Rattle.drl_check.proofs.Failures.{loop_found, loop_passed, loop_ended, type_names_next, entries_next, rule_names_next, known_names_next}
-use Rattle.drl_sight.specs.EntryPoints.{with_names}
+use Rattle.drl_scope.specs.EntryPoints.{with_names}
 use Rattle.drl_check.proofs.refusal.refusal.Goals as goal
 
 pub loop-place-init : goal.loop-place-init

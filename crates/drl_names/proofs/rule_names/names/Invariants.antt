@@ -1,5 +1,5 @@
 use Rattle.std.{proofs.Common.{◌≡◌, ◌++◌, drop}, specs.Prelude.{map}}
-use Rattle.drl_sight.specs.Declarations.{rules_of}
+use Rattle.drl_scope.specs.Declarations.{rules_of}
 use Rattle.drl_names.specs.Names.{names_of_rule}
 use Rattle.drl_names.proofs.rule_names.names.Given as goal
 

@@ -1,6 +1,6 @@
 use Rattle.replay.proofs.Common.{◌≡◌, ◌⊎◌, refl, inl, inr, ℕ, List, Option, Mode, Check, Lives, Proof, Program, Gives, Fires, Counts, accepted_text, RunsIn}
-use Rattle.replay.{proofs.{Common.{proof_text, IsFront, accepts, tells_lives, proves}, Calls.{mode_done, not_nine, says_low}}, specs.Proving.{IsProofFront}}
-use Rattle.replay.proofs.Calls.{written_as}
+use Rattle.replay.proofs.{Common.{proof_text, IsFront, accepts, tells_lives, proves}, Calls.{mode_done, not_nine, says_low, written_as}}
+use Rattle.replay.specs.Proving.{IsProofFront}
 use Rattle.replay.proofs.top.do_mode.Goals as goal
 
 proof_front : (gives : Gives) (fires : Fires) (counts : Counts) (p : Program) (script : List ℕ) (before after : Option (List ℕ)) → IsProofFront p before after

@@ -1,5 +1,5 @@
-use Rattle.script_run.{proofs.{Common.{◌≡◌, ◌+◌, None, sym, ap, ◌∙◌, setting_with}, Steps.{fires_line}}, specs.{Live.{question_in}, Reads.{fires_read}}}
-use Rattle.script_run.proofs.Steps.{told_read}
+use Rattle.script_run.{proofs.{Common.{◌≡◌, ◌+◌, None, sym, ap, ◌∙◌, setting_with}, Steps.{fires_line, told_read}}, specs.Live.{question_in}}
+use Rattle.script_run.specs.Reads.{fires_read}
 use Rattle.script_run.proofs.live.answer_line.Goals as goal
 
 -- a line that asks nothing is done as it reads

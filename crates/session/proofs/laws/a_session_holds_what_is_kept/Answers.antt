@@ -1,4 +1,4 @@
-use Rattle.session_laws.proofs.Holding.{held_is_kept, old_held_is_named}
+use Rattle.session_model.proofs.Holding.{held_is_kept, old_held_is_named}
 use Rattle.session.proofs.laws.a_session_holds_what_is_kept.Goals as goal
 
 pub returns-clause-kept : goal.returns-clause-kept

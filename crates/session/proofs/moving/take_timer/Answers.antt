@@ -1,4 +1,4 @@
-use Rattle.session_laws.proofs.Timers.{cancelled}
+use Rattle.session_model.proofs.Timers.{cancelled}
 use Rattle.session.proofs.moving.take_timer.Goals as goal
 
 pub returns : goal.returns

@@ -1,6 +1,6 @@
 use Rattle.session.proofs.Common.{◌≡◌, ◌<◌, ◌^◌, ℕ}
 use Rattle.rete_net.specs.Dropped.{AreListed}
-use Rattle.session_laws.proofs.Dropping.{AreAhead}
+use Rattle.session_model.proofs.Dropping.{AreAhead}
 use Rattle.session.proofs.settling.drop_fired.Given as goal
 
 abbrev pub invariant-loop-answer : goal.invariant-loop-answer

@@ -1,5 +1,5 @@
 use Rattle.beta_join.proofs.{Common.{refl, made, sharing}, Turns.{handed_lead}}
-use Rattle.pair_memory.proofs.Handed.{stepped_shared}
+use Rattle.join_memory.proofs.Handed.{stepped_shared}
 use Rattle.beta_join.proofs.join.BetaJoin.advance_turned.Goals as goal
 
 pub returns-clause-kept : goal.returns-clause-kept

@@ -1,5 +1,5 @@
 use Rattle.candidate_source.proofs.Common.{◌∙◌, ap, is_some, ◌&&◌, eq_by_cmp, nat_cmp, same_value, at}
-use Rattle.pair_memory.proofs.Keeping.{some_taken}
+use Rattle.join_memory.proofs.Keeping.{some_taken}
 use Rattle.candidate_source.proofs.source.Source.take_reached.Goals as goal
 
 pub returns-clause-reached : goal.returns-clause-reached

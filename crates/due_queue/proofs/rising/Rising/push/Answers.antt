@@ -1,5 +1,5 @@
-use Rattle.due_queue.{proofs.{Common.{◌∙◌, sym, ap, subst, refl, found}, Entries.{rises_pushed, front_pushed}}, specs.Rising.{live, is_front_live, Rises}}
-use Rattle.due_queue.proofs.Entries.{found_pushed, none_below}
+use Rattle.due_queue.{proofs.{Common.{◌∙◌, sym, ap, subst, refl, found}, Entries.{rises_pushed, front_pushed, found_pushed, none_below}}, specs.Rising.{live}}
+use Rattle.due_queue.specs.Rising.{is_front_live, Rises}
 use Rattle.due_queue.proofs.rising.Rising.push.Goals as goal
 
 pub returns-clause-stands : goal.returns-clause-stands

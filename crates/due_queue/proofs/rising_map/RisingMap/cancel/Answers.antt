@@ -1,5 +1,5 @@
-use Rattle.due_queue.{proofs.{Common.{◌∙◌, sym, ap, refl, None, cond, is_at, found}, Entries.{kept_none}, Together.{in_some, in_others}}, specs.Rising.{live}}
-use Rattle.due_queue.proofs.Together.{not_other, both_change, stay_apart}
+use Rattle.due_queue.proofs.{Common.{◌∙◌, sym, ap, refl, None, cond, is_at, found}, Entries.{kept_none}, Together.{in_some, in_others, not_other, both_change}}
+use Rattle.due_queue.{proofs.Together.{stay_apart}, specs.Rising.{live}}
 use Rattle.due_queue.proofs.rising_map.RisingMap.cancel.Goals as goal
 
 pub invariant_of-self : goal.invariant_of-self

@@ -1,6 +1,6 @@
 use Rattle.join_tests.proofs.Common.{SFits, w64, rules, to_z-of_z, ◌∙◌, sym, ap, [], ◌∷◌, map, Value, Pattern, join_keys, row_part, slot_value, moment_at_point}
-use Rattle.join_tests.{proofs.{Common.{row_moment, first_candidate, last_candidate, time_key}, Slotting.{sought_timeless}}, specs.Kept.{candidates_sought}}
-use Rattle.join_tests.proofs.Slotting.{sought_slotted}
+use Rattle.join_tests.proofs.{Common.{row_moment, first_candidate, last_candidate, time_key}, Slotting.{sought_timeless, sought_slotted}}
+use Rattle.join_tests.specs.Kept.{candidates_sought}
 use Rattle.join_tests.proofs.keyed.KeyedPattern.candidates_sought.Goals as goal
 
 pub returns-in-None : goal.returns-in-None

@@ -2,7 +2,7 @@ use Rattle.rete_net.{proofs.Common.{◌≡◌, ◌∙◌, sym, subst, List, Name
 use Rattle.rete_net.proofs.Lending.{turn_step}
 use Rattle.std.proofs.Common.{option_map}
 use Rattle.candidate_source.specs.Doors.{source_candidates}
-use Rattle.condition_node.specs.Lending.{with_candidates, NodeTakes}
+use Rattle.beta_node.specs.Lending.{with_candidates, NodeTakes}
 use Rattle.rete_net.proofs.node.NetNode.advance_lent.Goals as goal
 
 pub returns-clause-anew : goal.returns-clause-anew

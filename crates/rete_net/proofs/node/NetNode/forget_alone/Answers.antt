@@ -1,5 +1,5 @@
-use Rattle.rete_net.{proofs.{Common.{◌∙◌, sym, subst, Option, None, Some, [], has_name, TurnForgets}, Alone.{forget_none}}, specs.Lending.{MayForgetIn}}
-use Rattle.rete_net.proofs.{Alone.{forget_some, own_forgets}, Sourced.{lent_behind, lent_here, lent_none, lent_to_one, source_again}}
+use Rattle.rete_net.proofs.{Common.{◌∙◌, sym, subst, Option, None, Some, [], has_name, TurnForgets}, Alone.{forget_none, forget_some, own_forgets}}
+use Rattle.rete_net.{specs.Lending.{MayForgetIn}, proofs.Sourced.{lent_behind, lent_here, lent_none, lent_to_one, source_again}}
 use Rattle.candidate_source.specs.{declared.source.Source.{Source}, Lending.{with_source}, Sources.{source_at, handed_gone}}
 use Rattle.rete_net.proofs.node.NetNode.forget_alone.Goals as goal
 

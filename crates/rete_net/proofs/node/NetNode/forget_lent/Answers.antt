@@ -1,5 +1,5 @@
 use Rattle.rete_net.{proofs.{Common.{◌∙◌, subst, [], Candidates}, Forgone.{turn_forgets}}, specs.Lending.{IsFoundAnew}}
-use Rattle.condition_node.{proofs.Lending.{ForgetsFrom}, specs.Lending.{with_candidates}}
+use Rattle.beta_node.{proofs.Lending.{ForgetsFrom}, specs.Lending.{with_candidates}}
 use Rattle.rete_net.proofs.node.NetNode.forget_lent.Goals as goal
 
 pub returns-clause-anew : goal.returns-clause-anew

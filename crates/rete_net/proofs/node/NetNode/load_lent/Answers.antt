@@ -1,6 +1,6 @@
 use Rattle.rete_net.{proofs.{Common.{◌∙◌, sym, subst, Candidates, Laden, IsDifference, node_rows, extra_for}, Stocked.{stocked}}, specs.Lending.{IsFoundAnew}}
 use Rattle.candidate_source.specs.Doors.{source_candidates}
-use Rattle.condition_node.specs.Lending.{with_candidates, NodeHas}
+use Rattle.beta_node.specs.Lending.{with_candidates, NodeHas}
 use Rattle.rete_net.proofs.node.NetNode.load_lent.Goals as goal
 
 pub returns-clause-anew : goal.returns-clause-anew

@@ -1,6 +1,6 @@
 use Rattle.rete_net.proofs.Common.{◌≡◌, ◌∙◌, sym, subst, List, Bool, Delta, Named, Row, IsDifference, Condition, Snapshot, Look, Candidates, cleaned, line}
 use Rattle.rete_net.proofs.{Common.{Node, NodeStands, IsConditionTurn, condition_of}, Lent.{as_turned, condition_there, lent_instead}}
-use Rattle.condition_node.specs.Lending.{with_candidates, NodeTakes}
+use Rattle.beta_node.specs.Lending.{with_candidates, NodeTakes}
 use Rattle.rete_net.proofs.node.NetNode.turn_lent.Goals as goal
 
 pub returns-clause-stands : goal.returns-clause-stands

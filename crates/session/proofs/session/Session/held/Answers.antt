@@ -1,5 +1,5 @@
 use Rattle.session.proofs.Common.{◌≡◌, ◌∙◌, ap, subst, List, event_types, IfOk-weaker, TypeId, TypeInfo, Setting, Contents, AreCounts, Runs}
-use Rattle.session_laws.proofs.Tallied.{kept_counted, each_counted}
+use Rattle.session_model.proofs.Tallied.{kept_counted, each_counted}
 use Rattle.session.proofs.session.Session.held.Goals as goal
 
 pub returns-clause-counts : goal.returns-clause-counts

@@ -2,7 +2,7 @@ use Rattle.session.proofs.Common.{◌≡◌, ◌∙◌, List, ap, nat_lt, length
 use Rattle.session.proofs.Common.{done_lines, on_ok, on_ok_weaker, refused_lines, refused_tries, tried_done, StayKnown, new_known, one_more_known, refl}
 use Rattle.std.proofs.lemmas.Bool.{and_parts}
 use Rattle.answer_lines.specs.declared.lines.OutLine.{OutLine}
-use Rattle.session_laws.{specs.Gives.{new_line}, proofs.Faults.{numbered}}
+use Rattle.session_model.{specs.Gives.{new_line}, proofs.Faults.{numbered}}
 use Rattle.session.proofs.state.State.insert.Goals as goal
 
 pub returns-in_ok-push-in-Ok-clause-stands : goal.returns-in_ok-push-in-Ok-clause-stands

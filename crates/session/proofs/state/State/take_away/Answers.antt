@@ -1,6 +1,6 @@
 use Rattle.session.proofs.Common.{◌≡◌, true, sym, subst, to_z, of_z, w64, on_ok_weaker, Retract, is_of_type, stepped, is_tag_among, HasLeft, IsNewestTag}
 use Rattle.session.proofs.Common.{newest, Contents, Standing, IsSound, clock_same, safe_less, contents, followed_sound, instant_of}
-use Rattle.session_laws.proofs.Removing.{retract_awaits, retract_leads_on}
+use Rattle.session_model.proofs.Removing.{retract_awaits, retract_leads_on}
 use Rattle.std.specs.FinMap as map
 use Rattle.session.proofs.state.State.take_away.Goals as goal
 

@@ -5,7 +5,7 @@ use Rattle.session.proofs.Common.{remaining, remaining_is, contents, followed_so
 use Rattle.session.proofs.Stops.{safe_due}
 use Rattle.condition_rows.specs.Sets.{rows_of}
 use Rattle.due_queue.specs.Timers.{Timers}
-use Rattle.session_laws.specs.Places.{IsSafe}
+use Rattle.session_model.specs.Places.{IsSafe}
 use Rattle.session.proofs.state.State.take_clock.Goals as goal
 
 -- facts in order at a clock are so whatever entry points have reached

@@ -1,5 +1,0 @@
-use Rattle.change_read.proofs.Fitting.{asked_fits}
-use Rattle.change_read.proofs.laws.asked_steps_fit.Goals as goal
-
-pub returns : goal.returns
-returns c p begun present change step some e = asked_fits p begun present change step some e

@@ -1,5 +1,0 @@
-use Rattle.change_read.proofs.Merging.{AreSoFar}
-use Rattle.change_read.proofs.merge.fields_named.Given as goal
-
-abbrev pub invariant-loop-place : goal.invariant-loop-place
-invariant-loop-place l = AreSoFar l.fields l.members l.place l.named.items l.all_given

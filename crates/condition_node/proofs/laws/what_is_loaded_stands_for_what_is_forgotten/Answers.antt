@@ -1,5 +1,0 @@
-use Rattle.condition_node.proofs.Resuming.{resumes_law}
-use Rattle.condition_node.proofs.laws.what_is_loaded_stands_for_what_is_forgotten.Goals as goal
-
-pub returns : goal.returns
-returns c = resumes_law

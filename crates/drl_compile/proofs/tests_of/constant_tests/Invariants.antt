@@ -1,0 +1,5 @@
+use Rattle.drl_compile.proofs.Common.{◌≡◌, ◌++◌, drop, filter, flat_map, tests_in, is_constant}
+use Rattle.drl_compile.proofs.tests_of.constant_tests.Given as goal
+
+abbrev pub invariant-loop-part : goal.invariant-loop-part
+invariant-loop-part l = l.tests.items ++ flat_map (tests_in l.ty l.place.sight) (filter is_constant (drop l.part-index l.parts)) ≡ flat_map (tests_in l.ty l.place.sight) (filter is_constant l.parts)

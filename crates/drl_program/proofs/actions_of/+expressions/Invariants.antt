@@ -1,9 +1,0 @@
-use Rattle.drl_program.proofs.Common.{◌+◌, ◌*◌}
-use Rattle.drl_expr.specs.Tree.{height}
-use Rattle.drl_program.proofs.actions_of.+expressions.Given as goal
-
-abbrev pub decreases-expression : goal.decreases-expression
-decreases-expression l = 2 * height l.tree.now
-
-abbrev pub decreases-boxed : goal.decreases-boxed
-decreases-boxed l = 2 * height l.tree.now + 1

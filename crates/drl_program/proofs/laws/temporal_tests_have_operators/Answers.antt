@@ -1,5 +1,0 @@
-use Rattle.drl_program.proofs.Timed.{each_has_operator}
-use Rattle.drl_program.proofs.laws.temporal_tests_have_operators.Goals as goal
-
-pub returns : goal.returns
-returns c = each_has_operator

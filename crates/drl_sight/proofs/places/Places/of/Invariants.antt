@@ -1,5 +1,0 @@
-use Rattle.drl_sight.proofs.Common.{◌≡◌, ◌++◌, drop}
-use Rattle.drl_sight.proofs.places.Places.of.Given as goal
-
-abbrev pub invariant-loop-name : goal.invariant-loop-name
-invariant-loop-name l = l.places ++ drop l.name-index l.names ≡ l.names

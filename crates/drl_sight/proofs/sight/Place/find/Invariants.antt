@@ -1,5 +1,0 @@
-use Rattle.drl_sight.proofs.Common.{◌≡◌, drop, meaning_of}
-use Rattle.drl_sight.proofs.sight.Place.find.Given as goal
-
-abbrev pub invariant-loop-seen : goal.invariant-loop-seen
-invariant-loop-seen l = meaning_of (drop l.seen-index l.self.sight) l.name ≡ meaning_of l.self.sight l.name

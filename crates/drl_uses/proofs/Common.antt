@@ -1,8 +1,0 @@
--- Names from modules that two proofs and more cite, passed on from one place. Declares nothing.
-pub use Rattle.std.proofs.Common.{◌≡◌, drop, ◌+◌, length, ◌≤◌, List, Option, [], ap, map, refl, sym, take, true, ℕ, ◌++◌, ◌∙◌, ◌∷◌, Bool, arith, false, get_or}
-pub use Rattle.std.proofs.Common.{if◌then◌else◌, length-drop, max, nat_lt, not, suc, ◌*◌, ◌-◌, ◌<◌, ◌||◌}
-pub use Rattle.std.proofs.lemmas.List.{append-nil, drop_all, map-append, take_more}
-pub use Rattle.drl_sight.specs.Sight.{begin, Sight, behind_all}
-pub use Rattle.drl_uses.specs.Kinds.{taken_kinds, args_misfit, taken_by, word_kind}
-pub use Rattle.drl_uses.specs.Uses.{any_condition}
-pub use Rattle.fx_base.specs.declared.kind.Kind.{Kind}

@@ -1,5 +1,0 @@
-use Rattle.forgetting.proofs.Firing.{fire_law}
-use Rattle.forgetting.proofs.laws.a_firing_leaves_what_is_kept.Goals as goal
-
-pub returns : goal.returns
-returns c = fire_law

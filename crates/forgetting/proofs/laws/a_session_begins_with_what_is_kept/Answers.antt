@@ -1,5 +1,0 @@
-use Rattle.forgetting.proofs.Stepping.{start_law}
-use Rattle.forgetting.proofs.laws.a_session_begins_with_what_is_kept.Goals as goal
-
-pub returns : goal.returns
-returns c = start_law

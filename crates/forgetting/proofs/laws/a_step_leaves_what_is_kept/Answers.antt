@@ -1,5 +1,0 @@
-use Rattle.forgetting.proofs.Stepping.{step_law}
-use Rattle.forgetting.proofs.laws.a_step_leaves_what_is_kept.Goals as goal
-
-pub returns : goal.returns
-returns c = step_law

@@ -1,5 +1,0 @@
-use Rattle.forgetting.proofs.Stepping.{end_law}
-use Rattle.forgetting.proofs.laws.lives_end_as_said.Goals as goal
-
-pub returns : goal.returns
-returns c = end_law

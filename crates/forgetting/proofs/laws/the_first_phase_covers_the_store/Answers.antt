@@ -1,5 +1,0 @@
-use Rattle.forgetting.proofs.Covering.{later_covers, free_covers, insert_covers, retract_covers, endless_covers}
-use Rattle.forgetting.proofs.laws.the_first_phase_covers_the_store.Goals as goal
-
-pub returns : goal.returns
-returns c = record { later = later_covers; free = free_covers; insert = insert_covers; retract = retract_covers; endless = endless_covers }

@@ -1,5 +1,0 @@
-use Rattle.pair_memory.proofs.{Common.{row_cmp}, Found.{nothing_sorted}}
-use Rattle.pair_memory.proofs.memories.Memories.partners_under.Goals as goal
-
-pub returns-in-None-clause-in_order : goal.returns-in-None-clause-in_order
-returns-in-None-clause-in_order g c = nothing_sorted row_cmp c.new.result.items c.new.ensures.items

@@ -1,5 +1,0 @@
-use Rattle.pair_memory.proofs.{Common.{name_cmp}, Found.{nothing_sorted}}
-use Rattle.pair_memory.proofs.partners.passing_under.Goals as goal
-
-pub returns-in-None-clause-in_order : goal.returns-in-None-clause-in_order
-returns-in-None-clause-in_order g c = nothing_sorted name_cmp c.new.result.items c.new.ensures.items

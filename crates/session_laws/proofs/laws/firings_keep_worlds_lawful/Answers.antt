@@ -1,6 +1,0 @@
-use Rattle.answer_lines.specs.declared.lines.Detail.TheVariants.{Brief}
-use Rattle.session_laws.proofs.Acting.{fires_lawful}
-use Rattle.session_laws.proofs.laws.firings_keep_worlds_lawful.Goals as goal
-
-pub returns : goal.returns
-returns c p w lines next runnable l e = fires_lawful Brief p w lines next runnable l e
