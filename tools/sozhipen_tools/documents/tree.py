@@ -83,15 +83,16 @@ class Tree:
     def cites(self) -> dict[str, list[str]]:
         """What each crate cites among the crates, as crates.txt lists it, the lowest first."""
         lines = (self.top / "crates.txt").read_text(encoding="utf-8").splitlines()
-        lists = dict(line.split(":", 1) for line in lines if ":" in line and not line.startswith("#"))
+        rows = (line.split(":", 1) for line in lines if ":" in line and not line.startswith("#"))
+        lists = {head.split()[0]: rest for head, rest in rows}
         return {name: [cited for cited in rest.split() if cited in lists] for name, rest in lists.items()}
 
     @cached_property
     def words(self) -> set[str]:
-        """Each word of the crates' sources and of the tools, and the names of edits."""
+        """Each word of the crates' sources and of the tools, and the names of crates and edits."""
         tools = [path for path in self.files if path.startswith("tools/") and path.endswith(".py")]
         edits = {Path(path).stem for path in self.files if path.endswith(".edit")}
-        return edits.union(*(crate.words for crate in self.crates.values()),
+        return edits.union(self.crates, *(crate.words for crate in self.crates.values()),
                            *(WORD.findall(self.text(path)) for path in tools))
 
     @cached_property
