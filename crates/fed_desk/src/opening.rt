@@ -7,7 +7,8 @@ ghost use Rattle.script_run.specs.Live.{live_by, most_firings};
 ghost use Rattle.replay.specs.Beginnings.{BeginsIn, CanBegin};
 ghost use Rattle.replay.specs.declared.beginning.Beginning.TheVariants.{Behind};
 ghost use Rattle.fed_desk.specs.declared.opening.OpenFault.TheVariants.{NoMemory as NoRoom};
-ghost use Rattle.fed_desk.specs.Openings.{AreRefused, IsOpen, IsOpenIn, IsRefused, TellsImageFault, TellsOpenFault, TellsStartFault, begins, course_in, form_of, live_of, start};
+ghost use Rattle.fed_desk.specs.Openings.{AreRefused, IsOpen, IsOpenIn, IsRefused, TellsImageFault, TellsOpenFault, TellsStartFault};
+ghost use Rattle.fed_desk.specs.Openings.{begins, course_in, form_of, live_of, start};
 ghost use Rattle.fed_desk.specs.Runs.{HasCome, setting_of};
 
 use crate::desk::Desk;
