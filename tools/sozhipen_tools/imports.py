@@ -3,9 +3,10 @@
     tools/run imports [--one] [--look] [CRATE ..]
 
 What stands together is cited in one nested list for each crate, in the order in which the crates and names came, on as
-many lines of at most 160 columns as it takes. With --one a line may name several crates. With --look nothing is
-written, and the status is 1 where a file is laid out otherwise. Names, and so proofs, stay what they are; but the files
-are others, and each crate above is proved again.
+many lines of at most 160 columns as it takes. With --one a line of a proof may name several crates; in specs the prover
+looks for names of the library in lines of their own. With --look nothing is written, and the status is 1 where a file
+is laid out otherwise. Names, and so proofs, stay what they are; but the files are others, and each crate above is
+proved again.
 """
 
 from __future__ import annotations
@@ -124,14 +125,14 @@ def files(crates: Optional[list[str]]) -> Iterator[Path]:
 
 def main() -> int:
     parser = Parser(prog="imports", description=__doc__)
-    parser.add_argument("--one", action="store_true", help="lines may name several crates")
+    parser.add_argument("--one", action="store_true", help="lines of proofs may name several crates")
     parser.add_argument("--look", action="store_true", help="write nothing")
     parser.add_argument("crates", nargs="*", metavar="CRATE", help="the crates; all, where none is named")
     words = parser.parse_args()
     changed = 0
     for path in files(words.crates):
         text = path.read_text(encoding="utf-8")
-        wanted = laid_out(text, words.one)
+        wanted = laid_out(text, words.one and "proofs" in path.parts)
         changed += wanted != text
         if wanted != text and not words.look:
             path.write_text(wanted, encoding="utf-8")

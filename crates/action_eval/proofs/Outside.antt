@@ -1,7 +1,6 @@
 -- A whole number is outside 64 bits exactly where it does not fit them.
 use Rattle.std.proofs.{Common.{◌≡◌, ◌^◌, ◌<◌, true, false, ℤ, pos, negsuc, FitsSigned, w64, arith, ⊎_elim}, lemmas.{Int.{ints}, Bool.{cases_Bool}}}
-use Rattle.std.proofs.lemmas.Bool.Decides.{nat_tests}
-use Rattle.rule_model.specs.Numbers.{is_outside}
+use Rattle.{std.proofs.lemmas.Bool.Decides.{nat_tests}, rule_model.specs.Numbers.{is_outside}}
 
 pub inside : (n : ℤ) → FitsSigned w64 n → is_outside n ≡ false
 unfolding is_outside

@@ -1,10 +1,9 @@
 -- How often a list of matches names a tag, as matches come and go.
 use Rattle.agenda.proofs.Common.{◌≡◌, ℕ, ◌+◌, ◌-◌, ◌==◌, Bool, true, false, cond, ◌||◌, List, [], ◌∷◌, find, Some, option_map, unwrap_or, refl, sym, ◌∙◌, ap}
 use Rattle.agenda.proofs.Common.{arith, list_any, Ordering, Less, Equal, Greater, eq_by_cmp, is_eq, match_ordering, insert_key, remove_key, Ranked, matches}
-use Rattle.agenda.proofs.Common.{names_tag, rank_cmp, times_in, times, sum_by, rank_equiv, namings, CountsNamings}
-use Rattle.std.{specs.{Prelude.{nat_lt}, BTreeMap.{is_at}}, proofs.lemmas.{List.Sums.{sum_by-cons}, Map.{Made.{sum_by-remove_key}, Steps.{list_any_congr}}}}
-use Rattle.std.proofs.lemmas.Bool.{or_parts, Decides.{nat_tests}}
-use Rattle.row_delta.specs.declared.row.Named.{Named}
+use Rattle.{agenda.proofs.Common.{names_tag, rank_cmp, times_in, times, sum_by, rank_equiv, namings, CountsNamings}, std.specs.Prelude.{nat_lt}}
+use Rattle.std.{specs.BTreeMap.{is_at}, proofs.lemmas.{List.Sums.{sum_by-cons}, Map.{Made.{sum_by-remove_key}, Steps.{list_any_congr}}, Bool.{or_parts}}}
+use Rattle.{std.proofs.lemmas.Bool.Decides.{nat_tests}, row_delta.specs.declared.row.Named.{Named}}
 
 placed_sum : (f : Ranked → ℕ) (o : Ordering) (k x : Ranked) (ks ls : List Ranked) → is_eq o ≡ false → sum_by f ls ≡ sum_by f ks + f k
     → sum_by f (match_ordering o (k ∷ x ∷ ks) (x ∷ ks) (x ∷ ls)) ≡ sum_by f (x ∷ ks) + f k

@@ -1,8 +1,7 @@
 -- One row more, and one match more.
 use Rattle.agenda.proofs.Common.{◌≡◌, ℕ, ◌==◌, ◌&&◌, ◌||◌, not, Bool, true, false, cond, List, [], ◌∷◌, ℤ, refl, sym, ◌∙◌, ap, subst, eq_by_cmp, list_any, Row}
 use Rattle.agenda.proofs.{Common.{row_cmp, has, Match, Ranked, match_cmp, has_match, rank_cmp, Well, AllWell, matches, match_parts}, Ranks.{updated}}
-use Rattle.row_delta.specs.RowOrder.{same_equiv}
-use Rattle.fx_base.proofs.Tests.{cond_false_first, or_and_join}
+use Rattle.{row_delta.specs.RowOrder.{same_equiv}, fx_base.proofs.Tests.{cond_false_first, or_and_join}}
 
 and_more : (o t a b : Bool) → ((o && not (t && a)) && not (t && b)) ≡ (o && not (t && (a || b)))
 and_more false t a b = refl

@@ -2,14 +2,12 @@
 use Rattle.alpha_memory.proofs.Common.{◌≡◌, ◌∙◌, sym, ap, refl, subst, ℕ, ◌+◌, ◌<◌, List, [], ◌∷◌, ◌++◌, length, Bool, true, false, ◌&&◌, cond, Option, Some}
 use Rattle.alpha_memory.proofs.Common.{None, arith, eq-eqb, nat_eq, option_and_then, nat_cmp, eq_by_cmp, nat_cmp_total, is_at, get-insert, get-remove, keys_of}
 use Rattle.alpha_memory.proofs.Common.{lookup, eqb-true, Value, same_value, Named, Candidate, has_candidate_tag, without_tag, at, bucket_at, candidate, under}
-use Rattle.alpha_memory.proofs.Common.{AgreePlaces, JoinIndex, Place, get-empty, len-empty, len-entries, is_tagged}
-use Rattle.std.proofs.Common.{map as list_map}
+use Rattle.{alpha_memory.proofs.Common.{AgreePlaces, JoinIndex, Place, get-empty, len-empty, len-entries, is_tagged}, std.proofs.Common.{map as list_map}}
 use Rattle.std.specs.FinMap as map
-use Rattle.std.specs.List.{IsDistinct}
-use Rattle.fx_base.{specs.SameValues.{same_value_equiv}, proofs.{Orders.{eq_by_nat_cmp-flip, eq_by_nat_cmp-self, eq_by_nat_cmp-true}, Sequences.{one_value}}}
-use Rattle.fx_base.proofs.Tests.{both_ways_absurd}
-use Rattle.alpha_memory.{specs.Places.{numbered}, proofs.Numbers.{untied, has_number, number_has, Apart-same, numbered-same, Apart-put, unused, numbered-put}}
-use Rattle.alpha_memory.proofs.{Numbers.{Apart-take, has_taken, numbered-take}, Listed.{values-insert, values-remove, none_of, one_of, all_stay}}
+use Rattle.{std.specs.List.{IsDistinct}, fx_base.{specs.SameValues.{same_value_equiv}, proofs.Orders.{eq_by_nat_cmp-flip, eq_by_nat_cmp-self}}}
+use Rattle.{fx_base.proofs.{Orders.{eq_by_nat_cmp-true}, Sequences.{one_value}, Tests.{both_ways_absurd}}, alpha_memory.specs.Places.{numbered}}
+use Rattle.alpha_memory.proofs.Numbers.{untied, has_number, number_has, Apart-same, numbered-same, Apart-put, unused, numbered-put, Apart-take, has_taken}
+use Rattle.alpha_memory.proofs.{Numbers.{numbered-take}, Listed.{values-insert, values-remove, none_of, one_of, all_stay}}
 
 -- what the memory's candidates are
 abbrev pub listed : List (ℕ × Place) → List Candidate

@@ -3,14 +3,11 @@ use Rattle.alpha_memory.proofs.Common.{◌≡◌, ◌∙◌, ap, refl, subst, �
 use Rattle.alpha_memory.proofs.Common.{Contains, is_some, option_and_then, nat_cmp, nat_cmp_total, nat_eq_equiv, IsFromIterResult, is_at, keys_of, values_of}
 use Rattle.alpha_memory.proofs.Common.{lookup, eqb-true, exact_unsigned, lookup-from_Contains, Value, same_value, Named, Candidate, names_of, with_join, at}
 use Rattle.alpha_memory.proofs.Common.{bucket_at, candidate, name_entry, under, AgreePlaces, JoinIndex, Place, slice_index_or, IfSome, Contains-from_lookup}
-use Rattle.alpha_memory.proofs.Common.{IfSome-btree_map_get_from_list, btree_map_contains_key_from_list, numbered}
-use Rattle.std.proofs.Common.{map as list_map}
+use Rattle.{alpha_memory.proofs.Common.{IfSome-btree_map_get_from_list, btree_map_contains_key_from_list, numbered}, std.proofs.Common.{map as list_map}}
 use Rattle.std.specs.BTreeMap as tree
 use Rattle.std.specs.FinMap as map
-use Rattle.std.specs.List.Sorted.{IsStrictlySortedBy}
-use Rattle.alpha_memory.proofs.{Numbers.{same_option, HasNumber, has_number, number_has}, Listed.{chosen, names_in_order, no_names, all_pass}}
-use Rattle.alpha_memory.proofs.Agreeing.{listed}
-use Rattle.fx_base.proofs.Sequences.{is_some-value, one_value}
+use Rattle.{std.specs.List.Sorted.{IsStrictlySortedBy}, alpha_memory.proofs.{Numbers.{same_option, HasNumber, has_number, number_has}, Listed.{chosen}}}
+use Rattle.{alpha_memory.proofs.{Listed.{names_in_order, no_names, all_pass}, Agreeing.{listed}}, fx_base.proofs.Sequences.{is_some-value, one_value}}
 
 -- ---- the candidates with one join value
 

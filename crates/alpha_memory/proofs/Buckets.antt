@@ -1,7 +1,6 @@
 -- What a join index has once one of its buckets is written, or a first one.
 use Rattle.alpha_memory.proofs.Common.{◌≡◌, ◌∙◌, sym, ap, refl, Bool, true, false, ◌&&◌, cond, List, [], ◌∷◌, Option, Some, Ordering, is_at, IsEquivalence}
-use Rattle.alpha_memory.proofs.Common.{lookup, option_map, option_and_then, entries, at, bucket_at, Bucket, JoinIndex, found}
-use Rattle.indexmap.specs.IndexMap.{get}
+use Rattle.{alpha_memory.proofs.Common.{lookup, option_map, option_and_then, entries, at, bucket_at, Bucket, JoinIndex, found}, indexmap.specs.IndexMap.{get}}
 
 -- equal keys find the same
 lookup_tied : {J X : Type 0} {same : J → J → Bool} → IsEquivalence same → (a b : J) → same a b ≡ true → (es : List (J × X)) → lookup (same b) es ≡ lookup (same a) es

@@ -2,12 +2,12 @@
 use Rattle.alpha_memory.proofs.Common.{◌≡◌, ◌∙◌, sym, ap, refl, subst, ℕ, ◌<◌, List, [], ◌∷◌, ◌++◌, filter, Bool, true, false, not, ◌||◌, cond, Option, Some}
 use Rattle.alpha_memory.proofs.Common.{None, arith, Ordering, nat_cmp, eq_by_cmp, nat_cmp_total, is_at, find, get-remove, nat_cmp-IsAntisymmetric, list_any}
 use Rattle.alpha_memory.proofs.Common.{AllByRecursion, keys_of, values_of, lookup, Named, Candidate, names_of, T, is_lt, is_eq, entries_sorted, get-entries}
-use Rattle.alpha_memory.proofs.Common.{entries-insert}
-use Rattle.std.{proofs.{Math.Bool.{or-true}, Common.{map as list_map}}, specs.declared.cmp.Ordering.TheVariants.{Less, Equal, Greater}}
+use Rattle.{alpha_memory.proofs.Common.{entries-insert}, std.proofs.{Math.Bool.{or-true}, Common.{map as list_map}}}
+use Rattle.std.specs.declared.cmp.Ordering.TheVariants.{Less, Equal, Greater}
 use Rattle.std.specs.FinMap as map
 use Rattle.std.specs.FinMap.Entries.{by_order, put, where_key, below_all, is_sorted, is_sorted-where_key, find-where_key, same_entries}
-use Rattle.std.{specs.List.Sorted.{IsStrictlySortedBy}, proofs.lemmas.Bool.Decides.{nat_tests}}
-use Rattle.fx_base.proofs.{Orders.{eq_by_nat_cmp-flip, eq_by_nat_cmp-self, eq_by_nat_cmp-true}, Tests.{T_both, T_first, T_second, both_ways_absurd, cond_not}}
+use Rattle.{std.{specs.List.Sorted.{IsStrictlySortedBy}, proofs.lemmas.Bool.Decides.{nat_tests}}, fx_base.proofs.Orders.{eq_by_nat_cmp-flip}}
+use Rattle.fx_base.proofs.{Orders.{eq_by_nat_cmp-self, eq_by_nat_cmp-true}, Tests.{T_both, T_first, T_second, both_ways_absurd, cond_not}}
 
 -- what is below is not equal
 apart : (o : Ordering) → T (is_lt o) → is_eq o ≡ false

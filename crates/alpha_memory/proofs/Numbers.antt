@@ -2,11 +2,10 @@
 use Rattle.alpha_memory.proofs.Common.{◌≡◌, ◌≢◌, ◌∙◌, sym, ap, refl, ℕ, suc, ◌<◌, List, [], ◌∷◌, Bool, true, false, cond, Option, Some, None, arith, eq-eqb}
 use Rattle.alpha_memory.proofs.Common.{inl, inr, ◌⊎◌, nat_eq, Contains, is_some, nat_cmp, eq_by_cmp, nat_cmp_total, nat_eq_equiv, find, get-insert, get-remove}
 use Rattle.alpha_memory.proofs.Common.{nat_cmp-IsAntisymmetric, keys_of, lookup, eqb-true, lookup-from_Contains, Candidate, candidate, Place, get-from_entries}
-use Rattle.alpha_memory.proofs.Common.{same_map, IsDistinct, numbered_entry}
-use Rattle.std.proofs.Common.{map as list_map}
+use Rattle.{alpha_memory.proofs.Common.{same_map, IsDistinct, numbered_entry}, std.proofs.Common.{map as list_map}}
 use Rattle.std.specs.FinMap as map
-use Rattle.alpha_memory.specs.Places.{numbered}
-use Rattle.fx_base.proofs.{Orders.{eq_by_nat_cmp-self, eq_by_nat_cmp-true}, Sequences.{is_some-value, one_value}, Tests.{both_ways_absurd}}
+use Rattle.{alpha_memory.specs.Places.{numbered}, fx_base.proofs.{Orders.{eq_by_nat_cmp-self, eq_by_nat_cmp-true}, Sequences.{is_some-value, one_value}}}
+use Rattle.fx_base.proofs.Tests.{both_ways_absurd}
 
 -- ---- options, tests and numbers
 

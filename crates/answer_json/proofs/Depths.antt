@@ -2,13 +2,11 @@
 use Rattle.std.{proofs.Common.{◌≤◌, ℕ, ℤ, suc, List, [], ◌∷◌, Option, Some, None, drop, arith}, specs.Prelude.{max, slice_get, codes}}
 use Rattle.std.specs.{declared.cmp.Ordering.{Ordering, TheVariants.{Less, Equal, Greater}}, Ordering.{nat_cmp, match_ordering}, Cmp.Lexicographic.{slice_cmp}}
 use Rattle.fx_base.specs.declared.{fact.Fact.{Fact}, ids.{FactId.{FactId}, RuleId.{RuleId}, TypeId.{TypeId}}, kind.Kind.{Kind}, value.Value.{Value}}
-use Rattle.fx_base.specs.declared.value.Value.TheVariants.{Int, Bool as Truth, Text as Words}
-use Rattle.rule_model.specs.declared.program.{EntryInfo.{EntryInfo}, Program.{Program}, TypeInfo.{TypeInfo}}
-use Rattle.rule_world.specs.CodeNames.{code_name}
+use Rattle.{fx_base.specs.declared.value.Value.TheVariants.{Int, Bool as Truth, Text as Words}, rule_model.specs.declared.program.EntryInfo.{EntryInfo}}
+use Rattle.{rule_model.specs.declared.program.{Program.{Program}, TypeInfo.{TypeInfo}}, rule_world.specs.CodeNames.{code_name}}
 use Rattle.answer_lines.specs.declared.lines.OutLine.{OutLine, TheVariants.{New, Fire, Fault, Inserted, Modified, Retracted, FiredFor}}
-use Rattle.drl_names.specs.declared.rule_names.RuleNames.{RuleNames}
-use Rattle.serde_json.specs.{Data.{Data, array, object, string, Members, no_members, member, put, depth, items_depth, members_depth}, Read.{max_depth}}
-use Rattle.serde_json.specs.View.{items_of}
+use Rattle.{drl_names.specs.declared.rule_names.RuleNames.{RuleNames}, serde_json.specs.Data.{Data, array, object, string, Members, no_members, member, put}}
+use Rattle.serde_json.specs.{Data.{depth, items_depth, members_depth}, Read.{max_depth}, View.{items_of}}
 use Rattle.answer_json.specs.{declared.counted.Counted.{Counted}, Objects.{whole, signed, members_with, object_of}, Facts.{value_data, with_fields, fields_of}}
 use Rattle.answer_json.specs.{Facts.{type_data, fields_data, fact_data}, Firings.{rule_data, fact_names, result_names, first_name, name_member, bound_fact}}
 use Rattle.answer_json.specs.{Firings.{bound_result, bound_facts, bound_results, firing_data}, Answers.{id_data, rule_fired, line_data, with_counts}}

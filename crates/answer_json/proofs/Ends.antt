@@ -1,8 +1,6 @@
 -- Where no value is left, the names behind put nothing.
-use Rattle.std.proofs.Common.{◌≡◌, ℕ, ℤ, List, [], ◌∷◌, length, arith, refl}
-use Rattle.fx_base.specs.declared.{kind.Kind.{Kind}, value.Value.{Value}}
-use Rattle.rule_model.specs.declared.program.{EntryInfo.{EntryInfo}, TypeInfo.{TypeInfo}}
-use Rattle.serde_json.specs.Data.{Members}
+use Rattle.{std.proofs.Common.{◌≡◌, ℕ, ℤ, List, [], ◌∷◌, length, arith, refl}, fx_base.specs.declared.{kind.Kind.{Kind}, value.Value.{Value}}}
+use Rattle.{rule_model.specs.declared.program.{EntryInfo.{EntryInfo}, TypeInfo.{TypeInfo}}, serde_json.specs.Data.{Members}}
 use Rattle.answer_json.specs.{Facts.{with_fields}, Answers.{with_counts, with_floors}}
 
 no_value : (ms : Members) (fields : List (List ℕ × Kind)) → with_fields ms fields [] ≡ ms

@@ -1,18 +1,15 @@
 -- What is answered has no floating-point number.
 use Rattle.std.{proofs.Common.{◌≡◌, ◌||◌, ℕ, ℤ, List, [], ◌∷◌, Bool, false, Option, Some, None, drop, refl}, specs.Prelude.{pos, negsuc, slice_get, codes}}
 use Rattle.std.specs.{declared.cmp.Ordering.{Ordering, TheVariants.{Less, Equal, Greater}}, Ordering.{nat_cmp, match_ordering}, Cmp.Lexicographic.{slice_cmp}}
-use Rattle.std.proofs.lemmas.Bool.{or_from, or_parts}
-use Rattle.fx_base.specs.declared.{fact.Fact.{Fact}, ids.{FactId.{FactId}, RuleId.{RuleId}, TypeId.{TypeId}}, kind.Kind.{Kind}, value.Value.{Value}}
-use Rattle.fx_base.specs.declared.value.Value.TheVariants.{Int, Bool as Truth, Text as Words}
+use Rattle.{std.proofs.lemmas.Bool.{or_from, or_parts}, fx_base.specs.declared.{fact.Fact.{Fact}, ids.{FactId.{FactId}, RuleId.{RuleId}, TypeId.{TypeId}}}}
+use Rattle.fx_base.specs.declared.{kind.Kind.{Kind}, value.Value.{Value, TheVariants.{Int, Bool as Truth, Text as Words}}}
 use Rattle.rule_model.specs.declared.program.{EntryInfo.{EntryInfo}, Program.{Program}, TypeInfo.{TypeInfo}}
 use Rattle.answer_lines.specs.declared.lines.OutLine.{OutLine, TheVariants.{New, Fire, Fault, Inserted, Modified, Retracted, FiredFor}}
-use Rattle.drl_names.specs.declared.rule_names.RuleNames.{RuleNames}
-use Rattle.serde_json.specs.{Data.{Data, array, object, Members, no_members, member, put}, View.{items_of}, Written.{has_float, items_have_float}}
-use Rattle.serde_json.specs.Written.{members_have_float}
-use Rattle.answer_json.specs.{declared.counted.Counted.{Counted}, Objects.{whole, signed, members_with, object_of}, Facts.{value_data, with_fields, fields_of}}
-use Rattle.answer_json.specs.{Facts.{type_data, fields_data, fact_data}, Firings.{rule_data, fact_names, result_names, first_name, name_member, bound_fact}}
-use Rattle.answer_json.specs.{Firings.{bound_result, bound_facts, bound_results, firing_data}, Answers.{id_data, rule_fired, line_data, with_counts}}
-use Rattle.answer_json.specs.Answers.{with_floors, counts_data}
+use Rattle.{drl_names.specs.declared.rule_names.RuleNames.{RuleNames}, serde_json.specs.Data.{Data, array, object, Members, no_members, member, put}}
+use Rattle.{serde_json.specs.{View.{items_of}, Written.{has_float, items_have_float, members_have_float}}, answer_json.specs.declared.counted.Counted.{Counted}}
+use Rattle.answer_json.specs.{Objects.{whole, signed, members_with, object_of}, Facts.{value_data, with_fields, fields_of, type_data, fields_data, fact_data}}
+use Rattle.answer_json.specs.Firings.{rule_data, fact_names, result_names, first_name, name_member, bound_fact, bound_result, bound_facts, bound_results}
+use Rattle.answer_json.specs.{Firings.{firing_data}, Answers.{id_data, rule_fired, line_data, with_counts, with_floors, counts_data}}
 
 signed_has_none : (z : ℤ) → has_float (signed z) ≡ false
 signed_has_none (pos n) = refl

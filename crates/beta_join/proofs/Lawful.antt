@@ -1,8 +1,7 @@
 -- The laws of steps and of forgetting, from what the node tells of what it keeps.
 use Rattle.beta_join.proofs.Common.{◌≡◌, ◌∙◌, sym, ap, refl, subst, Bool, true, false, not, ◌&&◌, ◌||◌, Pattern, made, joined, difference_alike}
-use Rattle.beta_join.specs.Laws.{JoinStepLaw, JoinForgetLaw}
-use Rattle.join_memory.{specs.Standing.{clean, cleaned, either, PassesAlike, StandsFor}, proofs.{Worlds.{made_clean, clean_either}, Steps.{steps_law}}}
-use Rattle.join_memory.proofs.Steps.{forgets_law}
+use Rattle.{beta_join.specs.Laws.{JoinStepLaw, JoinForgetLaw}, join_memory.specs.Standing.{clean, cleaned, either, PassesAlike, StandsFor}}
+use Rattle.join_memory.proofs.{Worlds.{made_clean, clean_either}, Steps.{steps_law, forgets_law}}
 
 pub step_law : (S : Type 0) → JoinStepLaw S
 step_law S m n look pass rows rows_now names names_now forgotten left right delta stands alike alike_now rows_lead names_lead changed is =

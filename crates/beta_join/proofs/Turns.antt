@@ -2,12 +2,10 @@
 use Rattle.beta_join.proofs.Common.{◌≡◌, ◌∙◌, sym, ap, refl, List, Bool, true, false, not, ◌&&◌, ◌||◌, Option, Some, None, eq_by_cmp, Pattern, Row, row_cmp}
 use Rattle.beta_join.proofs.Common.{has, name_cmp, Look, Memories, has_left, has_right, made, KeepsMemories, TurnedMemories, joins, unjoined, splits}
 use Rattle.beta_join.proofs.Common.{row_absent, row_present, name_absent, name_present, keeps_then, leads_alike, subst, ℕ, ◌+◌, ◌<◌, ◌≤◌, length, take, get_or}
-use Rattle.beta_join.proofs.Common.{[], has_name, any_name, sharing, take_all, NamesTurned}
-use Rattle.row_delta.specs.declared.row.Named.{Named}
-use Rattle.row_change.specs.{Changes.{LeadsRows, without, along}, declared.change.Change.{Change}}
-use Rattle.join_memory.{specs.Joined.{joined}, proofs.{Joining.{row_decides, name_decides, joined_alike}, Keeping.{made_after}}}
-use Rattle.join_memory.{specs.{declared.candidates.Candidates.{Candidates}, Handed.{moved}, Shared.{AreHanded}}, proofs.Handed.{next_may, moved_more}}
-use Rattle.join_memory.proofs.Handed.{moved_none, may_go, may_come, handed_joined}
+use Rattle.{beta_join.proofs.Common.{[], has_name, any_name, sharing, take_all, NamesTurned}, row_delta.specs.declared.row.Named.{Named}}
+use Rattle.{row_change.specs.{Changes.{LeadsRows, without, along}, declared.change.Change.{Change}}, join_memory.specs.Joined.{joined}}
+use Rattle.join_memory.{proofs.{Joining.{row_decides, name_decides, joined_alike}, Keeping.{made_after}}, specs.declared.candidates.Candidates.{Candidates}}
+use Rattle.join_memory.{specs.{Handed.{moved}, Shared.{AreHanded}}, proofs.Handed.{next_may, moved_more, moved_none, may_go, may_come, handed_joined}}
 use Rattle.fx_base.proofs.Tests.{and_or_and}
 
 splits_imply : (t u : Row → Named → Bool) (b : Bool) → ((l : Row) (c : Named) → t l c ≡ true → u l c ≡ b) → (o : Option (Row × Named)) → splits t o ≡ true → splits u o ≡ b

@@ -8,14 +8,11 @@ use Rattle.beta_node.proofs.Common.{nothing_gathered, arguments_gathered, IsBeyo
 use Rattle.beta_node.proofs.Common.{NameHeld, held, candidates_of, partners, held_all, values_gathered, lost_partners, IsAside, IsLost, IsExtraBeside}
 use Rattle.beta_node.proofs.Common.{AreExtrasBeside, FoldNode, Node, condition_of, CountsPartners, NodeStands, AllByRecursion, lost_passing, others_law}
 use Rattle.beta_node.proofs.Common.{length-rising, same_values, held_known, joining_alike, remembered_alike, partner_in, partners_once, blocker_tallies}
-use Rattle.beta_node.proofs.{Common.{tallied_pattern}, Folding.{distinct, named_where, partners_named}}
-use Rattle.rule_model.proofs.Named.{of_filter}
+use Rattle.{beta_node.proofs.{Common.{tallied_pattern}, Folding.{distinct, named_where, partners_named}}, rule_model.proofs.Named.{of_filter}}
 use Rattle.std.{specs.{declared.cmp.Ordering.TheVariants.{Less}, List.Sorted.{IsStrictlySortedBy}}, proofs.lemmas.List.{length-map}}
-use Rattle.fx_base.specs.declared.ids.RuleId.{RuleId}
-use Rattle.row_delta.specs.RowOrder.{same_equiv}
+use Rattle.{fx_base.specs.declared.ids.RuleId.{RuleId}, row_delta.specs.RowOrder.{same_equiv}}
 use Rattle.beta_node.specs.declared.node.Node.TheVariants as node
-use Rattle.beta_node.specs.Lending.{lent_to}
-use Rattle.join_memory.specs.{declared.candidates.Candidates.{Candidates}, Shared.{over, sharing}}
+use Rattle.{beta_node.specs.Lending.{lent_to}, join_memory.specs.{declared.candidates.Candidates.{Candidates}, Shared.{over, sharing}}}
 use Rattle.not_node.specs.Doors.{with_tallies}
 
 -- ---- extras in the order of their rows

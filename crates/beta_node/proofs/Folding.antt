@@ -5,9 +5,8 @@ use Rattle.beta_node.proofs.Common.{HaveDistinctTags, Holds, bound_in, Snapshot,
 use Rattle.beta_node.proofs.Common.{without_value, shows_value, name_decides, AreDistinct, result_for, tested, is_result, all_passing, shown, line, HasAllOf}
 use Rattle.beta_node.proofs.Common.{NameHeld, held, candidates_of, held_all, candidates_named, FoldNode, FoldsFor, filter, Decides-int_eq, result_of}
 use Rattle.beta_node.proofs.Common.{named_alike, gathered_shown, false_from_ne_true, results_hold, name_in, held_known, row_alike, and_implied, or_and_excluded}
-use Rattle.beta_node.proofs.Common.{or_and_implied, partner_in, partners_once, valued_clean}
-use Rattle.condition_rows.specs.{Lines.{is_result as is_given, gives}, Sets.{partners}}
-use Rattle.rule_model.specs.Candidates.{candidates}
+use Rattle.{beta_node.proofs.Common.{or_and_implied, partner_in, partners_once, valued_clean}, condition_rows.specs.Lines.{is_result as is_given, gives}}
+use Rattle.{condition_rows.specs.Sets.{partners}, rule_model.specs.Candidates.{candidates}}
 
 pub distinct : (names : List Named) → EachOnce names → AreDistinct names
 distinct [] once = tt

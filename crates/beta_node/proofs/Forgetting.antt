@@ -7,10 +7,8 @@ use Rattle.beta_node.proofs.Common.{Witnesses, TallyNode, NotNode, IsInStep, not
 use Rattle.beta_node.proofs.Common.{CountsPartners, NodeStands, Decides-eqb, drop_law, itself_facts, without_value_facts, dropped_none_due, and_parts}
 use Rattle.beta_node.proofs.Common.{held_known, joining_alike, awaited_entry, blocker_tallies, blocking_pattern, joined_pattern, reached_floor, tallied_pattern}
 use Rattle.beta_node.{proofs.{Common.{waiting_rows}, Folding.{fold_shown}, Shown.{join_shown, exists_shown, not_shown}}, specs.Forgetting.{ForgetsIn}}
-use Rattle.counting_node.proofs.Lawful.{forget_law as tally_forgets}
-use Rattle.std.specs.List.Sorted.{IsStrictlySortedBy}
-use Rattle.beta_join.proofs.Lawful.{forget_law as join_forgets}
-use Rattle.not_node.proofs.Lawful.{drop_law as not_drops}
+use Rattle.{counting_node.proofs.Lawful.{forget_law as tally_forgets}, std.specs.List.Sorted.{IsStrictlySortedBy}}
+use Rattle.{beta_join.proofs.Lawful.{forget_law as join_forgets}, not_node.proofs.Lawful.{drop_law as not_drops}}
 use Rattle.beta_node.specs.declared.node.Node.TheVariants as node
 
 -- what goes of the rows of a node was one of them

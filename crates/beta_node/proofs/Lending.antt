@@ -5,13 +5,10 @@ use Rattle.beta_node.proofs.Common.{left_at, made, row_naming, clean, cleaned, e
 use Rattle.beta_node.proofs.Common.{where_witnessed, result_for, without_value, shows_value, itself, shows_any, shown, NotNode, IsInStep, not_rows}
 use Rattle.beta_node.proofs.Common.{empty_snapshot, line, extra_for, FoldNode, Node, IsLoad, Laden, condition_of, NodeStands, IsConditionTurn, node_rows}
 use Rattle.beta_node.{proofs.Common.{blocker_tallies, reached_floor}, specs.{Forgetting.{ForgetsIn}, Lending.{with_candidates, NodeTakes, NodeForgoes}}}
-use Rattle.beta_node.specs.Lending.{HasCandidates, NodeHas}
-use Rattle.join_memory.specs.{declared.candidates.Candidates.{Candidates}, Shared.{sharing, ForgoesOld, TakesOver}}
-use Rattle.not_node.specs.Doors.{with_tallies}
+use Rattle.{beta_node.specs.Lending.{HasCandidates, NodeHas}, join_memory.specs.{declared.candidates.Candidates.{Candidates}, Shared.{sharing, ForgoesOld}}}
+use Rattle.{join_memory.specs.Shared.{TakesOver}, not_node.specs.Doors.{with_tallies}}
 use Rattle.beta_node.specs.declared.node.Node.TheVariants as node
-use Rattle.join_memory.proofs.Handed.{keeps_shared}
-use Rattle.counting_node.proofs.Turning.{shown_alike}
-use Rattle.row_change.proofs.Alike.{difference_alike}
+use Rattle.{join_memory.proofs.Handed.{keeps_shared}, counting_node.proofs.Turning.{shown_alike}, row_change.proofs.Alike.{difference_alike}}
 use Rattle.beta_node.proofs.{Forgetting.{Forgets, join_forgot, exists_forgot, not_forgot, fold_forgot}, Loading.{has_naming}}
 
 -- the nodes with these candidates

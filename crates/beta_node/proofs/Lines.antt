@@ -11,12 +11,9 @@ use Rattle.beta_node.proofs.Common.{witnesses_laden, gathered_laden, argument_gi
 use Rattle.beta_node.proofs.Common.{shows_any, output_some, output_from, offers, shown, same_values, NotNode, moment_at, not_rows, unblocked, mature}
 use Rattle.beta_node.proofs.Common.{row_mature, moment_alike, quiet_law, in_name, name_in, Node, condition_of, NodeStands, blocker_tallies, blocking_pattern}
 use Rattle.beta_node.proofs.{Common.{joined_pattern}, Folding.{fold_shown, partners_distinct, partners_held, partners_named}, Shown.{join_shown, exists_shown}}
-use Rattle.beta_node.proofs.{Shown.{not_shown}, Loading.{all_clean}}
-use Rattle.condition_rows.specs.{Lines.{is_ripe, is_result as is_given}, Sets.{has_partner}}
-use Rattle.join_memory.specs.Valued.{valued}
-use Rattle.laden_rows.specs.Laden.{laden_line, extra_values_of, laden_gives}
-use Rattle.fold_fn.{specs.{Laws.{HaveSame}, Results.{fold_result}}, proofs.Rising.{times-nil, times-cons, times-rising}}
-use Rattle.counting_node.proofs.Counting.{nobody, somebody}
+use Rattle.{beta_node.proofs.{Shown.{not_shown}, Loading.{all_clean}}, condition_rows.specs.{Lines.{is_ripe, is_result as is_given}, Sets.{has_partner}}}
+use Rattle.{join_memory.specs.Valued.{valued}, laden_rows.specs.Laden.{laden_line, extra_values_of, laden_gives}, fold_fn.specs.Laws.{HaveSame}}
+use Rattle.{fold_fn.{specs.Results.{fold_result}, proofs.Rising.{times-nil, times-cons, times-rising}}, counting_node.proofs.Counting.{nobody, somebody}}
 use Rattle.beta_node.specs.declared.node.Node.TheVariants as node
 
 -- ---- a node that stands

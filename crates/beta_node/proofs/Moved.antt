@@ -2,10 +2,8 @@
 use Rattle.beta_node.proofs.Common.{◌≡◌, ◌∙◌, ap, refl, subst, Bool, fun_ext, is_some, Named, Row, Pattern, Program, Snapshot, Look, joins, Memories, no_rows}
 use Rattle.beta_node.proofs.Common.{no_names, StandsFor, LooksAlike, counts_blockers, counts_witnesses, gathers, StandsCounted, empty_snapshot, HasAllOf}
 use Rattle.beta_node.proofs.Common.{NameHeld, Node, CountsPartners, NodeStands, start_law, looks_alike, blocker_tallies, joined_pattern}
-use Rattle.counting_node.proofs.Lawful.{move_law as tallies_move}
-use Rattle.join_memory.proofs.Moving.{move_law as memories_move}
-use Rattle.not_node.proofs.Lawful.{move_law as not_moves}
-use Rattle.condition_rows.specs.Sets.{held, candidates_of}
+use Rattle.{counting_node.proofs.Lawful.{move_law as tallies_move}, join_memory.proofs.Moving.{move_law as memories_move}}
+use Rattle.{not_node.proofs.Lawful.{move_law as not_moves}, condition_rows.specs.Sets.{held, candidates_of}}
 use Rattle.beta_node.specs.declared.node.Node.TheVariants as node
 
 -- ---- a new node

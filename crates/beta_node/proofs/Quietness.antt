@@ -2,8 +2,7 @@
 use Rattle.beta_node.proofs.Common.{◌≡◌, ℕ, ℤ, pos, ◌+ℤ◌, ◌-ℤ◌, ◌≤ℤ◌, ◌<ℤ◌, ◌^◌, int_lt, arith, true, false, Option, Some, None, IfSome, ints, clamps, Row}
 use Rattle.beta_node.proofs.Common.{Program, Snapshot, lateness_of, BetaJoin, Witnesses, TallyNode, NotNode, waits, FoldNode, at_clock, IsBefore, IsQuiet}
 use Rattle.beta_node.proofs.Common.{IsDue, clock_below_floor, floor_on, ≤ℤ_refl, int_lt-le, ≤ℤ_trans, awaited_entry, reached_floor, waiting_rows}
-use Rattle.beta_node.proofs.Staying.{join_stays, exists_stays, fold_stays, not_stays, not_ripens}
-use Rattle.rule_model.specs.Snapshots.{floor}
+use Rattle.{beta_node.proofs.Staying.{join_stays, exists_stays, fold_stays, not_stays, not_ripens}, rule_model.specs.Snapshots.{floor}}
 use Rattle.beta_node.specs.declared.node.Node.TheVariants as node
 
 least_low : (least c l : ℤ) → int_lt least (c -ℤ l) ≡ false → pos 0 ≤ℤ c → pos 0 ≤ℤ (least +ℤ l)

@@ -5,12 +5,8 @@ use Rattle.beta_node.proofs.Common.{cleaned, StandsFor, Witnesses, counts_blocke
 use Rattle.beta_node.proofs.Common.{NotNode, IsInStep, not_rows, waits, mature, line, HasAllOf, NameHeld, held, candidates_of, candidate_names}
 use Rattle.beta_node.proofs.Common.{candidates_named, CountsPartners, WaitsFor, witnesses_shown, quiet_law, waits_own, moment_at, not_law, row_mature}
 use Rattle.beta_node.proofs.Common.{moment_alike, held_known, row_alike, joining_alike, asked_first, awaited_entry, blocker_tallies, reached_floor}
-use Rattle.beta_node.proofs.Common.{waiting_rows, blocking_pattern}
-use Rattle.condition_rows.specs.{Lines.{is_ripe}, Sets.{has_partner}}
-use Rattle.std.proofs.Math.Bool.{and_assoc}
-use Rattle.rule_model.specs.Maturity.{is_mature}
-use Rattle.join_memory.proofs.Worlds.{made_clean}
-use Rattle.not_node.specs.Laws.{with_floor}
+use Rattle.{beta_node.proofs.Common.{waiting_rows, blocking_pattern}, condition_rows.specs.{Lines.{is_ripe}, Sets.{has_partner}}}
+use Rattle.{std.proofs.Math.Bool.{and_assoc}, rule_model.specs.Maturity.{is_mature}, join_memory.proofs.Worlds.{made_clean}, not_node.specs.Laws.{with_floor}}
 
 module _ (p : Program) (look : Look) (s : Snapshot) (rows : Row → Bool) (forgotten : Named → Bool) (known : HasAllOf look s forgotten) (named : NameHeld s rows) where
   pub join_shown : {T : Type 0} (m : Memories T) → StandsFor m look rows (candidates_of p m.pattern s) forgotten → (row : Row) → made m look row ≡ cleaned (line p s (Plain m.pattern) rows) forgotten row

@@ -4,8 +4,7 @@ use Rattle.beta_node.proofs.Common.{HaveDistinctTags, Snapshot, floor, Look, ver
 use Rattle.beta_node.proofs.Common.{counts_blockers, counts_witnesses, gathers, StandsCounted, NotNode, NoneDue, waits, line, HasAllOf, NameHeld, candidates_of}
 use Rattle.beta_node.proofs.Common.{FoldNode, Node, condition_of, CountsPartners, WaitsFor, FoldsFor, NodeStands, at_clock, awaited_entry, blocker_tallies}
 use Rattle.beta_node.proofs.{Common.{blocking_pattern, joined_pattern, reached_floor, tallied_pattern, waiting_rows}, Folding.{fold_shown}, Shown.{join_shown}}
-use Rattle.beta_node.proofs.Shown.{exists_shown, not_shown, not_early, not_ripe}
-use Rattle.condition_rows.specs.Sets.{held}
+use Rattle.{beta_node.proofs.Shown.{exists_shown, not_shown, not_early, not_ripe}, condition_rows.specs.Sets.{held}}
 use Rattle.beta_node.specs.declared.node.Node.TheVariants as node
 
 -- a snapshot holds the same versions at another clock

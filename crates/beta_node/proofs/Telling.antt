@@ -5,8 +5,7 @@ use Rattle.beta_node.proofs.Common.{counts_witnesses, where_witnessed, gathers, 
 use Rattle.beta_node.proofs.Common.{IsInStep, not_rows, later, line, FoldNode, Node, condition_of, CountsPartners, NodeStands, IsConditionTurn, ≤ℤ_trans}
 use Rattle.beta_node.proofs.{Common.{awaited_entry, blocker_tallies, reached_floor, tallied_pattern, joined_pattern, blocking_pattern}, Folding.{fold_shown}}
 use Rattle.beta_node.proofs.{Knowing.{blockers_ask, witnesses_ask, gathers_ask}, Shown.{join_shown, exists_shown, not_shown}, Turning.{stands_next}}
-use Rattle.beta_node.proofs.Turning.{counts_next, later_is, waits_on_time}
-use Rattle.row_change.proofs.Alike.{difference_alike}
+use Rattle.{beta_node.proofs.Turning.{counts_next, later_is, waits_on_time}, row_change.proofs.Alike.{difference_alike}}
 use Rattle.beta_node.specs.declared.node.Node.TheVariants as node
 
 -- from rows and candidates for which the one node stands it turns to the other, for each turn with these differences

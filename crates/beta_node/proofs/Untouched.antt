@@ -6,10 +6,10 @@ use Rattle.beta_node.proofs.Common.{condition_of, NodeStands, IsConditionTurn, I
 use Rattle.beta_node.{proofs.Common.{waiting_rows, changes_nothing}, specs.Lending.{with_candidates, NodeTakes}}
 use Rattle.join_memory.specs.{declared.candidates.Candidates.{Candidates}, Handed.{moved}, Shared.{sharing, TakesOver}}
 use Rattle.beta_node.specs.declared.node.Node.TheVariants as node
-use Rattle.join_memory.proofs.{Handed.{keeps_shared, handed_joined, moved_none}, Joining.{joined_alike}}
-use Rattle.counting_node.proofs.{Handing.{no_turn}, Turning.{shown_alike}}
-use Rattle.beta_node.proofs.{Folding.{fold_shown}, Knowing.{blockers_ask}, Lending.{join_with, exists_with, not_with, fold_with}, Shown.{join_shown}}
-use Rattle.beta_node.proofs.{Shown.{exists_shown, not_shown}, Still.{neither, same}, Telling.{join_turns, exists_turns, fold_turns}, Turning.{counts_next}}
+use Rattle.{join_memory.proofs.{Handed.{keeps_shared, handed_joined, moved_none}, Joining.{joined_alike}}, counting_node.proofs.Handing.{no_turn}}
+use Rattle.{counting_node.proofs.Turning.{shown_alike}, beta_node.proofs.{Folding.{fold_shown}, Knowing.{blockers_ask}, Lending.{join_with, exists_with}}}
+use Rattle.beta_node.proofs.{Lending.{not_with, fold_with}, Shown.{join_shown, exists_shown, not_shown}, Still.{neither, same}, Telling.{join_turns}}
+use Rattle.beta_node.proofs.{Telling.{exists_turns, fold_turns}, Turning.{counts_next}}
 
 module _ {S : Type 0} (m : Memories S) (was : Candidates) (look : Look) (left right : Delta) (takes : TakesOver m was look right [] []) where
   untouched_step : changes_nothing left ≡ true → IsStepped (sharing m was) m look left right

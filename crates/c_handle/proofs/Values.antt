@@ -2,26 +2,16 @@
 use Rattle.std.{proofs.{Common.{◌≡◌, ℕ, List, [], ◌∷◌, ◌++◌, refl, subst, lit<}, alloc.Calls.{Al, handle_tells}}, specs.Ptr.{points_to}}
 use Rattle.std.{specs.{declared.alloc.Allocator.{Ghosts}, Box.Ownership.{box_owns}}, proofs.{cell.Inside.{Good, one}, ResultValues.{and_tt}}}
 use Rattle.std.specs.{declared.option.Option.{Option, TheVariants.{None, Some}}, contracts.impls.GlobalAllocator.TheImpl.{ghosts}}
-use Rattle.std.proofs.GlobalToken.{dealloc_token-Testable}
+use Rattle.{std.proofs.GlobalToken.{dealloc_token-Testable}, c_handle.specs.Owned.{heap, owned_at}}
 use mathlib.Core.Bool.{true, ◌&&◌}
 use lib.Dec.{T}
 use seplogic.Ra.Ura.{Ura}
-use mir.Syntax.{Ty, Sym, impl, ty_ptr, ty_struct, tnil, tcons, dnil}
-use mir.Raw.{raw as bare}
-use mir.Val.{Val, vptr, vstruct, vcons, vnil, of_list, has_ty, WT}
-use base.Logic.{ent, guard, guard_i, via, never, never_e, fst∗, snd∗}
-use base.Fml.{Fml, ftrue}
+use mir.{Syntax.{Ty, Sym, impl, ty_ptr, ty_struct, tnil, tcons, dnil}, Raw.{raw as bare}, Val.{Val, vptr, vstruct, vcons, vnil, of_list, has_ty, WT}}
+use base.{Logic.{ent, guard, guard_i, via, never, never_e, fst∗, snd∗}, Fml.{Fml, ftrue}}
 use contract.Monad.{fact_use}
-use types.Logic.{Logic, sem}
-use types.Kit.{given, learn, use1, Item, Goal, Seq, Step, step, ‵, ◌$◌, move, drop, fsplit, fjoin, fpick, fpack, feq_i, feq_l}
-use denote.RattleType.{RattleType, Valss}
-use denote.Builtin.{RawPtr}
-use denote.Memory.{lone}
-use denote.RawPtr.{Ptr, block_ptr, null_ptr, ptr_val, in_a_block, Testable}
-use denote.Steps.{nothing}
-use denote.Param.{layout, Laws.{Laws}}
-use denote.Struct.{Struct.{within}, Owning.{shape}}
-use Rattle.c_handle.specs.Owned.{heap, owned_at}
+use types.{Logic.{Logic, sem}, Kit.{given, learn, use1, Item, Goal, Seq, Step, step, ‵, ◌$◌, move, drop, fsplit, fjoin, fpick, fpack, feq_i, feq_l}}
+use denote.{RattleType.{RattleType, Valss}, Builtin.{RawPtr}, Memory.{lone}, RawPtr.{Ptr, block_ptr, null_ptr, ptr_val, in_a_block, Testable}, Steps.{nothing}}
+use denote.{Param.{layout, Laws.{Laws}}, Struct.{Struct.{within}, Owning.{shape}}}
 use Rattle.c_handle.specs.contracts.held.Held as held
 use Rattle.c_handle.specs.contracts.loose.Loose as loose
 

@@ -2,10 +2,9 @@
 use Rattle.candidate_source.proofs.Common.{◌∙◌, ap, sym, refl, subst, ◌≡◌, ℕ, ◌+◌, ◌<◌, List, [], ◌∷◌, ◌++◌, length, Option, Some, None, Source, Look, is_under}
 use Rattle.candidate_source.specs.{declared.sources.Sources.{Sources}, Doors.{listed_source, node_count}, Reached.{IsUnreached}, Sources.{facts_of_type}}
 use Rattle.candidate_source.specs.Sources.{given_place, in_list, source_at, source_place, AreApart, AreLaidAs, AreLoadedWith, IsLoadedWith}
-use Rattle.candidate_source.proofs.Moving.{place_alike}
-use Rattle.std.{proofs.{Common.{Bor, ℤ, slice_get, arith, zero, suc, ◌⊎◌, inl, inr, length-append}, lemmas.Option.{slice_get_within}}, specs.Prelude.{IfSome}}
-use Rattle.std.specs.Global.{Vec}
-use Rattle.fx_base.{specs.declared.fact.Fact.{Fact}, proofs.Sequences.{get-append_left, get-below, get-last, get-none, one_value}}
+use Rattle.{candidate_source.proofs.Moving.{place_alike}, std.proofs.Common.{Bor, ℤ, slice_get, arith, zero, suc, ◌⊎◌, inl, inr, length-append}}
+use Rattle.{std.{proofs.lemmas.Option.{slice_get_within}, specs.{Prelude.{IfSome}, Global.{Vec}}}, fx_base.specs.declared.fact.Fact.{Fact}}
+use Rattle.fx_base.proofs.Sequences.{get-append_left, get-below, get-last, get-none, one_value}
 
 -- what stands in a list with one item more
 get_more : {A : Type 0} (xs : List A) (x y : A) (k : ℕ) → slice_get (xs ++ x ∷ []) k ≡ Some y → (slice_get xs k ≡ Some y) ⊎ ((k ≡ length xs) × (x ≡ y))

@@ -1,8 +1,7 @@
 -- Sources that lend one of them: what it is afterwards, and that they stay apart.
 use Rattle.candidate_source.{proofs.Common.{◌∙◌, ap, sym, refl, ◌≡◌, ℕ, Option, Some, None, Value, Source, is_under}, specs.declared.sources.Sources.{Sources}}
 use Rattle.candidate_source.specs.{Lending.{with_given, with_source}, Sources.{in_list, lead_of, source_at, source_place, AreApart}}
-use Rattle.candidate_source.proofs.Moving.{same_or_other}
-use Rattle.std.proofs.Common.{◌⊎◌, inl, inr, length-set, set, slice_get}
+use Rattle.{candidate_source.proofs.Moving.{same_or_other}, std.proofs.Common.{◌⊎◌, inl, inr, length-set, set, slice_get}}
 use Rattle.fx_base.proofs.Sequences.{get-set_other, get-set_same, one_value}
 
 module _ (old : Sources) (k : ℕ) (was is : Source) (there : source_at old k ≡ Some was) where

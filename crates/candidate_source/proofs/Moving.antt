@@ -3,10 +3,9 @@ use Rattle.candidate_source.proofs.Common.{◌∙◌, ap, sym, refl, subst, ◌�
 use Rattle.candidate_source.proofs.Common.{Some, None, option_map, eq_by_cmp, nat_cmp, BTreeMap, Value, JoinIndex, Handed, Source, has_place, is_under}
 use Rattle.candidate_source.{proofs.Common.{LeavesOthers}, specs.{declared.sources.Sources.{Sources}, Doors.{node_count}, Moving.{Step, HasMovedAt, HaveMoved}}}
 use Rattle.candidate_source.specs.{Moving.{IsStillAt}, Sources.{given_place, in_list, is_lead, is_led, is_this, lead_of, source_at, source_place, AreApart}}
-use Rattle.candidate_source.{specs.Sources.{AreLaidAs, AreReachedAs}, proofs.Places.{none_above}}
-use Rattle.std.{proofs.Common.{slice_get, arith, set, zero, suc, ◌⊎◌, inl, inr, length-set, eqb-true, MutBor}, specs.{List.{IsItemAtMut}, Global.{Vec}}}
-use Rattle.std.{proofs.lemmas.Option.{slice_get_within, slice_get-get_or}, specs.{List.Sorted.{IsStrictlySortedBy}, Prelude.{OnOk}}}
-use Rattle.std.specs.{declared.result.Result.{Result, TheVariants.{Ok, Err}}, Vec.{with_item}}
+use Rattle.{candidate_source.{specs.Sources.{AreLaidAs, AreReachedAs}, proofs.Places.{none_above}}, std.proofs.Common.{slice_get, arith, set, zero, suc, ◌⊎◌}}
+use Rattle.std.{proofs.{Common.{inl, inr, length-set, eqb-true, MutBor}, lemmas.Option.{slice_get_within, slice_get-get_or}}, specs.List.{IsItemAtMut}}
+use Rattle.std.specs.{Global.{Vec}, List.Sorted.{IsStrictlySortedBy}, Prelude.{OnOk}, declared.result.Result.{Result, TheVariants.{Ok, Err}}, Vec.{with_item}}
 use Rattle.fx_base.proofs.{Orders.{eqb-self, eq_by_nat_cmp-flip, eq_by_nat_cmp-self, eq_by_nat_cmp-true}, Tests.{or_first_false, or_second_false}}
 use Rattle.fx_base.proofs.Sequences.{get-below, get-set_other, get-set_same, one_value}
 

@@ -2,10 +2,10 @@
 use Rattle.candidate_source.proofs.Common.{◌∙◌, ap, sym, refl, ◌≡◌, ℕ, List, [], ◌∷◌, Bool, true, false, ◌&&◌, ◌||◌, not, Option, Some, None, is_some, list_any}
 use Rattle.candidate_source.proofs.Common.{eq_by_cmp, nat_cmp, Value, same_value, Pattern, bucket_at, JoinIndex, Sight, Look, Named, rows_sought, values_seen}
 use Rattle.candidate_source.proofs.Common.{SeesRows, has_place, is_under, is_under_one, is_sought, IsUnreached, BTreeMap, Handed, Turned, IsHandedTo}
-use Rattle.candidate_source.proofs.Behind.{handed_alike, handed_then}
-use Rattle.std.{proofs.lemmas.Map.Made.{is_some-lookup}, specs.{BTreeMap.{is_at}, List.{AllByRecursion, Sorted.{IsStrictlySortedBy}}, Map.{keys_of, lookup}}}
-use Rattle.std.specs.{Option.{option_and_then}, Prelude.{IfSome}, declared.cmp.Ordering.TheVariants.{Less}}
-use Rattle.fx_base.{proofs.Orders.{eq_by_nat_cmp-flip, eq_by_nat_cmp-true}, specs.SameValues.{equal_values}}
+use Rattle.{candidate_source.proofs.Behind.{handed_alike, handed_then}, std.{proofs.lemmas.Map.Made.{is_some-lookup}, specs.BTreeMap.{is_at}}}
+use Rattle.std.specs.{List.{AllByRecursion, Sorted.{IsStrictlySortedBy}}, Map.{keys_of, lookup}, Option.{option_and_then}, Prelude.{IfSome}}
+use Rattle.{std.specs.declared.cmp.Ordering.TheVariants.{Less}, fx_base.proofs.Orders.{eq_by_nat_cmp-flip, eq_by_nat_cmp-true}}
+use Rattle.fx_base.specs.SameValues.{equal_values}
 
 abbrev Reached : Type 0
 Reached = JoinIndex Value ℕ (Unit {0})

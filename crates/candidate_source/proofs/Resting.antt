@@ -4,12 +4,10 @@ use Rattle.candidate_source.proofs.Common.{None, BTreeMap, Delta, Named, nat_cmp
 use Rattle.candidate_source.{proofs.Common.{false≢true}, specs.{declared.sources.Sources.{Sources}, Handed.{given_gone, given_come, IsUnhanded}}}
 use Rattle.candidate_source.specs.{Moving.{HaveMoved, TurnStep}, Sources.{handed_gone, handed_come, in_list, is_lead, is_led, is_this, lead_of, source_at}}
 use Rattle.candidate_source.specs.Sources.{source_place, AreApart, AreOthersAtRest, HasTurnedAt, HaveForgotten, HaveLeftAt, HaveTurned, IsAtRest}
-use Rattle.candidate_source.proofs.{Sharing.{left_at, turned_at}, Turning.{none_once}}
-use Rattle.std.{proofs.{Common.{ℤ, slice_get}, lemmas.Map.Made.{is_some-lookup}}, specs.{BTreeMap.{get, is_at}, Map.{keys_of, lookup}}}
-use Rattle.fx_base.{specs.declared.fact.Fact.{Fact}, proofs.{Orders.{eqb-self, eq_by_nat_cmp-flip}, Sequences.{one_value, is_some-false}}}
-use Rattle.rule_model.specs.{declared.program.Program.{Program}, Snapshots.{Snapshot}}
-use Rattle.condition_rows.specs.Sets.{candidates_of}
-use Rattle.pattern_gate.specs.{Moves.{MovesSnapshot}, Gates.{GateStands}}
+use Rattle.{candidate_source.proofs.{Sharing.{left_at, turned_at}, Turning.{none_once}}, std.proofs.{Common.{ℤ, slice_get}, lemmas.Map.Made.{is_some-lookup}}}
+use Rattle.{std.specs.{BTreeMap.{get, is_at}, Map.{keys_of, lookup}}, fx_base.{specs.declared.fact.Fact.{Fact}, proofs.Orders.{eqb-self, eq_by_nat_cmp-flip}}}
+use Rattle.{fx_base.proofs.Sequences.{one_value, is_some-false}, rule_model.specs.{declared.program.Program.{Program}, Snapshots.{Snapshot}}}
+use Rattle.{condition_rows.specs.Sets.{candidates_of}, pattern_gate.specs.{Moves.{MovesSnapshot}, Gates.{GateStands}}}
 
 -- no candidate
 abbrev none : Delta

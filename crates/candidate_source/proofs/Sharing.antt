@@ -4,8 +4,7 @@ use Rattle.candidate_source.proofs.Common.{Delta, Named, Row, name_cmp, has, Pat
 use Rattle.candidate_source.proofs.Common.{has_candidate, row_naming, has_name, has_left, has_right, sharing, KeepsAlike, KeepsNames, NamesAgree, TakesOver}
 use Rattle.candidate_source.proofs.Common.{ForgoesOld, BTreeMap, Handed, Source, gone_at, come_at, is_under_one, IsReached, concerns, AreOnce, HasTurned}
 use Rattle.candidate_source.{proofs.Common.{HaveLeft, TurnLaw, ForgetLaw}, specs.{Handed.{IsUnhanded}, Reached.{FindsLeft}, Sources.{HasTurnedAt, HaveLeftAt}}}
-use Rattle.candidate_source.{specs.Sources.{TurnAtLaw, ForgetAtLaw}, proofs.Places.{under_among}}
-use Rattle.fx_base.proofs.Tests.{and_first}
+use Rattle.{candidate_source.{specs.Sources.{TurnAtLaw, ForgetAtLaw}, proofs.Places.{under_among}}, fx_base.proofs.Tests.{and_first}}
 use Rattle.join_tests.{proofs.{Meeting.{row_sought}, Naming.{kept_alike, sought_alike}}, specs.NameKeys.{name_key}}
 use Rattle.rule_model.specs.{declared.program.Program.{Program}, Snapshots.{Snapshot}}
 

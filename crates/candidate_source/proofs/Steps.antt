@@ -3,11 +3,8 @@ use Rattle.candidate_source.proofs.Common.{◌∙◌, ap, sym, subst, ◌≡◌,
 use Rattle.candidate_source.proofs.Common.{same_value, Delta, Named, name_cmp, has, Pattern, JoinIndex, at, is_under, Look, rows_sought, Candidates}
 use Rattle.candidate_source.proofs.Common.{has_candidate, row_naming, has_name, KeepsNames, NamesAgree, Handed, Source, gone_at, come_at, is_under_one}
 use Rattle.candidate_source.proofs.{Common.{concerns, AreOnce, LeavesOthers, HaveLeft, HaveCome, HasTurned}, Turning.{once_alike}}
-use Rattle.std.proofs.Math.Bool.{and-true}
-use Rattle.fx_base.proofs.Tests.{and_where}
-use Rattle.rule_model.specs.{declared.program.Program.{Program}, Snapshots.{Snapshot}}
-use Rattle.join_memory.specs.{Inputs.{IsNameDifference}, Standing.{no_names}}
-use Rattle.condition_rows.specs.Sets.{candidates_of}
+use Rattle.{std.proofs.Math.Bool.{and-true}, fx_base.proofs.Tests.{and_where}, rule_model.specs.{declared.program.Program.{Program}, Snapshots.{Snapshot}}}
+use Rattle.{join_memory.specs.{Inputs.{IsNameDifference}, Standing.{no_names}}, condition_rows.specs.Sets.{candidates_of}}
 use Rattle.pattern_gate.specs.{declared.gate.PatternGate.{PatternGate}, Gates.{GateStands}}
 
 -- what comes does not go, in a true difference

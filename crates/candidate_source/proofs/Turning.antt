@@ -4,8 +4,7 @@ use Rattle.candidate_source.proofs.Common.{◌&&◌, ◌||◌, Option, is_some, 
 use Rattle.candidate_source.proofs.Common.{name_equiv, any_name, rows_sought, SeesRows, Candidates, has_candidate, has_name, AreDistinct, KeepsNames, Handed}
 use Rattle.candidate_source.proofs.Common.{Turned, Gone, Came, Source, gone_at, come_at, IsHandedTo, is_under_one, is_sought, concerns, AreOnce, LeavesOthers}
 use Rattle.candidate_source.proofs.{Common.{HaveLeft, HaveCome, went, came}, Behind.{none_behind}, Places.{sought_by, unreached_sought}}
-use Rattle.std.{specs.Prelude.{IfSome}, proofs.lemmas.List.Folds.{list_any-append}}
-use Rattle.fx_base.proofs.Tests.{and_first, or_first_false, or_second_false}
+use Rattle.{std.{specs.Prelude.{IfSome}, proofs.lemmas.List.Folds.{list_any-append}}, fx_base.proofs.Tests.{and_first, or_first_false, or_second_false}}
 use Rattle.join_memory.proofs.{Joining.{name_decides}, Sharing.{went_more, less_none, more_none}, Turning.{less_more, more_more}}
 
 -- ---- lists of candidates, each once

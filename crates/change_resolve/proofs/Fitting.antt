@@ -4,11 +4,9 @@ use Rattle.change_resolve.proofs.Common.{Result, Ok, Err, refl, subst, lt-ltb, a
 use Rattle.change_resolve.proofs.Common.{insert_step, sets_step, modify_step, retract_step, promise_step, are_fields, are_some_fields, given_under, value_given}
 use Rattle.change_resolve.proofs.Common.{field_value, field_named, set_for, list_all, option_and_then, FactId, Value, EventFixed, ReferenceFixed, Absent}
 use Rattle.change_resolve.proofs.{Common.{BadFields, Given}, Places.{some_is, stands, type_stands, entry_within, FieldAt, field_stands}}
-use Rattle.change_resolve.specs.{Changes.{change_step}, Fields.{values_given, sets_given}}
-use Rattle.std.proofs.{Common.{Bool as Truth}, lemmas.Bool.Decides.{Decides-eqb}}
-use Rattle.fx_base.specs.declared.fact.Fact.{Fact}
-use Rattle.rule_world.specs.{Kinds.{has_kind, have_kinds, set_fits, step_fits}, declared.code.Code.{Code}}
-use Rattle.rule_model.specs.declared.{program.Program.{Program}, step.Step.{Step}}
+use Rattle.{change_resolve.specs.{Changes.{change_step}, Fields.{values_given, sets_given}}, std.proofs.Common.{Bool as Truth}}
+use Rattle.{std.proofs.lemmas.Bool.Decides.{Decides-eqb}, fx_base.specs.declared.fact.Fact.{Fact}, rule_world.specs.Kinds.{has_kind, have_kinds, set_fits}}
+use Rattle.{rule_world.specs.{Kinds.{step_fits}, declared.code.Code.{Code}}, rule_model.specs.declared.{program.Program.{Program}, step.Step.{Step}}}
 use Rattle.script_read.specs.declared.asked.Change.{Change, TheVariants.{Insert, Modify, Retract, Advance, At, Promise, Begin}}
 use Rattle.fx_base.specs.declared.kind.Kind.TheVariants as kind
 use Rattle.rule_model.specs.declared.step.Step.TheVariants as step

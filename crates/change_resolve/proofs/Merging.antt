@@ -7,8 +7,7 @@ use Rattle.change_resolve.proofs.Common.{IsAllAdjacentAnswer, list_all, nat_cmp,
 use Rattle.change_resolve.{proofs.Common.{name_cmp, IsRising, earlier_of, fields_of}, specs.Fields.{given_under, field_named, sets_given}}
 use Rattle.std.proofs.{Math.{Nat.{eq-or-lt_of_le}, Bool.{and-false, and-true}}, lemmas.{Bool.{cases_lt}, Cmp.{nat_list_eq_equiv}, Map.Keys.{Less-from_sorted}}}
 use Rattle.std.{proofs.lemmas.Map.{Keys.{sorted_from_all_adjacent}, Text.{is_eq-slice_cmp}}, specs.List.Sorted.{IsStrictlySortedBy, IsNonDecreasingBy}}
-use Rattle.std.specs.{List.Sorted.{IsPartitionPoint}, declared.cmp.Ordering.TheVariants.{Less, Equal, Greater}}
-use Rattle.fx_base.proofs.Sequences.{drop_at, drop_past}
+use Rattle.{std.specs.{List.Sorted.{IsPartitionPoint}, declared.cmp.Ordering.TheVariants.{Less, Equal, Greater}}, fx_base.proofs.Sequences.{drop_at, drop_past}}
 use Rattle.script_read.{specs.declared.given.Given.TheVariants.{Other}, proofs.Rising.{names_total, less_of, parted as in_parts}}
 
 abbrev pub Member : Type 0

@@ -2,11 +2,9 @@
 use Rattle.change_rules.proofs.Common.{Option, Program, Some, TypeInfo, List, [], ap, arith, cases_lt, get_or, inl, inr, length, subst, sym, true, type_named}
 use Rattle.change_rules.{proofs.Common.{ℕ, ◌+◌, ◌<◌, ◌∙◌, ◌∷◌, ◌≡◌}, specs.Checked.{AreFirstEntries, AreFirstTypes, HaveConditionPlaces}}
 use Rattle.std.proofs.{Common.{Bool, cond, false, option_map, refl, slice_get, suc, zero}, lemmas.{Option.{get_or_from_slice_get}, Slice.Eq.{bytes_eq-Decides}}}
-use Rattle.std.specs.Str.{bytes_eq}
-use Rattle.change_resolve.{specs.Changes.{entry_named}, proofs.Places.{some_is}}
-use Rattle.fx_base.proofs.Sequences.{In-place}
-use Rattle.rule_change.{proofs.Places.{type_back}, specs.Alike.{HaveNames, HavePlaces}}
-use Rattle.rule_model.{proofs.RuleOf.{in_place}, specs.declared.program.{EntryInfo.{EntryInfo}, Rule.{Rule}}}
+use Rattle.{std.specs.Str.{bytes_eq}, change_resolve.{specs.Changes.{entry_named}, proofs.Places.{some_is}}, fx_base.proofs.Sequences.{In-place}}
+use Rattle.{rule_change.{proofs.Places.{type_back}, specs.Alike.{HaveNames, HavePlaces}}, rule_model.proofs.RuleOf.{in_place}}
+use Rattle.rule_model.specs.declared.program.{EntryInfo.{EntryInfo}, Rule.{Rule}}
 
 one_place : (a b : ℕ) (found : Option ℕ) → found ≡ Some a → found ≡ Some b → a ≡ b
 one_place a b found e h = let both : Some a ≡ Some b = sym e ∙ h in cc

@@ -1,9 +1,7 @@
 -- The carried table, made life by life.
 use Rattle.change_rules.proofs.Common.{Life, LifeTable, List, TypeInfo, [], ap, ap₂, arith, cases_lt, drop, get_or, inl, inr, length, refl, sym, type_named, ℕ}
-use Rattle.change_rules.proofs.Common.{◌++◌, ◌+◌, ◌<◌, ◌∙◌, ◌∷◌, ◌≡◌, ◌≤◌}
-use Rattle.fx_base.proofs.Sequences.{drop_at, drop_past}
-use Rattle.rule_change.specs.Changed.{carried_life, carried_lives}
-use Rattle.std.proofs.{Common.{append-nil, append_assoc, min}, lemmas.List.{get_or_default}}
+use Rattle.{change_rules.proofs.Common.{◌++◌, ◌+◌, ◌<◌, ◌∙◌, ◌∷◌, ◌≡◌, ◌≤◌}, fx_base.proofs.Sequences.{drop_at, drop_past}}
+use Rattle.{rule_change.specs.Changed.{carried_life, carried_lives}, std.proofs.{Common.{append-nil, append_assoc, min}, lemmas.List.{get_or_default}}}
 
 module _ (old : List TypeInfo) (table : LifeTable) (types : List TypeInfo) (own lives : List Life) (place : ℕ) where
   abbrev rest : ℕ → List Life

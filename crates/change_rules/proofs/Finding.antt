@@ -1,9 +1,7 @@
 -- The places of the old rules that stay, found one after the other.
 use Rattle.change_rules.proofs.Common.{IsFirstFree, IsThere, List, None, Option, Program, Rule, Some, [], ap, arith, cases_lt, get_or, inl, inr, is_place}
 use Rattle.change_rules.proofs.Common.{length, length-append, list_any, place_in, refl, slice_get_within, subst, sym, true, ℕ, ◌++◌, ◌+◌, ◌<◌, ◌∙◌, ◌∷◌, ◌≡◌}
-use Rattle.change_resolve.proofs.Places.{some_is}
-use Rattle.rule_change.specs.Changed.{AreFrom, IsSameRule, moved_rule}
-use Rattle.rule_model.proofs.Firsts.{or_split}
+use Rattle.{change_resolve.proofs.Places.{some_is}, rule_change.specs.Changed.{AreFrom, IsSameRule, moved_rule}, rule_model.proofs.Firsts.{or_split}}
 use Rattle.std.proofs.{Common.{Bool, false, suc, zero, ◌||◌, ◌⊎◌}, Math.Nat.{eq-or-lt_of_le}, lemmas.{Bool.{eq-eqb, eqb-true}, Option.{get_or_from_slice_get}}}
 use Rattle.std.specs.Prelude.{slice_get}
 

@@ -2,13 +2,12 @@
 use Rattle.change_rules.proofs.Common.{Life, LifeTable, List, None, Option, Program, Some, TypeInfo, [], ap, ap₂, arith, cases_lt, drop, get_or, inl, inr}
 use Rattle.change_rules.{proofs.Common.{length, refl, sym, true, type_named, ℕ, ◌++◌, ◌+◌, ◌<◌, ◌∙◌, ◌∷◌, ◌≡◌, ◌≤◌}, specs.AsLong.{are_lives_as_long}}
 use Rattle.change_rules.specs.{AsLong.{is_life_as_long}, Longest.{LongestIsAsLong, LongestIsLongEnough, longer_life, longer_or_own, longest, longest_life}}
-use Rattle.change_rules.specs.Longest.{longest_lives}
-use Rattle.change_resolve.proofs.Places.{some_is}
-use Rattle.fx_base.proofs.{Orders.{int_eq-self, int_lt-false, int_lt-flip, le-int_le}, Sequences.{drop_at, drop_past}}
-use Rattle.rule_change.{proofs.Places.{type_back, type_found}, specs.{Alike.{HaveNames}, Changed.{carried_life, carried_lives, life_or}, Refused.{is_longer}}}
-use Rattle.rule_model.specs.{Lives.{AreShort, IsShortLife}, declared.life.Life.TheVariants.{Plain, Explicit, Finite, Infinite}}
-use Rattle.std.proofs.{Common.{append-nil, append_assoc, min, Bool, false, suc, zero, cond, ◌&&◌, ◌^◌, ◌≤ℤ◌, ℤ, int_le, int_lt, pos}, lemmas.Bool.{and_from}}
-use Rattle.std.{proofs.lemmas.{Int.{ints}, List.{get_or_default}}, specs.{Int.Signed.{≤ℤ_refl}, Prelude.{slice_get}}}
+use Rattle.{change_rules.specs.Longest.{longest_lives}, change_resolve.proofs.Places.{some_is}, fx_base.proofs.Orders.{int_eq-self, int_lt-false, int_lt-flip}}
+use Rattle.{fx_base.proofs.{Orders.{le-int_le}, Sequences.{drop_at, drop_past}}, rule_change.{proofs.Places.{type_back, type_found}, specs.Alike.{HaveNames}}}
+use Rattle.{rule_change.specs.{Changed.{carried_life, carried_lives, life_or}, Refused.{is_longer}}, rule_model.specs.Lives.{AreShort, IsShortLife}}
+use Rattle.{rule_model.specs.declared.life.Life.TheVariants.{Plain, Explicit, Finite, Infinite}, std.proofs.Common.{append-nil, append_assoc, min, Bool, false}}
+use Rattle.std.proofs.{Common.{suc, zero, cond, ◌&&◌, ◌^◌, ◌≤ℤ◌, ℤ, int_le, int_lt, pos}, lemmas.{Bool.{and_from}, Int.{ints}, List.{get_or_default}}}
+use Rattle.std.specs.{Int.Signed.{≤ℤ_refl}, Prelude.{slice_get}}
 
 -- ---- life by life
 

@@ -1,11 +1,10 @@
 -- Lives that are as long as others.
 use Rattle.change_rules.proofs.Common.{Life, List, Program, Some, [], ap, ap₂, drop, get_or, length, refl, sym, true, ℕ, ◌+◌, ◌<◌, ◌∙◌, ◌∷◌, ◌≡◌, ◌≤◌}
-use Rattle.change_rules.specs.AsLong.{AsLongIsSafe, are_lives_as_long, is_life_as_long}
-use Rattle.change_resolve.proofs.Places.{some_is}
-use Rattle.fx_base.proofs.{Orders.{int_eq-true, int_le-true, ≤ℤ_trans}, Sequences.{drop_at, drop_past}}
-use Rattle.std.{proofs.{Common.{Bool, false, suc, zero, ◌&&◌, ◌^◌, int_le, pos}, lemmas.{Bool.{and_parts}, List.{get_or_default}}}, specs.Prelude.{slice_get}}
-use Rattle.life_meaning.specs.Tables.{IsLifeOf, IsSafeLife}
-use Rattle.rule_model.specs.{Lives.{IsShortLife}, declared.life.Life.TheVariants.{Plain, Explicit, Finite, Infinite}}
+use Rattle.{change_rules.specs.AsLong.{AsLongIsSafe, are_lives_as_long, is_life_as_long}, change_resolve.proofs.Places.{some_is}}
+use Rattle.{fx_base.proofs.{Orders.{int_eq-true, int_le-true, ≤ℤ_trans}, Sequences.{drop_at, drop_past}}, std.proofs.Common.{Bool, false, suc, zero, ◌&&◌, ◌^◌}}
+use Rattle.std.{proofs.{Common.{int_le, pos}, lemmas.{Bool.{and_parts}, List.{get_or_default}}}, specs.Prelude.{slice_get}}
+use Rattle.{life_meaning.specs.Tables.{IsLifeOf, IsSafeLife}, rule_model.specs.{Lives.{IsShortLife}, declared.life.Life.TheVariants.{Plain, Explicit, Finite}}}
+use Rattle.rule_model.specs.declared.life.Life.TheVariants.{Infinite}
 
 -- ---- one life
 

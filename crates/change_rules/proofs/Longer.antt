@@ -1,9 +1,7 @@
 -- What the lives say of other rules.
 use Rattle.change_rules.proofs.Common.{IsLongerAt, Life, LifeTable, List, None, Option, Program, Some, TypeInfo, [], ap, arith, length, refl, slice_get_within}
-use Rattle.change_rules.{proofs.Common.{sym, type_named, ℕ, ◌<◌, ◌∙◌, ◌∷◌, ◌≡◌, ◌≤◌}, specs.Judged.{IsFirstType}}
-use Rattle.fx_base.specs.declared.ids.TypeId.{TypeId}
-use Rattle.rule_change.specs.{Changed.{carried, carried_lives, type_in}, Refused.{IsLonger}}
-use Rattle.std.specs.{Option.{option_and_then}, Prelude.{slice_get}}
+use Rattle.{change_rules.{proofs.Common.{sym, type_named, ℕ, ◌<◌, ◌∙◌, ◌∷◌, ◌≡◌, ◌≤◌}, specs.Judged.{IsFirstType}}, fx_base.specs.declared.ids.TypeId.{TypeId}}
+use Rattle.{rule_change.specs.{Changed.{carried, carried_lives, type_in}, Refused.{IsLonger}}, std.specs.{Option.{option_and_then}, Prelude.{slice_get}}}
 
 -- a type that is found by its place stands there
 pub type_within : (p q : Program) (ty : ℕ) (there : ℕ × TypeInfo) → type_in q p ty ≡ Some there → ty < length q.types

@@ -1,10 +1,9 @@
 -- What is told of the rules, one behind the other.
 use Rattle.change_rules.proofs.Common.{List, None, Option, Program, Rule, [], ap, ap₂, arith, drop, get_or, is_place, length, list_any, place_in, refl, sym}
 use Rattle.change_rules.{proofs.Common.{take, true, ℕ, ◌++◌, ◌+◌, ◌<◌, ◌∙◌, ◌∷◌, ◌≡◌, ◌≤◌}, specs.Told.{all_told, was_told, with_told}}
-use Rattle.fx_base.proofs.Sequences.{drop_at, drop_past}
-use Rattle.rule_change.specs.Told.{ToldRule, each_once, gone_told, is_same_told, new_told, places_from, rules_told, status_of}
-use Rattle.rule_change.specs.declared.code.RuleStatus.TheVariants.{Gone}
-use Rattle.std.proofs.Common.{Bool, append-nil, append_assoc, cond, false, min, suc, zero, ◌||◌}
+use Rattle.{fx_base.proofs.Sequences.{drop_at, drop_past}, rule_change.specs.Told.{ToldRule, each_once, gone_told, is_same_told, new_told, places_from}}
+use Rattle.{rule_change.specs.{Told.{rules_told, status_of}, declared.code.RuleStatus.TheVariants.{Gone}}, std.proofs.Common.{Bool, append-nil, append_assoc}}
+use Rattle.std.proofs.Common.{cond, false, min, suc, zero, ◌||◌}
 
 -- ---- each once
 

@@ -5,8 +5,7 @@ use Rattle.checkpoint.proofs.Common.{byte_len, from_be_bytes, to_be_bytes, cast_
 use Rattle.checkpoint.proofs.Common.{take-append-drop, length-append, length-take, get_or-take, get_or_past, be_bytes_2, be_bytes_8}
 use Rattle.checkpoint.proofs.Common.{from_be_bytes-to_be_bytes_2, from_be_bytes-to_be_bytes_8, byte_bytes, short_bytes, long_bytes, signed_bytes, flag_bytes}
 use Rattle.checkpoint.proofs.Common.{IsByte, FitsShort, FitsLong, IsSigned, IsFlag, ◌>>=◌, ReadBytes, byte_at, read_number, both_at, made_at}
-use Rattle.checkpoint.specs.Reading.{signed_at, flag_at}
-use Rattle.std.proofs.lemmas.Int.{to_z-of_z, of_z-to_z, ints}
+use Rattle.{checkpoint.specs.Reading.{signed_at, flag_at}, std.proofs.lemmas.Int.{to_z-of_z, of_z-to_z, ints}}
 
 -- ---- bytes
 

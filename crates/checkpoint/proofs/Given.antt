@@ -2,8 +2,7 @@
 use Rattle.checkpoint.proofs.Common.{◌≡◌, ℕ, suc, ◌+◌, ◌<◌, List, [], ◌∷◌, ◌++◌, length, get_or, drop, Bor, append_assoc, drop_more, refl, sym, ap, subst, ◌∙◌}
 use Rattle.checkpoint.proofs.Common.{each_bytes, Each, long_bytes, list_bytes, fact_bytes, AreAll, IsFact, FitsLong, codes, extra_bytes, fired_bytes}
 use Rattle.checkpoint.{proofs.Common.{flag_bytes, run_bytes, signed_bytes}, specs.{Bytes.{image_bytes, IsImage}, Pieces.{AreNumbers, bytes_at, fit_at}}}
-use Rattle.checkpoint.specs.{Pieces.{number_bytes, whole}, declared.pieces.{LentImage.{LentImage}, Next.TheVariants.{Facts}}}
-use Rattle.std.specs.Prelude.{map}
+use Rattle.{checkpoint.specs.{Pieces.{number_bytes, whole}, declared.pieces.{LentImage.{LentImage}, Next.TheVariants.{Facts}}}, std.specs.Prelude.{map}}
 use Rattle.fx_base.specs.declared.fact.Fact.{Fact}
 
 -- ---- facts that are lent

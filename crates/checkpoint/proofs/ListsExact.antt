@@ -4,8 +4,8 @@ use Rattle.checkpoint.proofs.Common.{Some, None, option_map, Result, Ok, Err, Bo
 use Rattle.checkpoint.proofs.Common.{ltb-false, le-ltb, take_at, drop_at, take-append-drop, length-append, length-take, le-div, is_utf8-from_IsUtf8}
 use Rattle.checkpoint.proofs.Common.{IsUtf8-from_is_utf8, long_bytes, string_bytes, each_bytes, list_bytes, IsByte, FitsLong, IsImageText, Each, AreAll}
 use Rattle.checkpoint.{proofs.Common.{AreBytes, ◌>>=◌, ReadBytes, read_number}, specs.Reading.{string_at, utf8_text, read_text, read_items, list_at}}
-use Rattle.checkpoint.proofs.Exact.{AreOctets, behind, bind_some, guard_some, some_is, Exact, long_exact}
-use Rattle.std.specs.{Result.{result_ok}, Str.{is_utf8, IsUtf8}}
+use Rattle.{checkpoint.proofs.Exact.{AreOctets, behind, bind_some, guard_some, some_is, Exact, long_exact}, std.specs.{Result.{result_ok}, Str.{is_utf8}}}
+use Rattle.std.specs.Str.{IsUtf8}
 
 -- ---- strings
 

@@ -1,11 +1,9 @@
 -- The rows of conditions with one more at the end, by the tuples of the conditions before it.
 use Rattle.condition_rows.proofs.Common.{◌≡◌, sym, refl, subst, inl, inr, List, [], ◌∷◌, ◌++◌, true, false, list_any, In, Named, Row, name_equiv, name_cmp}
 use Rattle.condition_rows.proofs.Common.{name_exact, Condition, Program, extended, tuples, Snapshot, Tuple, empty_tuple, row_of, in_map, of_map, in_flat_map}
-use Rattle.condition_rows.proofs.Common.{of_flat_map, has_name, rows_of, or_left, or_right}
-use Rattle.rule_model.{specs.Rows.{rows}, proofs.Firsts.{or_split}}
+use Rattle.{condition_rows.proofs.Common.{of_flat_map, has_name, rows_of, or_left, or_right}, rule_model.{specs.Rows.{rows}, proofs.Firsts.{or_split}}}
 use Rattle.std.{specs.{Ordering.{eq_by_cmp}, declared.cmp.Ordering.{Ordering}}, proofs.lemmas.Map.{Views.{tells_apart}, Lookups.{CmpEqualImpliesEq}}}
-use Rattle.std.specs.Cmp.{IsEquivalence}
-use Rattle.row_delta.specs.{Rows.{row_cmp, has}, RowOrder.{same_equiv, row_exact}}
+use Rattle.{std.specs.Cmp.{IsEquivalence}, row_delta.specs.{Rows.{row_cmp, has}, RowOrder.{same_equiv, row_exact}}}
 
 -- what is asked by an exact order stands in the list
 module _ {K : Type 0} (R : K → K → Ordering) (laws : IsEquivalence (eq_by_cmp R)) (exact : CmpEqualImpliesEq R) where

@@ -2,9 +2,7 @@
 use Rattle.condition_rows.proofs.Common.{◌≡◌, ◌∙◌, sym, ap, refl, subst, ℕ, ◌==◌, inl, inr, List, [], ◌∷◌, map, Bool, true, false, cond, Option, Some, None, In}
 use Rattle.condition_rows.proofs.Common.{Fact, name_equiv, Named, Pattern, passes, HaveDistinctTags, Holds, tuple_of, Snapshot, Tuple, name_of, row_of, in_map}
 use Rattle.condition_rows.proofs.Common.{version_at, versions_at, Look, is_named_version, tuple_at, passes_given, find, option_map, option_and_then, eq-eqb}
-use Rattle.condition_rows.{proofs.Common.{eqb-true, version_is}, specs.Sets.{held}}
-use Rattle.join_tests.specs.Joins.{joins}
-use Rattle.fx_base.specs.declared.ids.Tag.{Tag}
+use Rattle.{condition_rows.{proofs.Common.{eqb-true, version_is}, specs.Sets.{held}}, join_tests.specs.Joins.{joins}, fx_base.specs.declared.ids.Tag.{Tag}}
 
 abbrev tag_of : ℕ → Tag
 tag_of n = record { 0 = n }

@@ -4,9 +4,8 @@ use Rattle.condition_rows.proofs.Common.{Condition, Plain, Pattern, Program, is_
 use Rattle.condition_rows.proofs.Common.{Tuple, empty_tuple, name_of, row_of, with_fact, in_map, of_map, of_filter, of_passing, made_of, version_at, joins}
 use Rattle.condition_rows.proofs.Common.{has_name, with_name, joined, rows_of, held, is_candidate_given, candidate_names, line, map-append, and_from, and_parts}
 use Rattle.condition_rows.{proofs.{Common.{same_test}, Holding.{version_of, joins_of_tuple, held_fact, held_all, version_in}}, specs.Sets.{candidates_of}}
-use Rattle.condition_rows.proofs.Ends.{in_name, name_in, IsMade, tuple_of_row, row_of_tuple, split_end, with_end}
-use Rattle.join_memory.proofs.Joining.{joined_with, joined_from}
-use Rattle.rule_model.proofs.{Grown.{tuples_grow}, Order.{in_filter, passed}}
+use Rattle.{condition_rows.proofs.Ends.{in_name, name_in, IsMade, tuple_of_row, row_of_tuple, split_end, with_end}, join_memory.proofs.Joining.{joined_with}}
+use Rattle.{join_memory.proofs.Joining.{joined_from}, rule_model.proofs.{Grown.{tuples_grow}, Order.{in_filter, passed}}}
 
 abbrev named : List Named → Tuple → Row
 named facts t = record { facts = facts; values = t.values }

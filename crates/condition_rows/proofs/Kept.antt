@@ -4,8 +4,8 @@ use Rattle.condition_rows.proofs.Common.{filter, list_any, In, Row, Condition, N
 use Rattle.condition_rows.proofs.Common.{HaveDistinctTags, extended, Snapshot, floor, Tuple, Bindings, empty_tuple, name_of, row_of, bound_by, in_if, of_if}
 use Rattle.condition_rows.proofs.Common.{in_unless, of_unless, not_empty, of_filter, joins, rows_of, held, line, bound_in, and_from, and_parts, not-true}
 use Rattle.condition_rows.{proofs.{Common.{not_not, same_test}, Ends.{IsMade, tuple_of_row, row_of_tuple, split_end, with_end}}, specs.Sets.{has_partner}}
-use Rattle.condition_rows.{specs.Lines.{is_ripe}, proofs.Joined.{made_facts, joins_made}}
-use Rattle.rule_model.{specs.Maturity.{is_mature}, proofs.Naming.{bound_named}}
+use Rattle.{condition_rows.{specs.Lines.{is_ripe}, proofs.Joined.{made_facts, joins_made}}, rule_model.specs.Maturity.{is_mature}}
+use Rattle.rule_model.proofs.Naming.{bound_named}
 
 -- ---- a condition that asks something of a row
 

@@ -1,10 +1,8 @@
 -- The candidates that join a row stand once; what is asked of clean rows is asked of the rows, and then which are clean.
 use Rattle.condition_rows.proofs.Common.{◌≡◌, ◌∙◌, sym, ap, refl, ℤ, [], Bool, true, false, ◌&&◌, ◌||◌, Option, Some, None, In, EachOnce, Fact, Named, Row}
 use Rattle.condition_rows.proofs.Common.{Pattern, Program, HaveDistinctTags, Snapshot, name_of, of_filter, joins, clean, cleaned, unvalued, splits_value, held}
-use Rattle.condition_rows.{proofs.Common.{is_candidate, candidates, from_unvalued}, specs.Sets.{partners}}
-use Rattle.join_memory.specs.Valued.{valued}
-use Rattle.std.proofs.Math.Bool.{and-false, and-true}
-use Rattle.rule_model.proofs.Once.{once_filter, once_facts}
+use Rattle.{condition_rows.{proofs.Common.{is_candidate, candidates, from_unvalued}, specs.Sets.{partners}}, join_memory.specs.Valued.{valued}}
+use Rattle.{std.proofs.Math.Bool.{and-false, and-true}, rule_model.proofs.Once.{once_filter, once_facts}}
 
 module _ (p : Program) (s : Snapshot) (tags : HaveDistinctTags s.facts) (q : Pattern) (row : Row) where
   pub partner_in : (f : Fact) → In f (partners p q s row) → In f s.facts

@@ -4,11 +4,8 @@ use Rattle.condition_rows.proofs.Common.{filter, In, Fact, Row, Condition, Folde
 use Rattle.condition_rows.proofs.Common.{Snapshot, Tuple, Bindings, empty_tuple, name_of, row_of, bound_by, with_value, in_if, of_result, of_filter, joins}
 use Rattle.condition_rows.proofs.Common.{rows_of, held, line, is_result, result_of, with_result, and_from, and_parts, valued, valued_with, valued_from}
 use Rattle.condition_rows.{proofs.{Common.{same_test}, Ends.{IsMade, tuple_of_row, row_of_tuple, split_end, with_end}}, specs.{Sets.{partners}, Lines.{gives}}}
-use Rattle.condition_rows.proofs.{Joined.{joins_made}, Kept.{bound_made}}
-use Rattle.rule_model.specs.{declared.condition.Accumulate.{Accumulate}, Tests.{results_hold}}
-use Rattle.join_memory.specs.Valued.{with_row_value as with_last_value}
-use Rattle.std.proofs.lemmas.Cmp.{int_eq_equiv}
-use Rattle.fx_base.proofs.Orders.{int_eq-true}
+use Rattle.{condition_rows.proofs.{Joined.{joins_made}, Kept.{bound_made}}, rule_model.specs.{declared.condition.Accumulate.{Accumulate}, Tests.{results_hold}}}
+use Rattle.{join_memory.specs.Valued.{with_row_value as with_last_value}, std.proofs.lemmas.Cmp.{int_eq_equiv}, fx_base.proofs.Orders.{int_eq-true}}
 
 of_is_result : (o : Option ℤ) (v : ℤ) → is_result o v ≡ true → o ≡ Some v
 of_is_result None v e = absurd (let n : false ≡ true = e in cc)

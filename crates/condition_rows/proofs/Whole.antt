@@ -2,8 +2,8 @@
 use Rattle.condition_rows.proofs.Common.{◌≡◌, ◌∙◌, ◌↔◌, sym, ap, refl, List, [], ◌∷◌, ◌++◌, Bool, true, false, ◌||◌, In, Row, Condition, Plain, Negated}
 use Rattle.condition_rows.proofs.Common.{Existing, Folded, Program, HaveDistinctTags, Snapshot, rows_of, line, is_empty_row, fold, append-nil, append_assoc}
 use Rattle.condition_rows.{specs.Lines.{lines}, proofs.{Ends.{in_has, has_in}, Joined.{plain_line}, Kept.{negated_line, existing_line}, Valued.{folded_line}}}
-use mathlib.Core.Path.{fun_ext}
 use Rattle.rule_model.specs.Rows.{rows}
+use mathlib.Core.Path.{fun_ext}
 
 pub one_more : (p : Program) (s : Snapshot) → HaveDistinctTags s.facts → (front : List Condition) (c : Condition) (row : Row) → rows_of p s (front ++ c ∷ []) row ≡ line p s c (rows_of p s front) row
 one_more p s d front (Plain q) row = plain_line p s d front q row

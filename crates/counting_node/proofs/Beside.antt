@@ -2,8 +2,8 @@
 use Rattle.counting_node.proofs.Common.{◌≡◌, ◌∙◌, sym, ap, refl, subst, ℕ, zero, suc, ◌<◌, arith, List, [], ◌∷◌, length, Bool, false, ◌||◌, Some, ℤ, fun_ext}
 use Rattle.counting_node.proofs.Common.{is_some, RuleId, Extra, Named, Row, has, InOrder, Look, joins, Memories, has_name, left_at, has_left, has_right, Agrees}
 use Rattle.counting_node.proofs.Common.{either, TellsBeside, AreApart, IsBeyond, CountsOthers, AreExtrasOf, SeeAlike, passing, and_first, Option, None}
-use Rattle.counting_node.proofs.Searching.{AreListed, listed_in_order, listed_own, listed_for}
-use Rattle.join_memory.specs.{declared.candidates.Candidates.{Candidates}, Shared.{over}}
+use Rattle.{counting_node.proofs.Searching.{AreListed, listed_in_order, listed_own, listed_for}, join_memory.specs.declared.candidates.Candidates.{Candidates}}
+use Rattle.join_memory.specs.Shared.{over}
 
 -- where none is counted, the set has none
 pub none_beyond : (gathered : Look → List Named → List ℤ) (world : Look) (set : Named → Bool) (n : ℕ) (values : List ℤ) → IsBeyond gathered world set n values → n ≡ 0 → (who : Named) → set who ≡ false

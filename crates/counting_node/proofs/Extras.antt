@@ -4,8 +4,7 @@ use Rattle.counting_node.proofs.Common.{cond, not, ◌&&◌, ◌||◌, fun_ext, 
 use Rattle.counting_node.proofs.Common.{name_equiv, Accumulate, Look, has_name, either, name_decides, AreDistinct, IsNumber, argument_of, Gathers, AreApart}
 use Rattle.counting_node.proofs.Common.{IsBeyond, nothing_gathered, gathered_laden, arguments_gathered, counts_more, filter, length-append, length-map}
 use Rattle.counting_node.proofs.{Common.{map-append, list_any-append, length-rising, and_left, or_from, or_left, or_right}, Gathering.{same_values}}
-use Rattle.std.proofs.lemmas.Map.Made.{is_member-filter}
-use Rattle.fold_fn.proofs.Sorting.{sorted-rising, rising-sorted}
+use Rattle.{std.proofs.lemmas.Map.Made.{is_member-filter}, fold_fn.proofs.Sorting.{sorted-rising, rising-sorted}}
 
 or_none : (a b : Bool) → b ≡ false → a ≡ (a || b)
 or_none true b e = refl

@@ -3,8 +3,8 @@ use Rattle.counting_node.proofs.Common.{◌≡◌, ◌∙◌, sym, ap, refl, ℤ
 use Rattle.counting_node.proofs.Common.{option_map, eq_by_cmp, Held, insert_rising, in_rising_order, insert-insert, Named, Row, row_cmp, name_cmp, name_equiv}
 use Rattle.counting_node.proofs.Common.{Accumulate, Look, has_name, with_row_value, unvalued, splits_value, without_value, shows_value, name_decides}
 use Rattle.counting_node.proofs.Common.{row_decides, from_unvalued, unvalued_with, with_one, less_one, AreDistinct, argument_of, Gathers, is_from, and_from}
-use Rattle.counting_node.proofs.{Common.{and_parts, or_comm, same_test}, Counting.{dropped, has_dropped, dropped_distinct}}
-use Rattle.std.{specs.Ordering.{int_eq}, proofs.lemmas.Bool.Decides.{Decides-int_eq}}
+use Rattle.{counting_node.proofs.{Common.{and_parts, or_comm, same_test}, Counting.{dropped, has_dropped, dropped_distinct}}, std.specs.Ordering.{int_eq}}
+use Rattle.std.proofs.lemmas.Bool.Decides.{Decides-int_eq}
 
 -- ---- the values of candidates
 module _ (arg : Named → ℤ) where

@@ -3,10 +3,9 @@ use Rattle.counting_node.proofs.Common.{◌≡◌, ◌∙◌, sym, ap, refl, sub
 use Rattle.counting_node.proofs.Common.{Option, Some, None, fun_ext, is_some, Named, Row, Delta, has, Pattern, Look, joins, Memories, left_at, has_left}
 use Rattle.counting_node.proofs.Common.{has_right, StepsTally, TurnedIf, FollowsCandidates, Arrives, SeeAlike, passing, AllTurned, row_naming, name_cmp}
 use Rattle.counting_node.proofs.{Common.{name_equiv, eq_by_cmp, has_name, any_name, changes_nothing, TallyStep}, Following.{follow_then, name_within}}
-use Rattle.counting_node.{proofs.{Following.{steps_come, steps_follow_same, steps_leave}, Stepping.{arrives_kept, arrives_new}}, specs.Parts.{AllFollowMoved}}
-use Rattle.counting_node.proofs.Stepping.{no_step, none_stays}
-use Rattle.join_memory.{specs.{declared.candidates.Candidates.{Candidates}, Handed.{moved}, Shared.{sharing, TakesOver}}, proofs.Handed.{next_may, moved_more}}
-use Rattle.join_memory.proofs.Handed.{moved_none, may_go, may_come, handed_alike}
+use Rattle.counting_node.proofs.{Following.{steps_come, steps_follow_same, steps_leave}, Stepping.{arrives_kept, arrives_new, no_step, none_stays}}
+use Rattle.{counting_node.specs.Parts.{AllFollowMoved}, join_memory.specs.{declared.candidates.Candidates.{Candidates}, Handed.{moved}, Shared.{sharing}}}
+use Rattle.join_memory.{specs.Shared.{TakesOver}, proofs.Handed.{next_may, moved_more, moved_none, may_go, may_come, handed_alike}}
 
 where_passes : (a b p : Bool) → (p ≡ true → a ≡ b) → (a && p) ≡ (b && p)
 where_passes true true p h = refl

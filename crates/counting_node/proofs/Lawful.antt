@@ -8,12 +8,9 @@ use Rattle.counting_node.proofs.Common.{argument_given, argument_of, result_for,
 use Rattle.counting_node.proofs.Common.{TallyLaw, TallyForgetLaw, TallyDropLaw, TallyMoveLaw, ShownLaw, GatheredLaw, itself, shows_any, TallyStep, counted}
 use Rattle.counting_node.proofs.Common.{SeeAlike, output_some, output_from, offers, shown, result-rising, LeadsRows, IsNameDifference, IsStepped, and_right}
 use Rattle.counting_node.proofs.{Common.{not-true, or_left, or_right, is_some-value, and_first, and_is, and_second, not_not}, Counting.{nobody, somebody}}
-use Rattle.counting_node.proofs.Gathering.{same_values}
-use Rattle.std.{specs.Ordering.{int_eq}, proofs.Math.Dec.{eqb-suc-zero}}
-use Rattle.join_memory.{specs.Valued.{valued}, proofs.{Moving.{move_law as memories_move}, Steps.{steps_law, forgets_law}}}
-use Rattle.fx_base.specs.declared.fact.Fact.{Fact}
-use Rattle.fold_fn.specs.Results.{fold_result}
-use Rattle.rule_model.specs.{Lent.{Holds, bound_in}, Rows.{argument, result_of}, Tuples.{name_of}}
+use Rattle.{counting_node.proofs.Gathering.{same_values}, std.{specs.Ordering.{int_eq}, proofs.Math.Dec.{eqb-suc-zero}}, join_memory.specs.Valued.{valued}}
+use Rattle.{join_memory.proofs.{Moving.{move_law as memories_move}, Steps.{steps_law, forgets_law}}, fx_base.specs.declared.fact.Fact.{Fact}}
+use Rattle.{fold_fn.specs.Results.{fold_result}, rule_model.specs.{Lent.{Holds, bound_in}, Rows.{argument, result_of}, Tuples.{name_of}}}
 
 -- kernels: a that it is a candidate, f that it is forgotten, j and p that it passes by the facts at hand and in the world
 counted_all : (a f j p x : Bool) → ((a && not f) ≡ true → j ≡ p) → (f ≡ true → x ≡ (a && p)) → (f ≡ false → x ≡ false) → (((a && not f) && j) || x) ≡ (a && p)

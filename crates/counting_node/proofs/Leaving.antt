@@ -1,8 +1,7 @@
 -- What a rising part of a rising list leaves of it.
 use Rattle.counting_node.proofs.Common.{◌≡◌, ◌∙◌, sym, ap, refl, int_lt, int_eq, ℕ, zero, suc, add-one, ◌+◌, ◌<◌, ◌≤◌, ℤ, length, get_or, drop, arith, List, []}
 use Rattle.counting_node.proofs.{Common.{◌∷◌, ◌++◌, Bool, true, false, cond, ints, insert_rising, in_rising_order}, Extras.{rising_of_front}}
-use Rattle.std.proofs.Math.Seq.{drop-cons}
-use Rattle.fx_base.proofs.Orders.{int_eq-self, int_lt-flip}
+use Rattle.{std.proofs.Math.Seq.{drop-cons}, fx_base.proofs.Orders.{int_eq-self, int_lt-flip}}
 
 -- the values of a list without those of a part of it, where both are walked once
 abbrev pub leaves : List ℤ → List ℤ → List ℤ

@@ -3,8 +3,7 @@ use Rattle.counting_node.proofs.Common.{◌≡◌, ◌∙◌, sym, ap, refl, sub
 use Rattle.counting_node.proofs.Common.{Named, Row, name_cmp, name_equiv, leads_alike, Pattern, Look, joins, Memories, left_at, has_left, has_right}
 use Rattle.counting_node.proofs.Common.{KeepsMemories, keeps_then, StepsTally, TurnedIf, FollowsCandidates, Arrives, passing, shown, PartStep, AllTurned}
 use Rattle.counting_node.proofs.{Common.{AllFollow, AllDropped, AllArrive, AllStay}, Turning.{shown_alike}, Following.{steps_both, follow_then, steps_leave}}
-use Rattle.counting_node.proofs.Following.{steps_come, arrives_both}
-use Rattle.row_change.specs.declared.change.Change.{Change}
+use Rattle.{counting_node.proofs.Following.{steps_come, arrives_both}, row_change.specs.declared.change.Change.{Change}}
 
 -- ---- whole parts
 

@@ -3,9 +3,8 @@ use Rattle.counting_node.proofs.Common.{◌≡◌, ◌∙◌, sym, ap, refl, sub
 use Rattle.counting_node.proofs.Common.{◌++◌, Bool, true, false, cond, ◌||◌, Option, Some, None, Less, Equal, Greater, AllByRecursion, AllWithin, cons_option}
 use Rattle.counting_node.proofs.Common.{eq_by_cmp, is_eq, ordering_index, ordering_reverse, RuleId, Extra, Row, has, row_cmp, InOrder, same_equiv, row_total}
 use Rattle.counting_node.proofs.Common.{row_exact, row_decides, extra_for, rows_of_extras, IsExtraBesideRow, one_or_none, IsNonDecreasingBy, IsPartitionPoint}
-use Rattle.counting_node.proofs.Common.{IsSortedBy}
-use Rattle.std.{specs.{Prelude.{IfSome}, List.Sorted.{IsStrictlySortedBy}}, proofs.lemmas.List.Sorted.{searchable_from_sorted}}
-use Rattle.fx_base.specs.Lists.{In}
+use Rattle.{counting_node.proofs.Common.{IsSortedBy}, std.specs.{Prelude.{IfSome}, List.Sorted.{IsStrictlySortedBy}}}
+use Rattle.{std.proofs.lemmas.List.Sorted.{searchable_from_sorted}, fx_base.specs.Lists.{In}}
 
 -- ---- a search among extras in the order of their rows
 -- an extra in a place whose row is this one is the one that is found

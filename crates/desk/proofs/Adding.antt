@@ -1,8 +1,6 @@
 -- The bytes of a file that is made piece by piece.
 use Rattle.std.proofs.Common.{◌≡◌, ◌++◌, ◌+◌, ◌-◌, ◌≤◌, ℕ, List, length, Option, None, Some, refl, ap, subst, ◌∙◌, append_assoc, arith}
-use Rattle.std.{specs.Prelude.{option_map}, proofs.lemmas.List.{length-append}}
-use Rattle.fx_io.specs.Outside.{append}
-use Rattle.fx_store.specs.Puts.{IsDraft}
+use Rattle.{std.{specs.Prelude.{option_map}, proofs.lemmas.List.{length-append}}, fx_io.specs.Outside.{append}, fx_store.specs.Puts.{IsDraft}}
 use Rattle.line_run.specs.Saves.{Files}
 
 -- the file has a piece more

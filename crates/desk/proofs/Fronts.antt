@@ -1,7 +1,6 @@
 -- Fronts of bytes in two pieces.
 use Rattle.std.proofs.{Common.{◌≡◌, ◌+◌, ◌++◌, ℕ, List, [], length, take, Option, sym, ap, ◌∙◌, arith}, lemmas.List.{length-append}, Math.Seq.{take-append-add}}
-use Rattle.std.proofs.Math.Seq.{take-length}
-use Rattle.fx_io.{specs.Outside.{append, AppendsFront}, proofs.Told.{append-append}}
+use Rattle.{std.proofs.Math.Seq.{take-length}, fx_io.{specs.Outside.{append, AppendsFront}, proofs.Told.{append-append}}}
 
 -- all
 pub all_front : (before after : Option (List ℕ)) (text : List ℕ) → after ≡ append before text → AppendsFront before after text

@@ -1,11 +1,9 @@
 -- A run by the lives by which it goes, from what is done by a table.
-use Rattle.std.{proofs.Common.{◌≡◌, ◌⊎◌, ◌≤◌, ℕ, List, Option, None, Some, sym, subst}, specs.Prelude.{IfSome}}
-use Rattle.fx_io.specs.Outside.{append, AppendsFront}
-use Rattle.replay.specs.Wanted.{Files}
-use Rattle.rule_model.specs.declared.life.LifeTable.{LifeTable}
-use Rattle.desk.specs.{declared.{going.Inferred.{Inferred}, live.Live.{Live}, wanted.{Begun.{Begun}, Changing.{Changing}}}, Changes.{Changed, begun_over}}
-use Rattle.desk.specs.{Going.{AreInferred, IsBarred}, Meanings.{Meanings}, Report.{GoesBy, IsGoing, IsKeptOut, IsPromptBy, IsPromptRun, IsSaid, IsStoppedBy}}
-use Rattle.desk.specs.Report.{IsStoppedRun, LivesBy, live_in, table_by}
+use Rattle.{std.{proofs.Common.{◌≡◌, ◌⊎◌, ◌≤◌, ℕ, List, Option, None, Some, sym, subst}, specs.Prelude.{IfSome}}, fx_io.specs.Outside.{append, AppendsFront}}
+use Rattle.{replay.specs.Wanted.{Files}, rule_model.specs.declared.life.LifeTable.{LifeTable}, desk.specs.declared.going.Inferred.{Inferred}}
+use Rattle.desk.specs.{declared.{live.Live.{Live}, wanted.{Begun.{Begun}, Changing.{Changing}}}, Changes.{Changed, begun_over}, Going.{AreInferred, IsBarred}}
+use Rattle.desk.specs.{Meanings.{Meanings}, Report.{GoesBy, IsGoing, IsKeptOut, IsPromptBy, IsPromptRun, IsSaid, IsStoppedBy, IsStoppedRun, LivesBy, live_in}}
+use Rattle.desk.specs.Report.{table_by}
 
 pub for_all : {A : Type 0} {P : A → Type 0} (o : Option A) → ((x : A) → P x) → IfSome o P
 for_all None h = tt

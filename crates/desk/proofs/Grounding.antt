@@ -1,13 +1,8 @@
 -- Whether other rules can be asked for over the worlds of an image.
-use Rattle.std.proofs.Common.{◌≡◌, ◌↔◌, ℕ, Bool, false, true, Result, Ok, Err, IfOk, IsTrue, OnOk}
-use Rattle.checkpoint.specs.declared.image.Image.{Image}
-use Rattle.image_fitting.specs.Plain.{FitsPlainly, FittingLaw}
-use Rattle.image_laws.specs.Fitting.{Fits}
-use Rattle.image_making.specs.Loads.{CanBeLoaded}
-use Rattle.laden_rows.specs.Laden.{AreOwners}
-use Rattle.life_meaning.specs.Tables.{IsSafeTable}
-use Rattle.rule_model.specs.declared.{life.LifeTable.{LifeTable}, program.Program.{Program}}
-use Rattle.rule_world.specs.Programs.{IsRunnable}
+use Rattle.{std.proofs.Common.{◌≡◌, ◌↔◌, ℕ, Bool, false, true, Result, Ok, Err, IfOk, IsTrue, OnOk}, checkpoint.specs.declared.image.Image.{Image}}
+use Rattle.{image_fitting.specs.Plain.{FitsPlainly, FittingLaw}, image_laws.specs.Fitting.{Fits}, image_making.specs.Loads.{CanBeLoaded}}
+use Rattle.{laden_rows.specs.Laden.{AreOwners}, life_meaning.specs.Tables.{IsSafeTable}, rule_model.specs.declared.life.LifeTable.{LifeTable}}
+use Rattle.{rule_model.specs.declared.program.Program.{Program}, rule_world.specs.Programs.{IsRunnable}}
 
 -- a network can be loaded from an image that fits plainly
 pub plainly_loads : (p : Program) (table : LifeTable) (image : Image) → IsRunnable p → FitsPlainly p table image → CanBeLoaded p image

@@ -1,19 +1,16 @@
 -- What a live run does, from what its parts do.
 use Rattle.std.proofs.Common.{◌≡◌, ◌≢◌, ◌⊎◌, inl, inr, ◌≤◌, ◌++◌, ℕ, List, [], ◌∷◌, Option, Some, None, refl, sym, ap, subst, ◌∙◌, arith}
-use Rattle.std.{specs.Prelude.{IfSome}, proofs.lemmas.List.{append-nil}}
-use Rattle.fx_io.{specs.{Outside.{append, AppendsFront}, Lines.{lines_of}}, proofs.Told.{append-append}}
-use Rattle.checkpoint.specs.declared.image.RunPart.{RunPart}
-use Rattle.rule_model.specs.declared.{life.LifeTable.{LifeTable}, program.Program.{Program}}
-use Rattle.rule_world.specs.Worlds.{World}
-use Rattle.line_run.specs.{declared.{fault.ImageFault.{ImageFault}, turn.{Ended.TheVariants.{Script, Limit}, Progress.{Progress}}}, Parts.{run_part_at}}
-use Rattle.line_run.specs.{Run.{Outcome, RunState, Steps}, Saves.{ArePut, Puts}, Turns.{ReachesWorld}, Unfinished.{KeptFront, RefusedAt, StoppedKept}}
-use Rattle.line_run.proofs.Ahead.{append_nothing, none_saved}
-use Rattle.script_run.specs.Live.{live_step, most_firings}
+use Rattle.{std.{specs.Prelude.{IfSome}, proofs.lemmas.List.{append-nil}}, fx_io.specs.{Outside.{append, AppendsFront}, Lines.{lines_of}}}
+use Rattle.{fx_io.proofs.Told.{append-append}, checkpoint.specs.declared.image.RunPart.{RunPart}, rule_model.specs.declared.life.LifeTable.{LifeTable}}
+use Rattle.{rule_model.specs.declared.program.Program.{Program}, rule_world.specs.Worlds.{World}, line_run.specs.declared.fault.ImageFault.{ImageFault}}
+use Rattle.line_run.specs.{declared.turn.{Ended.TheVariants.{Script, Limit}, Progress.{Progress}}, Parts.{run_part_at}, Run.{Outcome, RunState, Steps}}
+use Rattle.line_run.{specs.{Saves.{ArePut, Puts}, Turns.{ReachesWorld}, Unfinished.{KeptFront, RefusedAt, StoppedKept}}, proofs.Ahead.{append_nothing}}
+use Rattle.{line_run.proofs.Ahead.{none_saved}, script_run.specs.Live.{live_step, most_firings}}
 use Rattle.replay.specs.{declared.refused_checkpoint.CheckpointCode.{CheckpointCode, TheVariants.{Unfit}}, Beginnings.{BeginsIn, CanBegin, part_of}}
-use Rattle.replay.specs.{Checkpoints.{checkpoint_text}, Report.{run_status}, Wanted.{Files}}
-use Rattle.desk.specs.{Keeping.{IsPutFor, IsPutBehind, IsRefusedBehind, IsRefusedFor, IsUnputFor, refusal_code, status_of_part}, Meanings.{Meanings}}
-use Rattle.desk.specs.Report.{AreKept, IsCutShort, IsEndedEarly, IsKept, IsRefusedIn, IsUnkept, LivesBy, first_of, lines_of_run, live_run, live_saves}
-use Rattle.desk.{specs.declared.live.Live.{Live}, proofs.Fronts.{all_front, front_behind, no_front}}
+use Rattle.{replay.specs.{Checkpoints.{checkpoint_text}, Report.{run_status}, Wanted.{Files}}, desk.specs.Keeping.{IsPutFor, IsPutBehind, IsRefusedBehind}}
+use Rattle.desk.specs.{Keeping.{IsRefusedFor, IsUnputFor, refusal_code, status_of_part}, Meanings.{Meanings}, Report.{AreKept, IsCutShort, IsEndedEarly}}
+use Rattle.desk.specs.{Report.{IsKept, IsRefusedIn, IsUnkept, LivesBy, first_of, lines_of_run, live_run, live_saves}, declared.live.Live.{Live}}
+use Rattle.desk.proofs.Fronts.{all_front, front_behind, no_front}
 
 abbrev no_lines : List (List ℕ)
 no_lines = []

@@ -1,15 +1,9 @@
 -- What becomes of a live run behind an image of other rules.
-use Rattle.std.proofs.Common.{◌≡◌, inl, inr, ℕ, false, List, Option, Some, refl, subst}
-use Rattle.change_rules.specs.{AsLong.{are_as_long}, Staying.{place_in}}
-use Rattle.checkpoint.specs.declared.image.Image.{Image}
-use Rattle.image_laws.specs.Fitting.{Fits}
-use Rattle.image_making.specs.Change.{IsTakenOver, IsVerdictOf, IsWorldOf}
-use Rattle.replay.specs.declared.beginning.Beginning.TheVariants.{Behind}
-use Rattle.rule_change.specs.{declared.code.ChangeCode.{ChangeCode}, Alike.{HaveNames, HavePlaces}, Changed.{AreFrom}, Told.{rules_told}}
-use Rattle.rule_lines.specs.Told.{told_lines}
-use Rattle.life_meaning.specs.Tables.{AreLives}
-use Rattle.rule_model.specs.declared.life.LifeTable.{LifeTable}
-use Rattle.rule_world.specs.Worlds.{World}
+use Rattle.{std.proofs.Common.{◌≡◌, inl, inr, ℕ, false, List, Option, Some, refl, subst}, change_rules.specs.{AsLong.{are_as_long}, Staying.{place_in}}}
+use Rattle.{checkpoint.specs.declared.image.Image.{Image}, image_laws.specs.Fitting.{Fits}, image_making.specs.Change.{IsTakenOver, IsVerdictOf, IsWorldOf}}
+use Rattle.{replay.specs.declared.beginning.Beginning.TheVariants.{Behind}, rule_change.specs.{declared.code.ChangeCode.{ChangeCode}, Alike.{HaveNames}}}
+use Rattle.{rule_change.specs.{Alike.{HavePlaces}, Changed.{AreFrom}, Told.{rules_told}}, rule_lines.specs.Told.{told_lines}}
+use Rattle.{life_meaning.specs.Tables.{AreLives}, rule_model.specs.declared.life.LifeTable.{LifeTable}, rule_world.specs.Worlds.{World}}
 use Rattle.desk.specs.{declared.wanted.Changing.{Changing}, Changes.{Changed, HasNoGround, IsRefusedOver, IsUnfit, Known, begun_over, kept_by}}
 use Rattle.desk.specs.Meanings.{is_text}
 

@@ -1,10 +1,9 @@
 -- What is said where no run is wanted, or none begins.
-use Rattle.std.proofs.Common.{◌≡◌, ◌⊎◌, inl, inr, ◌≤◌, ℕ, List, Option, Some, refl, sym, subst, arith}
-use Rattle.fx_io.specs.Outside.{append, AppendsFront, Rose}
-use Rattle.line_run.proofs.Ahead.{append_nothing}
-use Rattle.replay.specs.{Checkpoints.{checkpoint_text}, Refusals.{refusal_text}, Wanted.{Files}, declared.refusal.Refusal.{Refusal}}
-use Rattle.desk.specs.{declared.reading.RulesFault.{RulesFault, TheVariants.{Refused, ReadFault, NoMemory}}, Meanings.{Engines}, Report.{IsSaid, IsServed}}
-use Rattle.desk.specs.{Report.{IsStopped, usage}, Wanted.{Wanted, usage_line, says, refuses, refuses_image, runs, runs_over}}
+use Rattle.{std.proofs.Common.{◌≡◌, ◌⊎◌, inl, inr, ◌≤◌, ℕ, List, Option, Some, refl, sym, subst, arith}, fx_io.specs.Outside.{append, AppendsFront, Rose}}
+use Rattle.{line_run.proofs.Ahead.{append_nothing}, replay.specs.{Checkpoints.{checkpoint_text}, Refusals.{refusal_text}, Wanted.{Files}}}
+use Rattle.{replay.specs.declared.refusal.Refusal.{Refusal}, desk.specs.declared.reading.RulesFault.{RulesFault, TheVariants.{Refused, ReadFault, NoMemory}}}
+use Rattle.desk.specs.{Meanings.{Engines}, Report.{IsSaid, IsServed, IsStopped, usage}, Wanted.{Wanted, usage_line, says, refuses, refuses_image, runs}}
+use Rattle.desk.specs.Wanted.{runs_over}
 
 -- the line was written, or a front of it
 pub said : (line : List ℕ) (wanted : ℕ) (before after : Option (List ℕ)) (files files' : Option Files) (status : ℕ) → files' ≡ files → (status ≡ wanted → after ≡ append before line)

@@ -1,13 +1,10 @@
 -- Where a live run begins, by the bytes of the file of its image.
 use Rattle.std.proofs.Common.{◌≡◌, ◌≢◌, ◌+◌, ◌≤◌, ◌<◌, ℕ, Bool, true, false, List, length, take, Option, Some, None, refl, sym, ap, ◌∙◌}
-use Rattle.std.specs.{Prelude.{IfSome, nat_lt}, Str.{bytes_eq}}
-use Rattle.checkpoint.specs.declared.image.Image.{Image}
-use Rattle.desk_image.specs.Reading.{desk_decoded}
-use Rattle.fx_io.specs.Outside.{IsMissing, IsOnShelf, file_told}
-use Rattle.replay.specs.declared.{beginning.Beginning.TheVariants.{Behind, First}, refused_checkpoint.CheckpointCode.TheVariants.{TooLong}}
-use Rattle.replay.{specs.{Checkpoints.{image_limit}, Wanted.{Files}}, proofs.ImagesRead.{is_long, is_short}}
-use Rattle.rule_model.specs.declared.life.LifeTable.{LifeTable}
-use Rattle.desk.{specs.Wanted.{begins, changes, cannot_begin, start_by, start_in, start_of}, proofs.Common.{long_taken, short_file, take_all}}
+use Rattle.{std.specs.{Prelude.{IfSome, nat_lt}, Str.{bytes_eq}}, checkpoint.specs.declared.image.Image.{Image}, desk_image.specs.Reading.{desk_decoded}}
+use Rattle.{fx_io.specs.Outside.{IsMissing, IsOnShelf, file_told}, replay.specs.declared.beginning.Beginning.TheVariants.{Behind, First}}
+use Rattle.replay.specs.{declared.refused_checkpoint.CheckpointCode.TheVariants.{TooLong}, Checkpoints.{image_limit}, Wanted.{Files}}
+use Rattle.{replay.proofs.ImagesRead.{is_long, is_short}, rule_model.specs.declared.life.LifeTable.{LifeTable}, desk.specs.Wanted.{begins, changes}}
+use Rattle.desk.{specs.Wanted.{cannot_begin, start_by, start_in, start_of}, proofs.Common.{long_taken, short_file, take_all}}
 
 pub too_long : (rules bytes : List ℕ) → 1073741824 < length bytes → start_of rules bytes ≡ cannot_begin TooLong
 unfolding start_of

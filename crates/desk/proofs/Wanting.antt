@@ -1,14 +1,10 @@
 -- What is wanted, by the files that were read.
 use Rattle.std.{proofs.Common.{◌≡◌, ◌≢◌, ◌+◌, ℕ, Bool, true, false, not, List, take, Option, Some, None, refl, sym, subst, ap, ◌∙◌}, specs.Prelude.{IfSome}}
-use Rattle.command_words.specs.declared.desk.{DeskAsked.{DeskAsked}, DeskWords.TheVariants.{Run}}
-use Rattle.drl_names.specs.declared.rule_names.RuleNames.{RuleNames}
-use Rattle.drl_parse.specs.Parsed.{file_limit}
-use Rattle.fx_io.specs.Outside.{IsMissing, IsOnShelf, file_told}
-use Rattle.replay.specs.declared.{refusal.{Refusal.{Refusal}, RefusalCode.TheVariants.{Missing}}, refused_checkpoint.CheckpointCode.{CheckpointCode}}
-use Rattle.replay.{specs.{Checkpoints.{rules_shown}, Names.{names_read}, Refusals.{reading, whole_file}, Wanted.{Files}}, proofs.Reports.{names_taken}}
-use Rattle.replay.proofs.Reports.{rules_in_read, within_taken}
-use Rattle.rule_model.specs.declared.program.Program.{Program}
-use Rattle.script_run.specs.declared.form.Form.{Form, TheVariants.{Objects}}
+use Rattle.{command_words.specs.declared.desk.{DeskAsked.{DeskAsked}, DeskWords.TheVariants.{Run}}, drl_names.specs.declared.rule_names.RuleNames.{RuleNames}}
+use Rattle.{drl_parse.specs.Parsed.{file_limit}, fx_io.specs.Outside.{IsMissing, IsOnShelf, file_told}, replay.specs.declared.refusal.Refusal.{Refusal}}
+use Rattle.replay.specs.{declared.{refusal.RefusalCode.TheVariants.{Missing}, refused_checkpoint.CheckpointCode.{CheckpointCode}}, Checkpoints.{rules_shown}}
+use Rattle.replay.{specs.{Names.{names_read}, Refusals.{reading, whole_file}, Wanted.{Files}}, proofs.Reports.{names_taken, rules_in_read, within_taken}}
+use Rattle.{rule_model.specs.declared.program.Program.{Program}, script_run.specs.declared.form.Form.{Form, TheVariants.{Objects}}}
 use Rattle.desk.specs.declared.{reading.Rules.{Rules}, start.Start.{Start as StartData, TheVariants.{Begins, Changes}}, wanted.Setting.{Setting}}
 use Rattle.desk.specs.{Rules.{AreAccepted, AreRefused, AreRefusedIn, coming_as}, Starts.{HasText, start_as, wanted_as}, Wanted.{cannot_begin, cannot_come}}
 use Rattle.desk.specs.Wanted.{come, coming, coming_in, form_of, over_old, refuses, refuses_image, setting_of, start, to_come, wanted_by, wanted_by_file}

@@ -3,8 +3,7 @@ use Rattle.desk_image.proofs.Common.{◌∙◌, ◌≡◌, ap, subst, sym, ◌++
 use Rattle.desk_image.proofs.Common.{IfErr, IfOk, codes, AreOctets, ReadBytes, behind, bind_some, some_is, TellsDecodeFault, ◌>>=◌, decoded, DecodeFault}
 use Rattle.desk_image.{proofs.Common.{BadImage, NoMemory, Image, LifeTable, AreImageLives, desk_bytes, lives_bytes}, specs.Reading.{behind_lives_header}}
 use Rattle.desk_image.specs.{Reading.{desk_by_header, desk_decoded, lives_at, with_lives}, declared.whole.DeskImage.{DeskImage}}
-use Rattle.desk_image.proofs.LivesExact.{lives_exact}
-use Rattle.checkpoint.{proofs.Whole.{decoded_again, decoded_takes}, specs.Bytes.{IsImage, image_bytes}}
+use Rattle.{desk_image.proofs.LivesExact.{lives_exact}, checkpoint.{proofs.Whole.{decoded_again, decoded_takes}, specs.Bytes.{IsImage, image_bytes}}}
 use Rattle.std.proofs.{Common.{false}, lemmas.Bool.{and_parts, eqb-true}}
 
 if_some : {A : Type 0} (b : Bool) (x y : A) → cond b (Some x) None ≡ Some y → (b ≡ true) × (x ≡ y)

@@ -1,9 +1,8 @@
 -- What is read is spelled so, and what is spelled so is read: lives, and tables of lives.
 use Rattle.desk_image.proofs.Common.{◌∙◌, ◌≡◌, ap, arith, subst, sym, ◌++◌, List, Some, [], refl, ℕ, ◌∷◌, ◌≤◌, length, suc, zero, AreOctets, Exact, bind_some}
 use Rattle.desk_image.{proofs.Common.{some_is, ReadBytes, ◌>>=◌, Life, AreTableLives, IsImageLife, life_bytes, lives_bytes}, specs.Reading.{life_at}}
-use Rattle.desk_image.specs.Reading.{life_least, lives_at, table_of}
-use Rattle.checkpoint.{proofs.{Exact.{made_exact, signed_exact}, ListsExact.{list_exact}}, specs.Reading.{made_at}}
-use Rattle.rule_model.specs.declared.life.Life.TheVariants.{Plain, Explicit, Finite, Infinite}
+use Rattle.{desk_image.specs.Reading.{life_least, lives_at, table_of}, checkpoint.proofs.{Exact.{made_exact, signed_exact}, ListsExact.{list_exact}}}
+use Rattle.{checkpoint.specs.Reading.{made_at}, rule_model.specs.declared.life.Life.TheVariants.{Plain, Explicit, Finite, Infinite}}
 
 -- a life behind its first byte
 tagged_takes : {A : Type 0} {s : A → List ℕ} {a : List ℕ → ReadBytes A} {F : A → Type 0} (make : A → Life) (tag : ℕ) → Exact s a F

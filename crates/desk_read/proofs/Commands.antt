@@ -1,7 +1,6 @@
 -- A line with a question has the form of no command.
 use Rattle.desk_read.proofs.Common.{◌≡◌, List, ℕ, Some, None, refl, Data, IsQuestion, save, facts, typed_facts, counts, Question, reading_again}
-use Rattle.desk_read.{specs.Questions.{question_of}, proofs.QuestionLaws.{asked_form}}
-use Rattle.script_read.specs.{Asked.{asked, bad_command}, Form.{command_of}}
+use Rattle.{desk_read.{specs.Questions.{question_of}, proofs.QuestionLaws.{asked_form}}, script_read.specs.{Asked.{asked, bad_command}, Form.{command_of}}}
 
 -- the word of a question is that of no command
 no_command : {d : Data} {q : Question} → IsQuestion d q → command_of d ≡ None

@@ -2,8 +2,7 @@
 use Rattle.desk_read.proofs.Common.{◌≡◌, List, ℕ, Bool, true, false, Option, Some, None, Result, Ok, Err, IfOk, refl, sym, ◌∙◌, ap, subst, Data, IsLineReading}
 use Rattle.desk_read.proofs.Common.{reading, has_count, count, text_member, reading_again, reading_sound, codes, if◌then◌else◌, bytes_eq, option_and_then}
 use Rattle.desk_read.proofs.Common.{IsQuestion, TellsQuestion, save, facts, typed_facts, counts, question_by_word, typed_parts, Question, Save, Facts, Counts}
-use Rattle.desk_read.specs.Questions.{save_of, facts_of, counts_of, question_in, question_of}
-use Rattle.fx_base.specs.declared.no_memory.NoMemory.{NoMemory}
+use Rattle.{desk_read.specs.Questions.{save_of, facts_of, counts_of, question_in, question_of}, fx_base.specs.declared.no_memory.NoMemory.{NoMemory}}
 use Rattle.std.proofs.lemmas.{Slice.Eq.{bytes_eq-Decides}, Bool.Decides.{Decides-eqb}}
 
 -- every question with the form of a value is the one that is found

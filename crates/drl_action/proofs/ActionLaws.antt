@@ -1,18 +1,17 @@
 -- What is read as an action stands in the grammar, and what stands in it is read.
 use Rattle.drl_action.proofs.Common.{◌≡◌, ℕ, ◌<◌, ◌≤◌, Bool, true, false, cond, List, ◌∷◌, length, Some, None, refl, arith, IfSome, codes, bytes_eq, IsSetter}
-use Rattle.drl_action.proofs.Common.{IsAssign, IsAction, setter_at, word_of, behind_word_at}
-use Rattle.drl_lex.specs.declared.token.{TokenKind.{TokenKind, TheVariants.{Word, Var, Mark}}, Mark.TheVariants.{OpenParenthesis, CloseParenthesis, OpenBrace}}
-use Rattle.drl_lex.specs.declared.token.Mark.TheVariants.{CloseBrace, Comma, Semicolon, Assign}
-use Rattle.drl_expr.specs.{Exact.{Phrase, Found}, Grammar.{IsExpression}, Reading.{expression_at, expr_at, term_at, factor_at, opening_at, atom_at}}
-use Rattle.drl_expr.{specs.Tree.{Tree}, proofs.Laws.{expression_exact}}
+use Rattle.{drl_action.proofs.Common.{IsAssign, IsAction, setter_at, word_of, behind_word_at}, drl_lex.specs.declared.token.TokenKind.{TokenKind}}
+use Rattle.drl_lex.specs.declared.token.{TokenKind.TheVariants.{Word, Var, Mark}, Mark.TheVariants.{OpenParenthesis, CloseParenthesis, OpenBrace, CloseBrace}}
+use Rattle.{drl_lex.specs.declared.token.Mark.TheVariants.{Comma, Semicolon, Assign}, drl_expr.specs.{Exact.{Phrase, Found}, Grammar.{IsExpression}}}
+use Rattle.drl_expr.{specs.{Reading.{expression_at, expr_at, term_at, factor_at, opening_at, atom_at}, Tree.{Tree}}, proofs.Laws.{expression_exact}}
 use Rattle.drl_grammar.specs.Actions as g
 use Rattle.drl_grammar.specs.{Shapes.{Optional, Separated, Listed}, declared.action.ActTree.{ActTree, TheVariants.{Insert, Modify}}}
 use Rattle.drl_phrase.specs.declared.phrase.Punctuation.TheVariants as p
 use Rattle.drl_phrase.{specs.{Exact.{phrase_binds, ExactPhrase}, Reading.{separated_at, listed_at, optional_at}}, proofs.{Carried.{carried}, ShapeLaws.{then}}}
 use Rattle.drl_phrase.proofs.ShapeLaws.{if_some_then, guarded, ident_then, ident_is, same_bytes, closed_then, closed_is, separated_exact, listed_exact}
-use Rattle.drl_phrase.proofs.ShapeLaws.{optional_sound, optional_again, optional_shorter}
-use Rattle.drl_action.specs.{declared.word.ActionWord.{ActionWord, TheVariants.{InsertWord, ModifyWord, RetractWord}}, Reading.{assign_at, action_word}}
-use Rattle.drl_action.{specs.Reading.{insert_at, modify_at, retract_at, action_at}, proofs.SetterLaws.{setter_sound, setter_again}}
+use Rattle.{drl_phrase.proofs.ShapeLaws.{optional_sound, optional_again, optional_shorter}, drl_action.specs.declared.word.ActionWord.{ActionWord}}
+use Rattle.drl_action.specs.{declared.word.ActionWord.TheVariants.{InsertWord, ModifyWord, RetractWord}, Reading.{assign_at, action_word, insert_at, modify_at}}
+use Rattle.drl_action.{specs.Reading.{retract_at, action_at}, proofs.SetterLaws.{setter_sound, setter_again}}
 
 value_exact : ExactPhrase IsExpression expression_at 3
 value_exact = carried expression_exact

@@ -1,9 +1,7 @@
 -- What is read as a setter is one, and a setter is read.
 use Rattle.drl_action.proofs.Common.{◌≡◌, ◌&&◌, ℕ, Bool, true, false, cond, List, [], ◌∷◌, ◌++◌, take, drop, Some, None, refl, sym, ap, ◌∙◌, IfSome, codes}
 use Rattle.drl_action.{proofs.Common.{bytes_eq, bytes_eq-Decides, small, IsSetter, setter, set_field_named}, specs.Reading.{setter_at}}
-use Rattle.std.proofs.lemmas.List.{take-append-drop}
-use Rattle.drl_lex.specs.Bytes.{begins_word}
-use Rattle.drl_expr.specs.Words.{is_ident}
+use Rattle.{std.proofs.lemmas.List.{take-append-drop}, drl_lex.specs.Bytes.{begins_word}, drl_expr.specs.Words.{is_ident}}
 
 named_sound : (b : ℕ) (bytes word : List ℕ) (begins ok : Bool) → begins_word (small b) ≡ begins → is_ident (small b ∷ bytes) ≡ ok → word ≡ codes "set" ++ (b ∷ bytes)
     → IfSome (cond (begins && ok) (Some (small b ∷ bytes)) None) (λ f. IsSetter f word)

@@ -5,10 +5,8 @@ use Rattle.drl_check.proofs.Common.{test_edges, condition_edges, edges_of_condit
 use Rattle.drl_check.proofs.Common.{type_info, condition_meant, program_of, types_alone, never_matches, never_matches_alone}
 use Rattle.drl_grammar.specs.declared.condition.CondTree.TheVariants as tree
 use Rattle.drl_grammar.specs.declared.file.Body.TheVariants as body
-use Rattle.temporal_net.specs.{declared.edge.NetEdge.{NetEdge}, Potentials.{is_solvable}}
-use Rattle.rule_model.specs.{declared.program.TypeInfo.{TypeInfo}, Types.{is_event, is_point}}
-use Rattle.life_edges.specs.Edges.{place_of}
-use Rattle.expiry_infer.specs.Solvable.{can_match}
+use Rattle.{temporal_net.specs.{declared.edge.NetEdge.{NetEdge}, Potentials.{is_solvable}}, rule_model.specs.declared.program.TypeInfo.{TypeInfo}}
+use Rattle.{rule_model.specs.Types.{is_event, is_point}, life_edges.specs.Edges.{place_of}, expiry_infer.specs.Solvable.{can_match}}
 use Rattle.drl_compile.specs.Programs.{conditions_meant}
 
 event_by : (observed names : List (List ℕ)) (o : Option TypeTree) → is_event_type (option_map (type_info observed) o) ≡ is_event_type (option_map (type_info names) o)

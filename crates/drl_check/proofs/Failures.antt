@@ -3,9 +3,8 @@ use Rattle.drl_check.proofs.Common.{◌≡◌, ◌+◌, ◌++◌, ◌∷◌, ◌
 use Rattle.drl_check.proofs.Common.{append_assoc, add-one, arith, flat_map, append-nil, length-map, length-take-le, map-append, Body, Item, TypeTree, RuleTree}
 use Rattle.drl_check.proofs.Common.{Program, CheckCode, types_of, rules_of, type_in, rule_in, type_names, rule_names, entries_named, entries_declared}
 use Rattle.drl_check.proofs.Common.{declared_entries, default_name, with_names, entry_names, types_alone, Failure, codes_in_order, first_code, failure_at}
-use Rattle.drl_check.{specs.{Checks.{failure_from}, Failing.{first_failing}}, proofs.Alone.{same_alone}}
-use Rattle.drl_scope.{specs.Observed.{watched_names}, proofs.EntryLemmas.{with_both}}
-use Rattle.fx_base.proofs.Sequences.{drop_at, drop_past}
+use Rattle.{drl_check.{specs.{Checks.{failure_from}, Failing.{first_failing}}, proofs.Alone.{same_alone}}, drl_scope.specs.Observed.{watched_names}}
+use Rattle.{drl_scope.proofs.EntryLemmas.{with_both}, fx_base.proofs.Sequences.{drop_at, drop_past}}
 
 take_suc : {A : Type 0} (all : List A) (k : ℕ) (x : A) → k < length all → x ≡ get_or all k x → take (suc k) all ≡ take k all ++ x ∷ []
 take_suc [] k x lt e = absurd (omega (arith, lt))

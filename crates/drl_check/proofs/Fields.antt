@@ -4,9 +4,8 @@ use Rattle.drl_check.proofs.Common.{list_all, filter, bytes_eq, Body, Item, Type
 use Rattle.drl_check.proofs.Common.{declared_entries, is_among, word_kind, taken_by, TwiceDeclared, AllPass, annotation_word, is_repeated}
 use Rattle.std.{proofs.lemmas.Bool.{and_from, not-false, not-true}, specs.Cmp.Lexicographic.{bytes_decides}}
 use Rattle.drl_grammar.specs.declared.file.Body.TheVariants as body
-use Rattle.drl_scope.specs.Names.{are_distinct}
-use Rattle.drl_typing.specs.Kinds.{fields_once}
-use Rattle.fx_base.proofs.Tests.{and_first, and_second, or_first_false, or_second_false}
+use Rattle.{drl_scope.specs.Names.{are_distinct}, drl_typing.specs.Kinds.{fields_once}, fx_base.proofs.Tests.{and_first, and_second, or_first_false}}
+use Rattle.fx_base.proofs.Tests.{or_second_false}
 
 -- ---- names
 

@@ -4,16 +4,11 @@ use Rattle.drl_check.proofs.Common.{◌∙◌, arith, list_all, list_any, option
 use Rattle.drl_check.proofs.Common.{mul, TypeTree, Expression, is_kind, fields_in, bound_fields, kind_in, expression_kind, set_of_kind, place_of_name}
 use Rattle.drl_check.proofs.Common.{field_names, kind_by_word, kind_at, Meaning, of_fact, of_field, of_result, Sight, meaning_of, small_place, field_place}
 use Rattle.drl_check.proofs.Common.{kind_or_int, field_info, type_info, variable_value, variable_field_value, expression_in, set_in, is_number, number_where}
-use Rattle.drl_check.proofs.Common.{tree_kind, set_misfits, word_kind}
-use Rattle.std.proofs.lemmas.Bool.{and_from}
-use Rattle.fx_base.specs.declared.kind.Kind.{Kind}
+use Rattle.{drl_check.proofs.Common.{tree_kind, set_misfits, word_kind}, std.proofs.lemmas.Bool.{and_from}, fx_base.specs.declared.kind.Kind.{Kind}}
 use Rattle.fx_base.specs.declared.kind.Kind.TheVariants as kind
 use Rattle.drl_expr.specs.declared.literal.LitTree.TheVariants as literal
-use Rattle.rule_world.specs.Typed.{args_fit}
-use Rattle.drl_scope.specs.Meanings.{field_kind, variable_kind, variable_field_kind}
-use Rattle.drl_typing.specs.Kinds.{args_misfit}
-use Rattle.drl_check.proofs.Places.{type_taken, Stands, got, taken_of}
-use Rattle.fx_base.proofs.Tests.{or_first_false, or_second_false}
+use Rattle.{rule_world.specs.Typed.{args_fit}, drl_scope.specs.Meanings.{field_kind, variable_kind, variable_field_kind}, drl_typing.specs.Kinds.{args_misfit}}
+use Rattle.{drl_check.proofs.Places.{type_taken, Stands, got, taken_of}, fx_base.proofs.Tests.{or_first_false, or_second_false}}
 
 -- ---- kinds
 

@@ -11,11 +11,8 @@ use Rattle.drl_grammar.specs.declared.condition.CondTree.TheVariants as tree
 use Rattle.drl_grammar.specs.declared.condition.Part.TheVariants as part
 use Rattle.temporal_ops.specs.declared.edge.OpEdge.{OpEdge}
 use Rattle.rule_model.specs.declared.condition.Condition.TheVariants as condition
-use Rattle.rule_model.specs.Rows.{pattern_of}
-use Rattle.drl_scope.specs.Sight.{meaning_of}
-use Rattle.drl_compile.specs.{Operators.{operator_of}, Programs.{conditions_meant}}
-use Rattle.drl_typing.specs.Uses.{any_condition}
-use Rattle.fx_base.proofs.Tests.{or_first_false, or_second_false}
+use Rattle.{rule_model.specs.Rows.{pattern_of}, drl_scope.specs.Sight.{meaning_of}, drl_compile.specs.{Operators.{operator_of}, Programs.{conditions_meant}}}
+use Rattle.{drl_typing.specs.Uses.{any_condition}, fx_base.proofs.Tests.{or_first_false, or_second_false}}
 
 -- ---- a fact that a variable means is bound
 

@@ -3,14 +3,11 @@ use Rattle.drl_check.proofs.Common.{◌≡◌, ◌≤◌, ◌++◌, ◌∷◌, �
 use Rattle.drl_check.proofs.Common.{◌∙◌, append_assoc, length-append, arith, flat_map, option_and_then, bytes_eq, slice_get_within, CondTree, Part, SourceTree}
 use Rattle.drl_check.proofs.Common.{TypeTree, Condition, bound_types, place_of_name, type_names, type_tree_named, field_names, kind_at, Meaning, of_fact}
 use Rattle.drl_check.proofs.Common.{of_field, of_result, Sight, seen_fact, seen_field, seen_in, seen_of, seen_result, Place, begin, behind, sight_of_actions}
-use Rattle.drl_check.proofs.Common.{type_place, condition_meant}
-use Rattle.std.proofs.Common.{append-nil}
+use Rattle.{drl_check.proofs.Common.{type_place, condition_meant}, std.proofs.Common.{append-nil}}
 use Rattle.drl_grammar.specs.declared.condition.CondTree.TheVariants as tree
 use Rattle.drl_grammar.specs.declared.condition.Part.TheVariants as part
-use Rattle.rule_model.specs.declared.condition.Condition.TheVariants.{Plain, Negated, Existing, Folded}
-use Rattle.drl_scope.specs.Sight.{meaning_of, behind_all}
-use Rattle.drl_compile.specs.Programs.{conditions_meant}
-use Rattle.fx_base.proofs.Sequences.{get-append_left, get-last}
+use Rattle.{rule_model.specs.declared.condition.Condition.TheVariants.{Plain, Negated, Existing, Folded}, drl_scope.specs.Sight.{meaning_of, behind_all}}
+use Rattle.{drl_compile.specs.Programs.{conditions_meant}, fx_base.proofs.Sequences.{get-append_left, get-last}}
 
 -- the type of the fact of this number, given the places of the types of the facts that are bound
 abbrev pub type_taken : List TypeTree → List ℕ → ℕ → Option TypeTree

@@ -9,19 +9,17 @@ use Rattle.drl_check.proofs.Common.{type_info, entry_info, rule_of, program_of, 
 use Rattle.drl_check.proofs.Common.{has_unknown_type, inserts_unknown_type, has_unknown_variable, has_wrong_kind, TwiceDeclared, LimitPassed, UnknownType}
 use Rattle.drl_check.proofs.Common.{UnknownVariable, WrongKind, NotAnEvent, BadReference, BadParams, lacks_type, lacks_variable, is_wrong_kind, needs_event}
 use Rattle.drl_check.proofs.Common.{has_bad_reference, has_bad_params, AllPass, IsAcceptedFile, is_of_events, is_no_event, marks_event, has_short_expiry}
-use Rattle.drl_check.proofs.Common.{expires_at_once, annotation_word, is_repeated}
-use Rattle.std.proofs.{lemmas.{Bool.{and_from}, List.Folds.{list_any-append}}, Common.{append-nil}}
+use Rattle.{drl_check.proofs.Common.{expires_at_once, annotation_word, is_repeated}, std.proofs.lemmas.{Bool.{and_from}, List.Folds.{list_any-append}}}
+use Rattle.std.proofs.Common.{append-nil}
 use Rattle.drl_grammar.specs.declared.condition.CondTree.TheVariants as tree
 use Rattle.drl_grammar.specs.declared.file.Body.TheVariants as body
 use Rattle.drl_grammar.specs.declared.file.Meta.{Meta}
 use Rattle.drl_grammar.specs.declared.file.Meta.TheVariants as meta
 use Rattle.rule_model.specs.Types.{is_event, is_reference}
 use Rattle.drl_scope.specs.Annotations as annotation
-use Rattle.drl_scope.specs.Names.{are_distinct}
-use Rattle.drl_compile.specs.Laws.{has_type, has_types}
-use Rattle.drl_check.proofs.{Failures.{types_next}, Sound.{not_and_right, is_time, given_time, few_types, few_rules, few_entries, one_entry, some_entry, late}}
-use Rattle.drl_check.proofs.{Sound.{all_late, conditions_sound, actions_sound, all_sound}, Fields.{same_bytes}, Named.{rule_named}, Typed.{accepted_typed}}
-use Rattle.drl_check.proofs.Windows.{accepted_windows}
+use Rattle.{drl_scope.specs.Names.{are_distinct}, drl_compile.specs.Laws.{has_type, has_types}, drl_check.proofs.{Failures.{types_next}, Sound.{not_and_right}}}
+use Rattle.drl_check.proofs.Sound.{is_time, given_time, few_types, few_rules, few_entries, one_entry, some_entry, late, all_late, conditions_sound}
+use Rattle.drl_check.proofs.{Sound.{actions_sound, all_sound}, Fields.{same_bytes}, Named.{rule_named}, Typed.{accepted_typed}, Windows.{accepted_windows}}
 use Rattle.fx_base.proofs.Tests.{and_first, and_second, or_first_false, or_second_false}
 
 -- ---- an explicit expiry is one of an event type, from 1 to 2^53 ms

@@ -5,11 +5,9 @@ use Rattle.drl_check.proofs.Common.{types_of, rules_of, rule_in, entry_names, is
 use Rattle.drl_check.proofs.Common.{has_few_entries, exceeds_limit_behind, conditions_meant, program_of, rule_of, each_has_operator, one_for_each}
 use Rattle.drl_check.proofs.Common.{any_condition, has_unknown_type, has_unknown_variable, has_wrong_kind, CheckCode, LimitPassed, UnknownType, UnknownVariable}
 use Rattle.drl_check.proofs.Common.{WrongKind, NeverMatches, lacks_type, lacks_variable, is_wrong_kind, fails, AllPass, IsAcceptedFile, HasFewConditions}
-use Rattle.drl_check.proofs.Common.{HasNetwork}
-use Rattle.std.{proofs.lemmas.Bool.{leb-true}, specs.Bool.{Decides}}
+use Rattle.{drl_check.proofs.Common.{HasNetwork}, std.{proofs.lemmas.Bool.{leb-true}, specs.Bool.{Decides}}}
 use Rattle.drl_grammar.specs.declared.file.Body.TheVariants as body
-use Rattle.expiry_infer.{specs.Solvable.{can_match}, proofs.Matching.{can_match_is_exact}}
-use Rattle.drl_check.proofs.{Named.{rule_named}, Sound.{not_and_right}}
+use Rattle.{expiry_infer.{specs.Solvable.{can_match}, proofs.Matching.{can_match_is_exact}}, drl_check.proofs.{Named.{rule_named}, Sound.{not_and_right}}}
 use Rattle.fx_base.proofs.Tests.{and_first, and_second, or_first_false}
 
 -- ---- what earlier checks have told

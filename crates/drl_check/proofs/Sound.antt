@@ -8,11 +8,8 @@ use Rattle.drl_check.proofs.Common.{has_few_entries, lateness_within, exceeds_li
 use Rattle.drl_check.proofs.Common.{action_within, actions_within, entry_info, rule_of, action_of, one_for_each, has_bad_params, AllPass, is_negative_number}
 use Rattle.std.proofs.lemmas.Bool.{and_from, leb-true, ltb-true}
 use Rattle.drl_grammar.specs.declared.file.Body.TheVariants as body
-use Rattle.rule_world.specs.Events.{most_millis}
-use Rattle.drl_scope.specs.EntryPoints.{with_names, lateness_named}
-use Rattle.drl_limits.specs.Limits.{span_limit}
-use Rattle.drl_check.proofs.Failures.{types_next, rules_next, known_next}
-use Rattle.fx_base.proofs.Tests.{and_first, and_second}
+use Rattle.{rule_world.specs.Events.{most_millis}, drl_scope.specs.EntryPoints.{with_names, lateness_named}, drl_limits.specs.Limits.{span_limit}}
+use Rattle.{drl_check.proofs.Failures.{types_next, rules_next, known_next}, fx_base.proofs.Tests.{and_first, and_second}}
 
 pub not_and_left : (a b : Bool) → not (a && b) ≡ false → a ≡ true
 not_and_left true b e = refl

@@ -10,14 +10,11 @@ use Rattle.drl_check.proofs.Common.{observed_names, type_place, type_info, condi
 use Rattle.drl_check.proofs.Common.{program_of, LimitPassed, UnknownType, UnknownVariable, WrongKind, EventFixed, lacks_type, lacks_variable, is_wrong_kind}
 use Rattle.drl_check.proofs.Common.{fixes_event, AllPass, IsAcceptedFile, taken_by, args_misfit, insert_misfits, modify_misfits, has_wrong_kind, action_misfits}
 use Rattle.drl_check.proofs.Common.{any_condition, has_unknown_type, has_unknown_variable, inserts_unknown_type, action_unseen, target_unseen, leaf_unseen}
-use Rattle.drl_check.proofs.Common.{is_event_meant, modifies_event}
-use Rattle.std.proofs.lemmas.Bool.{and_from, leb-true, lt-ltb}
+use Rattle.{drl_check.proofs.Common.{is_event_meant, modifies_event}, std.proofs.lemmas.Bool.{and_from, leb-true, lt-ltb}}
 use Rattle.drl_grammar.specs.declared.action.ActTree.{ActTree}
 use Rattle.drl_grammar.specs.declared.action.ActTree.TheVariants as act
 use Rattle.drl_grammar.specs.declared.file.Body.TheVariants as body
-use Rattle.rule_model.specs.declared.action.Action.TheVariants.{Modify}
-use Rattle.rule_world.specs.Typed.{is_typed}
-use Rattle.drl_scope.specs.Operands.{any_leaf_of}
+use Rattle.{rule_model.specs.declared.action.Action.TheVariants.{Modify}, rule_world.specs.Typed.{is_typed}, drl_scope.specs.Operands.{any_leaf_of}}
 use Rattle.drl_check.proofs.{Fields.{HaveFieldsApart, kinds_taken, types_apart, apart_at}, Places.{type_taken, taken_of, type_placed, few_bound, sight_stands}}
 use Rattle.drl_check.proofs.{Fitting.{HaveFewFields, InSight, fields_at, args_are_fit, sets_are_fit}, Sound.{not_and_right, few_types}}
 use Rattle.fx_base.proofs.Tests.{and_first, and_second, or_first_false, or_second_false}

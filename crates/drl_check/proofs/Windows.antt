@@ -8,18 +8,16 @@ use Rattle.drl_check.proofs.Common.{entry_within, window_within, source_within, 
 use Rattle.drl_check.proofs.Common.{exceeds_limit_behind, observed_names, type_place, type_info, count_meant, window_meant, condition_meant, rule_of}
 use Rattle.drl_check.proofs.Common.{program_of, is_type_unknown, has_unknown_type, inserts_unknown_type, LimitPassed, UnknownType, NotAnEvent, BadParams}
 use Rattle.drl_check.proofs.Common.{lacks_type, needs_event, has_bad_params, AllPass, IsAcceptedFile, is_part_refused, is_empty_window, is_source_refused}
-use Rattle.drl_check.proofs.Common.{is_condition_refused}
-use Rattle.std.proofs.lemmas.Bool.{and_from, or_right}
+use Rattle.{drl_check.proofs.Common.{is_condition_refused}, std.proofs.lemmas.Bool.{and_from, or_right}}
 use Rattle.drl_grammar.specs.declared.condition.CondTree.TheVariants as tree
 use Rattle.drl_grammar.specs.declared.condition.WindowTree.{WindowTree}
 use Rattle.drl_grammar.specs.declared.condition.WindowTree.TheVariants as window
 use Rattle.drl_grammar.specs.declared.file.Body.TheVariants as body
 use Rattle.rule_model.specs.{Simple.{is_whole}, Types.{is_event}}
 use Rattle.drl_scope.specs.Annotations as annotation
-use Rattle.drl_compile.specs.Programs.{conditions_meant}
-use Rattle.drl_typing.specs.{Times.{part_lacks_times, source_lacks_times, has_no_times}, Uses.{any_condition}}
-use Rattle.drl_check.proofs.{Places.{type_placed}, Sound.{not_and_right, is_time, given_time, few_types}}
-use Rattle.fx_base.proofs.Tests.{and_first, and_second, or_first_false, or_second_false}
+use Rattle.{drl_compile.specs.Programs.{conditions_meant}, drl_typing.specs.{Times.{part_lacks_times, source_lacks_times, has_no_times}, Uses.{any_condition}}}
+use Rattle.{drl_check.proofs.{Places.{type_placed}, Sound.{not_and_right, is_time, given_time, few_types}}, fx_base.proofs.Tests.{and_first, and_second}}
+use Rattle.fx_base.proofs.Tests.{or_first_false, or_second_false}
 
 -- ---- bounds
 

@@ -1,7 +1,6 @@
 -- A type that is not declared has no field that a function could take.
 use Rattle.drl_compile.proofs.Common.{◌≡◌, ℕ, min, List, [], Option, Some, None, option_map, refl, option_and_then, TypeTree, place_of_name, field_bound}
-use Rattle.drl_compile.proofs.Common.{argument_place, type_or_none}
-use Rattle.drl_grammar.specs.declared.condition.SourceTree.{SourceTree}
+use Rattle.{drl_compile.proofs.Common.{argument_place, type_or_none}, drl_grammar.specs.declared.condition.SourceTree.{SourceTree}}
 use Rattle.drl_scope.specs.Names.{place_from}
 
 no_field : (field : Option (List ℕ)) → None ≡ option_map (λ k. min k 255) (option_and_then (place_of_name []) field)

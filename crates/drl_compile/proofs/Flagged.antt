@@ -3,20 +3,17 @@ use Rattle.drl_compile.proofs.Common.{◌≡◌, ◌≤◌, ◌<◌, ◌+◌, �
 use Rattle.drl_compile.proofs.Common.{Option, Some, None, is_some, option_map, cond, refl, sym, ap, subst, ◌∙◌, arith, list_any, list_all, flat_map}
 use Rattle.drl_compile.proofs.Common.{option_and_then, TypeTree, types_of, rules_of, place_of_name, begin, behind, observed_by, observed_names, type_info}
 use Rattle.drl_compile.proofs.Common.{rule_of, length-map, list_any-append, type_names, type_tree_named, is_among, Place, has_type, has_types, OneForEach}
-use Rattle.drl_compile.proofs.Common.{ObservedAreFlagged, has_length, type_place, window_meant, condition_meant}
-use Rattle.std.{proofs.lemmas.{Bool.{eq-eqb, eqb-true, not-true}, Option.{slice_get-map, slice_get_within}}, specs.Str.{bytes_eq}}
-use Rattle.std.specs.Cmp.Lexicographic.{bytes_decides}
+use Rattle.{drl_compile.proofs.Common.{ObservedAreFlagged, has_length, type_place, window_meant, condition_meant}, std.proofs.lemmas.Bool.{eq-eqb, eqb-true}}
+use Rattle.std.{proofs.lemmas.{Bool.{not-true}, Option.{slice_get-map, slice_get_within}}, specs.{Str.{bytes_eq}, Cmp.Lexicographic.{bytes_decides}}}
 use Rattle.drl_grammar.specs.declared.condition.CondTree.{CondTree}
 use Rattle.drl_grammar.specs.declared.condition.CondTree.TheVariants as tree
 use Rattle.drl_grammar.specs.declared.condition.WindowTree.{WindowTree}
 use Rattle.drl_grammar.specs.declared.condition.WindowTree.TheVariants as window
 use Rattle.drl_grammar.specs.declared.file.RuleTree.{RuleTree}
 use Rattle.drl_scope.specs.Annotations as annotations
-use Rattle.drl_scope.specs.{EntryPoints.{entry_names}, Names.{are_distinct, place_from}}
-use Rattle.rule_model.specs.{declared.program.TypeInfo.{TypeInfo}, Simple.{is_length, observes_type, is_observed_in}, Types.{is_event_type, is_event}}
-use Rattle.rule_model.specs.Types.{is_observed_type, is_observed}
-use Rattle.drl_compile.specs.Programs.{conditions_meant}
-use Rattle.fx_base.proofs.Tests.{and_first, and_second, or_first_false, or_second_false}
+use Rattle.{drl_scope.specs.{EntryPoints.{entry_names}, Names.{are_distinct, place_from}}, rule_model.specs.declared.program.TypeInfo.{TypeInfo}}
+use Rattle.rule_model.specs.{Simple.{is_length, observes_type, is_observed_in}, Types.{is_event_type, is_event, is_observed_type, is_observed}}
+use Rattle.{drl_compile.specs.Programs.{conditions_meant}, fx_base.proofs.Tests.{and_first, and_second, or_first_false, or_second_false}}
 
 -- ---- one condition for each
 

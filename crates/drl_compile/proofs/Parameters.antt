@@ -1,10 +1,9 @@
 -- What a word with its parameters gives, by the answers of the table's own function.
 use Rattle.drl_compile.proofs.Common.{◌≡◌, ◌&&◌, ◌||◌, ◌<ℤ◌, ℤ, pos, neg_ℤ, ◌^◌, Bool, true, false, not, List, Option, Some, None, cond, refl, sym, subst}
 use Rattle.drl_compile.proofs.Common.{arith, IfSome, list_all, list_any, OpEdge, IsOp, operator_of, All, Any-from_list_any, IsWithin, is_negative}
-use Rattle.drl_compile.specs.Operators.{is_span}
-use Rattle.std.{specs.Prelude.{Any, int_le, int_lt}, proofs.lemmas.{Int.{ints}, List.{Elements.{All-weaker}, Sums.{AllPass-from_list_all}}}}
-use Rattle.temporal_ops.specs.{declared.word.OpWord.{OpWord}, Laws.{Means}, Operators.{edges_of}, Table.{Row, says, no_row, table_row_of, takes_negative}}
-use Rattle.temporal_ops.{specs.Table.{HasRow}, proofs.{Ops.{edges_are_ops}, Rows.{edges_mean_rows}}}
+use Rattle.{drl_compile.specs.Operators.{is_span}, std.{specs.Prelude.{Any, int_le, int_lt}, proofs.lemmas.{Int.{ints}, List.Elements.{All-weaker}}}}
+use Rattle.{std.proofs.lemmas.List.Sums.{AllPass-from_list_all}, temporal_ops.specs.{declared.word.OpWord.{OpWord}, Laws.{Means}, Operators.{edges_of}}}
+use Rattle.temporal_ops.{specs.Table.{Row, says, no_row, table_row_of, takes_negative, HasRow}, proofs.{Ops.{edges_are_ops}, Rows.{edges_mean_rows}}}
 
 -- ---- limits
 

@@ -4,8 +4,8 @@ use Rattle.drl_compile.proofs.Common.{meaning_of, EachHasOperator, fact_meant, t
 use Rattle.drl_grammar.specs.declared.condition.CondTree.TheVariants as tree
 use Rattle.drl_grammar.specs.declared.condition.Part.{Part}
 use Rattle.drl_grammar.specs.declared.condition.Part.TheVariants as part
-use Rattle.rule_model.specs.{declared.test.TimeTest.{TimeTest}, Maturity.{AreOperators}}
-use Rattle.drl_compile.{specs.Programs.{conditions_meant}, proofs.Parameters.{operator_is}}
+use Rattle.{rule_model.specs.{declared.test.TimeTest.{TimeTest}, Maturity.{AreOperators}}, drl_compile.specs.Programs.{conditions_meant}}
+use Rattle.drl_compile.proofs.Parameters.{operator_is}
 
 both : (xs ys : List TimeTest) → AreOperators xs → AreOperators ys → AreOperators (xs ++ ys)
 both [] ys h k = k

@@ -3,8 +3,7 @@ use Rattle.drl_condition.proofs.Common.{◌≡◌, ℕ, zero, suc, ◌-◌, ◌+
 use Rattle.drl_condition.proofs.Common.{append_assoc, arith, codes, TokenKind, Read, CondTree, Piece, One, Open, Or, Close, ◌>>=◌, with_front, condition_at}
 use Rattle.drl_condition.proofs.Common.{PieceReader, after, after_word, ends_all, after_open}
 use Rattle.drl_phrase.specs.declared.phrase.Punctuation.TheVariants as p
-use Rattle.drl_phrase.specs.Reading.{closed}
-use Rattle.drl_condition.specs.Choices.{all_turns, all_at, any_turns, any_at, alternatives_at, choice_at}
+use Rattle.{drl_phrase.specs.Reading.{closed}, drl_condition.specs.Choices.{all_turns, all_at, any_turns, any_at, alternatives_at, choice_at}}
 
 -- pieces behind others
 regrouped : (xs ys : List Piece) (o : Read (List Piece)) → with_front xs (with_front ys o) ≡ with_front (xs ++ ys) o

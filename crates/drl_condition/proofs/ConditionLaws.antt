@@ -2,11 +2,9 @@
 use Rattle.drl_condition.proofs.Common.{◌≡◌, ℕ, ◌<◌, ◌≤◌, Bool, true, false, cond, List, [], ◌∷◌, length, Option, Some, None, refl, arith, codes, bytes_eq}
 use Rattle.drl_condition.proofs.Common.{TokenKind, Word, Var, Mark, OpenParenthesis, Colon, Read, Found, SourceTree, CondTree, IsBinding, IsSource, IsGroup}
 use Rattle.drl_condition.proofs.Common.{IsFolded, IsCondition, phrase_binds, ExactPhrase, then, same_bytes, source_at, Begins, group_at, number_at}
-use Rattle.drl_condition.proofs.Common.{accumulate_at}
-use Rattle.drl_expr.specs.Words.{is_ident}
+use Rattle.{drl_condition.proofs.Common.{accumulate_at}, drl_expr.specs.Words.{is_ident}}
 use Rattle.drl_grammar.specs.Conditions as g
-use Rattle.drl_phrase.proofs.Carried.{ident_binds}
-use Rattle.drl_condition.specs.declared.words.Form.{Form}
+use Rattle.{drl_phrase.proofs.Carried.{ident_binds}, drl_condition.specs.declared.words.Form.{Form}}
 use Rattle.drl_condition.specs.declared.words.Form.TheVariants as form
 use Rattle.drl_condition.{specs.{Words.{word_form}, Reading.{form_at, formed_at, condition_at}}, proofs.WordLaws.{ident_differs, name_form}}
 use Rattle.drl_condition.proofs.{PatternLaws.{source_exact, group_exact}, FoldLaws.{number_sound, number_again, accumulate_sound, accumulate_again}}

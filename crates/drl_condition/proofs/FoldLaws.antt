@@ -4,17 +4,14 @@ use Rattle.drl_condition.proofs.Common.{Mark, OpenParenthesis, CloseParenthesis,
 use Rattle.drl_condition.proofs.Common.{CondTree, Separated, Listed, fold_text, result_text, IsOperand, IsBinding, IsSource, IsFolded, phrase_binds}
 use Rattle.drl_condition.proofs.Common.{ExactPhrase, separated_at, listed_at, then, if_some_then, guarded, same_bytes, closed_then, separated_exact}
 use Rattle.drl_condition.proofs.Common.{listed_exact, source_at, Semicolon, IsValueTest, IsResultTest, AreResultTests, itself, fold_word, result_word}
-use Rattle.drl_condition.proofs.Common.{test_operand_at, binding_at}
-use Rattle.std.proofs.lemmas.Bool.{and_parts}
-use Rattle.drl_lex.specs.declared.token.Rel.{Rel}
+use Rattle.{drl_condition.proofs.Common.{test_operand_at, binding_at}, std.proofs.lemmas.Bool.{and_parts}, drl_lex.specs.declared.token.Rel.{Rel}}
 use Rattle.drl_grammar.specs.declared.condition.CondTree.TheVariants as condition
 use Rattle.drl_grammar.specs.Conditions as g
 use Rattle.drl_phrase.specs.declared.phrase.Punctuation.TheVariants as p
-use Rattle.drl_phrase.specs.Reading.{closed, after}
-use Rattle.drl_condition.specs.Reading.{window_at, place_at, value_test_at, result_test_at, result_tests_at, call_at, last_call_at, number_call_at}
-use Rattle.drl_condition.specs.Reading.{number_source_at, number_tests_at, number_at, result_at, accumulate_call_at, accumulate_at}
-use Rattle.drl_condition.proofs.{WordLaws.{fold_sound, fold_again, result_sound, result_again}, ValueLaws.{operand_exact}, PatternLaws.{binding_sound}}
-use Rattle.drl_condition.proofs.PatternLaws.{binding_again, binding_shorter, source_again, source_exact}
+use Rattle.{drl_phrase.specs.Reading.{closed, after}, drl_condition.specs.Reading.{window_at, place_at, value_test_at, result_test_at, result_tests_at}}
+use Rattle.drl_condition.specs.Reading.{call_at, last_call_at, number_call_at, number_source_at, number_tests_at, number_at, result_at, accumulate_call_at}
+use Rattle.drl_condition.{specs.Reading.{accumulate_at}, proofs.{WordLaws.{fold_sound, fold_again, result_sound, result_again}, ValueLaws.{operand_exact}}}
+use Rattle.drl_condition.proofs.PatternLaws.{binding_sound, binding_again, binding_shorter, source_again, source_exact}
 
 -- ---- tests of the result
 

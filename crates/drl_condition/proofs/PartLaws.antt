@@ -2,15 +2,13 @@
 use Rattle.drl_condition.proofs.Common.{◌≡◌, ℕ, ℤ, ◌<◌, ◌≤◌, List, ◌∷◌, length, Some, refl, arith, codes, bytes_eq, OpWord, TokenKind, Word, Var, Mark, Comma}
 use Rattle.drl_condition.proofs.Common.{Colon, Found, Cmp, Separated, Listed, op_text, IsSpan, IsDisj, IsPart, phrase_binds, ExactPhrase, separated_at}
 use Rattle.drl_condition.proofs.Common.{listed_at, span_at, then, if_some_then, ident_then, ident_is, same_bytes, closed_then, separated_exact, listed_exact}
-use Rattle.drl_condition.proofs.Common.{span_exact, disj_at, OpenBracket, CloseBracket, AreParams, choice, op_word}
-use Rattle.drl_expr.specs.Words.{is_ident}
+use Rattle.{drl_condition.proofs.Common.{span_exact, disj_at, OpenBracket, CloseBracket, AreParams, choice, op_word}, drl_expr.specs.Words.{is_ident}}
 use Rattle.drl_grammar.specs.declared.condition.Part.{Part}
 use Rattle.drl_grammar.specs.declared.condition.Part.TheVariants as part
 use Rattle.drl_grammar.specs.Conditions as g
 use Rattle.drl_phrase.specs.declared.phrase.Punctuation.TheVariants as p
-use Rattle.drl_phrase.specs.Reading.{closed, after}
-use Rattle.drl_condition.{specs.Reading.{params_at, other_at, temporal_at, any_of_at, part_at}, proofs.WordLaws.{op_sound, op_again, ident_differs}}
-use Rattle.drl_condition.proofs.ValueLaws.{disj_exact, Named, disj_begins}
+use Rattle.{drl_phrase.specs.Reading.{closed, after}, drl_condition.specs.Reading.{params_at, other_at, temporal_at, any_of_at, part_at}}
+use Rattle.drl_condition.proofs.{WordLaws.{op_sound, op_again, ident_differs}, ValueLaws.{disj_exact, Named, disj_begins}}
 
 -- ---- temporal tests
 

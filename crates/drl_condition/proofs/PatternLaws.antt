@@ -4,13 +4,11 @@ use Rattle.drl_condition.proofs.Common.{Number, Mark, OpenParenthesis, ClosePare
 use Rattle.drl_condition.proofs.Common.{IsSource, IsGroup, phrase_binds, ExactPhrase, listed_at, span_at, then, if_some_then, guarded, ident_then, ident_is}
 use Rattle.drl_condition.proofs.Common.{same_bytes, closed_then, span_exact, WindowWord, TimeWord, LengthWord, Maybe, left_out, written, IsName, IsWindow}
 use Rattle.drl_condition.proofs.Common.{IsPlace, maybe_at, name_at, maybe_sound, maybe_again, maybe_shorter, name_exact, window_word, part_at}
-use Rattle.std.proofs.lemmas.Bool.{and_parts}
-use Rattle.drl_grammar.specs.declared.condition.WindowTree.{WindowTree}
+use Rattle.{std.proofs.lemmas.Bool.{and_parts}, drl_grammar.specs.declared.condition.WindowTree.{WindowTree}}
 use Rattle.drl_grammar.specs.Conditions as g
 use Rattle.drl_phrase.specs.declared.phrase.Punctuation.TheVariants as p
-use Rattle.drl_phrase.specs.Reading.{closed, after}
-use Rattle.drl_condition.{specs.Reading.{extent_at, window_at, place_at, binding_at, pattern_at, source_at, group_at}, proofs.WordLaws.{window_text}}
-use Rattle.drl_condition.proofs.{WordLaws.{window_sound, window_again, word_differs}, PartLaws.{parts_exact}}
+use Rattle.{drl_phrase.specs.Reading.{closed, after}, drl_condition.specs.Reading.{extent_at, window_at, place_at, binding_at, pattern_at, source_at, group_at}}
+use Rattle.drl_condition.proofs.{WordLaws.{window_text, window_sound, window_again, word_differs}, PartLaws.{parts_exact}}
 
 -- ---- windows and entry points
 

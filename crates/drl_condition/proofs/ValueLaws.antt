@@ -3,15 +3,13 @@ use Rattle.drl_condition.proofs.Common.{◌≡◌, ℕ, ◌<◌, ◌≤◌, Bool
 use Rattle.drl_condition.proofs.Common.{Var, Number, Mark, OpenParenthesis, CloseParenthesis, Comma, Minus, Comparison, IsIdent, Phrase, Found, Operand, Cmp}
 use Rattle.drl_condition.proofs.Common.{Separated, IsOperand, IsDisj, phrase_binds, ExactPhrase, ◌>>=◌, separated_at, then, guarded, ident_then, ident_is}
 use Rattle.drl_condition.proofs.Common.{same_bytes, closed_then, separated_exact, disj_at, Text, Dot, And, single, more, IsLiteral, IsCmp, IsConj, as_operand}
-use Rattle.drl_condition.proofs.Common.{conj_at}
-use Rattle.drl_lex.specs.declared.token.Mark.TheVariants.{Or}
-use Rattle.drl_expr.specs.{Words.{is_ident}, declared.literal.LitTree.{LitTree}}
+use Rattle.{drl_condition.proofs.Common.{conj_at}, drl_lex.specs.declared.token.Mark.TheVariants.{Or}, drl_expr.specs.Words.{is_ident}}
+use Rattle.drl_expr.specs.declared.literal.LitTree.{LitTree}
 use Rattle.drl_expr.specs.declared.literal.LitTree.TheVariants as lit
 use Rattle.drl_grammar.specs.declared.condition.Operand.TheVariants as operand
 use Rattle.drl_grammar.specs.Conditions as g
 use Rattle.drl_phrase.specs.declared.phrase.Punctuation.TheVariants as p
-use Rattle.drl_phrase.specs.Reading.{closed, after}
-use Rattle.drl_condition.specs.Reading.{literal_at, test_operand_at, compared_at, one_of_at, cmp_at}
+use Rattle.{drl_phrase.specs.Reading.{closed, after}, drl_condition.specs.Reading.{literal_at, test_operand_at, compared_at, one_of_at, cmp_at}}
 
 words_sound : (w : List ℕ) (rest : List TokenKind) (t f : Bool) → bytes_eq w (codes "true") ≡ t → bytes_eq w (codes "false") ≡ f
     → Found IsLiteral (Word w ∷ rest) (cond t (Some (lit.Bool true, rest)) (cond f (Some (lit.Bool false, rest)) None))

@@ -1,12 +1,10 @@
 -- The words with a meaning of their own, and the words that are names.
 use Rattle.drl_condition.proofs.Common.{◌≡◌, ℕ, ◌≤◌, Bool, true, false, cond, List, ◌∷◌, Option, Some, refl, subst, arith, IfSome, codes, bytes_eq, OpWord}
 use Rattle.drl_condition.proofs.Common.{TokenKind, Word, IsIdent, FoldWord, op_text, fold_text, result_text, phrase_binds, same_bytes, WindowWord, TimeWord}
-use Rattle.drl_condition.proofs.Common.{LengthWord}
-use Rattle.temporal_ops.specs.declared.word.OpWord.TheVariants.{After, Before, Coincides, During, Includes, Finishes, FinishedBy, Starts, StartedBy, Meets}
-use Rattle.temporal_ops.specs.declared.word.OpWord.TheVariants.{MetBy, Overlaps, OverlappedBy}
-use Rattle.drl_expr.specs.Words.{is_ident}
-use Rattle.drl_grammar.specs.declared.condition.{FoldWord.TheVariants.{Count, Sum, Min, Max, Average}, ResultWord.{ResultWord, TheVariants.{LongValue}}}
-use Rattle.drl_grammar.specs.declared.condition.ResultWord.TheVariants.{IntValue}
+use Rattle.{drl_condition.proofs.Common.{LengthWord}, temporal_ops.specs.declared.word.OpWord.TheVariants.{After, Before, Coincides, During, Includes}}
+use Rattle.temporal_ops.specs.declared.word.OpWord.TheVariants.{Finishes, FinishedBy, Starts, StartedBy, Meets, MetBy, Overlaps, OverlappedBy}
+use Rattle.{drl_expr.specs.Words.{is_ident}, drl_grammar.specs.declared.condition.FoldWord.TheVariants.{Count, Sum, Min, Max, Average}}
+use Rattle.drl_grammar.specs.declared.condition.ResultWord.{ResultWord, TheVariants.{LongValue, IntValue}}
 use Rattle.drl_condition.specs.declared.words.Form.TheVariants as form
 use Rattle.drl_condition.specs.Words.{op_word, fold_word, result_word, window_word, word_form}
 

@@ -2,8 +2,8 @@
 use Rattle.drl_expr.proofs.Common.{◌≡◌, ℕ, zero, suc, ◌-◌, ◌<◌, ◌≤◌, Bool, true, false, cond, List, [], ◌∷◌, length, Option, Some, None, refl, sym, ap, subst}
 use Rattle.drl_expr.proofs.Common.{◌∙◌, arith, IfSome, codes, TokenKind, Word, Var, Number, Text, Mark, OpenParenthesis, CloseParenthesis, Dot, Plus, Minus}
 use Rattle.drl_expr.proofs.Common.{Star, Opening, Negative, Parenthesis, Tree, lit, var, var_field, neg, add, sub, mul, height, Read, Phrase, Found}
-use Rattle.drl_expr.proofs.Common.{expression_binds, Exact, ExpressionReader, factor_step}
-use Rattle.std.{specs.Str.{bytes_eq}, proofs.lemmas.Slice.Eq.{bytes_eq-Decides}}
+use Rattle.{drl_expr.proofs.Common.{expression_binds, Exact, ExpressionReader, factor_step}, std.specs.Str.{bytes_eq}}
+use Rattle.std.proofs.lemmas.Slice.Eq.{bytes_eq-Decides}
 use Rattle.drl_expr.specs.declared.literal.LitTree.TheVariants as l
 use Rattle.drl_expr.specs.Words.{is_ident}
 use Rattle.drl_expr.specs.Grammar as g

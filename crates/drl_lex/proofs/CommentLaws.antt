@@ -1,7 +1,6 @@
 -- The first end of a comment.
 use Rattle.drl_lex.proofs.Common.{◌≡◌, ℕ, ◌++◌, ◌&&◌, Bool, true, false, eqb, List, [], ◌∷◌, drop, Option, Some, None, refl, ap, ◌∙◌, codes, eqb-true, begins}
-use Rattle.drl_lex.{proofs.Common.{IsWithout, close_step}, specs.Fronts.{behind_close}}
-use Rattle.std.proofs.lemmas.Bool.{and_parts}
+use Rattle.{drl_lex.{proofs.Common.{IsWithout, close_step}, specs.Fronts.{behind_close}}, std.proofs.lemmas.Bool.{and_parts}}
 
 -- a body without `*/`, and the `*/` behind it
 pub record Closes (bytes rest : List ℕ) : Type 0 where

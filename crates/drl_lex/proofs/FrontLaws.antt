@@ -1,7 +1,6 @@
 -- The longest front of bytes that pass a test, and the first end of a comment.
 use Rattle.drl_lex.proofs.Common.{◌≡◌, ℕ, zero, suc, ◌<◌, ◌≤◌, ◌++◌, Bool, true, false, List, [], ◌∷◌, length, take, drop, get_or, refl, ap, ◌∙◌, arith}
-use Rattle.drl_lex.{proofs.Common.{list_all, begins, at_drop_more, longest_step}, specs.Fronts.{longest}}
-use Rattle.std.proofs.lemmas.Bool.{and_parts}
+use Rattle.{drl_lex.{proofs.Common.{list_all, begins, at_drop_more, longest_step}, specs.Fronts.{longest}}, std.proofs.lemmas.Bool.{and_parts}}
 
 longest_at : (test : ℕ → Bool) (bytes : List ℕ) (i : ℕ) → list_all test (take i bytes) ≡ true → begins test (drop i bytes) ≡ false → longest test bytes ≡ (take i bytes, drop i bytes)
 unfolding longest

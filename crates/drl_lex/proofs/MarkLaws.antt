@@ -3,8 +3,7 @@ use Rattle.drl_lex.proofs.Common.{◌≡◌, ℕ, ◌++◌, ◌&&◌, Bool, true
 use Rattle.drl_lex.proofs.Common.{eqb-true, Equal, Less, LessOrEqual, Greater, GreaterOrEqual, Assign, Comparison, Other, begins, mark_text, lengthens}
 use Rattle.drl_lex.proofs.Common.{NotEqual, OpenParenthesis, CloseParenthesis, OpenBrace, CloseBrace, OpenBracket, CloseBracket, Comma, Semicolon, Colon, Dot}
 use Rattle.drl_lex.{proofs.Common.{At, Plus, Minus, Star, Or, And, mark_step}, specs.{declared.token.Mark.{Mark}, Bytes.{is_blank, is_quote, begins_word}}}
-use Rattle.drl_lex.specs.{Leads.{lead_of}, MarkReading.{single_mark, double_mark, mark_at}}
-use Rattle.std.proofs.lemmas.Bool.{and_parts}
+use Rattle.{drl_lex.specs.{Leads.{lead_of}, MarkReading.{single_mark, double_mark, mark_at}}, std.proofs.lemmas.Bool.{and_parts}}
 
 -- a mark of one byte, and no longer one where no mark of two bytes stands
 pub record IsSingle (b : ℕ) (mark : Mark) : Type 0 where

@@ -3,8 +3,7 @@ use Rattle.drl_lex.proofs.Common.{◌≡◌, ℕ, ◌^◌, ◌<◌, ◌++◌, Bo
 use Rattle.drl_lex.proofs.Common.{◌∙◌, arith, append_assoc, codes, nat_lt, nat_le, IfSome, list_all, is_ascii_digit, digits_value, ltb-true, leb-true}
 use Rattle.drl_lex.proofs.Common.{length-append, append-nil, TokenKind, Number, Time, LexCode, NumberLarge, begins, IsDigitRun, IsLexFault, longest}
 use Rattle.drl_lex.proofs.Common.{number_kind, time_kind, is_empty_text, time_of, IsNumeral, IsTimePart, IsLastPart, IsTime, Spells, longer, ltb-false}
-use Rattle.drl_lex.{proofs.Common.{leb-false}, specs.Bytes.{is_run_byte, is_unit_byte, is_word_byte}}
-use Rattle.std.proofs.lemmas.Bool.{and_parts, not-true}
+use Rattle.{drl_lex.{proofs.Common.{leb-false}, specs.Bytes.{is_run_byte, is_unit_byte, is_word_byte}}, std.proofs.lemmas.Bool.{and_parts, not-true}}
 use Rattle.drl_lex.specs.Faults as f
 use Rattle.drl_lex.specs.Reading.{run_kind}
 use Rattle.drl_lex.specs.Times as t

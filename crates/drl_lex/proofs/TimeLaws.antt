@@ -2,8 +2,7 @@
 use Rattle.drl_lex.proofs.Common.{◌≡◌, ℕ, ◌+◌, ◌<◌, ◌≤◌, ◌++◌, Bool, true, false, not, ◌&&◌, ◌||◌, cond, List, [], ◌∷◌, length, refl, ap, ◌∙◌, arith, Option}
 use Rattle.drl_lex.proofs.Common.{Some, None, append_assoc, codes, option_map, nat_lt, IfSome, list_all, is_ascii_digit, digits_value, ltb-true, nat_tests}
 use Rattle.drl_lex.proofs.Common.{length-append, append-nil, begins, IsNumeral, IsTimePart, IsLastPart, IsTime, is_empty_text, total_of, bytes_eq}
-use Rattle.drl_lex.specs.{Bytes.{is_unit_byte}, Fronts.{longest}}
-use Rattle.std.proofs.lemmas.{Bool.{and_parts, and_right, not-true}, Slice.Eq.{bytes_eq-Decides}}
+use Rattle.{drl_lex.specs.{Bytes.{is_unit_byte}, Fronts.{longest}}, std.proofs.lemmas.{Bool.{and_parts, and_right, not-true}, Slice.Eq.{bytes_eq-Decides}}}
 use Rattle.drl_lex.specs.Times as t
 use Rattle.drl_lex.{specs.TimeReading.{unit_part_at, last_at, time_of}, proofs.FrontLaws.{longest_is, longest_again}}
 

@@ -1,8 +1,7 @@
 -- Bytes as text.
 use Rattle.drl_lex.proofs.Common.{◌≡◌, ℕ, ◌<◌, zero, suc, List, [], ◌∷◌, true, false, Bool, None, Result, Ok, Err, Bor, refl, sym, arith, list_all, is_utf8}
 use Rattle.drl_lex.proofs.Common.{nat_tests, MatchResult, IsOk, IsUtf8, IsAscii, IsUtf8-from_ascii, is_utf8-from_IsUtf8, IsUtf8-from_is_utf8}
-use Rattle.drl_lex.specs.{Bytes.{is_word_byte}, Texts.{utf8_text}}
-use Rattle.std.{proofs.{lemmas.Bool.{and_parts}, Common.{option_map}}, specs.Result.{result_ok}}
+use Rattle.{drl_lex.specs.{Bytes.{is_word_byte}, Texts.{utf8_text}}, std.{proofs.{lemmas.Bool.{and_parts}, Common.{option_map}}, specs.Result.{result_ok}}}
 
 not_utf8 : (b : Bool) (bytes : List ℕ) → is_utf8 bytes ≡ b → (IsUtf8 bytes → ⊥) → utf8_text bytes ≡ None
 unfolding utf8_text

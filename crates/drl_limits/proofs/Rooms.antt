@@ -1,7 +1,6 @@
 -- What is left of a room when a list of things takes of it, one after the other.
 use Rattle.drl_limits.proofs.Common.{◌≡◌, ◌+◌, ◌-◌, ◌∷◌, ℕ, Bool, true, false, List, Some, None, is_some, nat_le, cond, refl, sym, ap, ◌∙◌, arith, sum_by}
-use Rattle.drl_limits.proofs.Common.{left_of}
-use Rattle.std.proofs.lemmas.{Bool.Decides.{nat_tests}, List.Sums.{sum_by-cons}}
+use Rattle.{drl_limits.proofs.Common.{left_of}, std.proofs.lemmas.{Bool.Decides.{nat_tests}, List.Sums.{sum_by-cons}}}
 
 left_more : (r a b q : ℕ) → left_of r a ≡ Some q → left_of q b ≡ left_of r (a + b)
 left_more r a b q e = grind (arith, nat_tests)

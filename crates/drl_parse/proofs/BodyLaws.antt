@@ -7,10 +7,10 @@ use Rattle.drl_grammar.specs.declared.written.WrittenBody.TheVariants as body
 use Rattle.drl_grammar.specs.Items as g
 use Rattle.drl_grammar.specs.Shapes as m
 use Rattle.drl_phrase.specs.declared.phrase.Punctuation.TheVariants as p
-use Rattle.drl_phrase.specs.Reading.{whole_at}
-use Rattle.drl_parse.specs.{declared.words.ItemWord.{ItemWord, TheVariants.{PackageWord, ImportWord, DialectWord, DeclareWord, RuleWord}}, Reading.{item_word}}
-use Rattle.drl_parse.{specs.Reading.{declare_at, behind_item, item_at}, proofs.{ItemLaws.{Exactly}, PathLaws.{no_step, path_again, path_exact, star_sound}}}
-use Rattle.drl_parse.proofs.{PathLaws.{star_again, star_ends, star_shorter}, RuleLaws.{rule_exact}, TypeLaws.{type_exact, entry_exact}}
+use Rattle.{drl_phrase.specs.Reading.{whole_at}, drl_parse.specs.declared.words.ItemWord.{ItemWord, TheVariants.{PackageWord, ImportWord, DialectWord}}}
+use Rattle.drl_parse.specs.{declared.words.ItemWord.TheVariants.{DeclareWord, RuleWord}, Reading.{item_word, declare_at, behind_item, item_at}}
+use Rattle.drl_parse.proofs.{ItemLaws.{Exactly}, PathLaws.{no_step, path_again, path_exact, star_sound, star_again, star_ends, star_shorter}}
+use Rattle.drl_parse.proofs.{RuleLaws.{rule_exact}, TypeLaws.{type_exact, entry_exact}}
 
 -- ---- declarations
 

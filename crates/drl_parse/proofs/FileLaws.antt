@@ -3,8 +3,7 @@ use Rattle.drl_parse.proofs.Common.{◌≡◌, ◌↔◌, ℕ, zero, suc, ◌+�
 use Rattle.drl_parse.proofs.Common.{Result, Ok, Err, refl, sym, ap, arith, ltb-false, Token, TokenKind, kinds, AreTokens, tokens_again, WrittenBody, lines_at}
 use Rattle.drl_parse.proofs.Common.{IsFile, ItemsRead, items_at, Parsed, is_file, outside, too_long, lexical, items_parsed, ltb-true, lt-ltb, le-ltb, piece_at}
 use Rattle.drl_parse.proofs.Common.{behind_piece, lexed_step, tokens_sound, refused_sound, refused_again, IsOutside, file_limit, IsLexical, tokens_parsed}
-use Rattle.drl_parse.specs.Parsed.{parsed_by}
-use Rattle.drl_lex.specs.{declared.fault.LexCode.{LexCode}, Reading.{ReadToken, lexed_from, lexed}}
+use Rattle.{drl_parse.specs.Parsed.{parsed_by}, drl_lex.specs.{declared.fault.LexCode.{LexCode}, Reading.{ReadToken, lexed_from, lexed}}}
 use Rattle.drl_parse.proofs.ItemLaws as items
 use Rattle.drl_parse.proofs.ItemLaws.{Exactly, Stands, items_sound}
 

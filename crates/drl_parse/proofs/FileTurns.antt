@@ -4,9 +4,8 @@ use Rattle.drl_parse.proofs.Common.{tokens_again, WrittenItem, lines_at, IsFile,
 use Rattle.drl_parse.proofs.Common.{lexical, items_parsed, IfOk, IfErr, IsErrAnd, lexed, GivesItems, IsParseFault, FaultOf, GivesParsed}
 use Rattle.drl_lex.specs.declared.fault.LexFault.{LexFault}
 use Rattle.drl_lex.specs.declared.fault.LexFault.TheVariants as lexer
-use Rattle.drl_lex.specs.Answers.{FailsLexing}
-use Rattle.drl_grammar.specs.declared.written.Written.{Written}
-use Rattle.drl_parse.specs.{declared.fault.ParseFault.{ParseFault, TheVariants.{Syntax, TooLong, Lexical, NoMemory}}, Parsed.{file_limit, parsed_by, parsed}}
+use Rattle.{drl_lex.specs.Answers.{FailsLexing}, drl_grammar.specs.declared.written.Written.{Written}, drl_parse.specs.declared.fault.ParseFault.{ParseFault}}
+use Rattle.drl_parse.specs.{declared.fault.ParseFault.TheVariants.{Syntax, TooLong, Lexical, NoMemory}, Parsed.{file_limit, parsed_by, parsed}}
 use Rattle.drl_parse.proofs.{FileLaws.{few_tokens, same_kinds, Means, parsed_means}, ItemLaws.{Exactly}}
 
 pub long_is : (bytes : List ℕ) → nat_lt file_limit (length bytes) ≡ true → parsed bytes ≡ too_long

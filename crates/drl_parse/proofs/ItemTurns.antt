@@ -2,9 +2,8 @@
 use Rattle.drl_parse.proofs.Common.{◌≡◌, ℕ, ◌+◌, ◌≤◌, Bool, true, false, not, cond, min, List, [], ◌∷◌, ◌++◌, length, get_or, take, drop, length-drop, Option}
 use Rattle.drl_parse.proofs.Common.{Some, None, Ok, Err, refl, sym, ap, ◌∙◌, append_assoc, add-one, arith, length-append, TokenKind, WrittenItem, WrittenBody}
 use Rattle.drl_parse.proofs.Common.{ItemsRead, length-take, append-nil, prefix_len-le-length, opens_block, begins_item, ends_block, count_before, with_item}
-use Rattle.drl_parse.{specs.Items.{first_item, items_at}, proofs.ItemLaws.{enough_turns}}
-use Rattle.std.proofs.lemmas.{Option.{same_Some}, List.Folds.{length-prefix_len}}
-use Rattle.drl_grammar.specs.Files.{extent}
+use Rattle.{drl_parse.{specs.Items.{first_item, items_at}, proofs.ItemLaws.{enough_turns}}, std.proofs.lemmas.Option.{same_Some}}
+use Rattle.{std.proofs.lemmas.List.Folds.{length-prefix_len}, drl_grammar.specs.Files.{extent}}
 
 -- what was read before, and what is still read
 abbrev pub behind : List WrittenItem → ItemsRead → ItemsRead

@@ -1,8 +1,7 @@
 -- Lines counted by one walk over the bytes.
 use Rattle.drl_parse.proofs.Common.{◌≡◌, ℕ, ◌+◌, ◌-◌, ◌<◌, ◌≤◌, ◌==◌, List, [], ◌∷◌, ◌++◌, length, get_or, map, min, ◌^◌, take, drop, refl, arith}
 use Rattle.drl_parse.proofs.Common.{length-append, Token, AreTokens, take_more, drop_more, map_push, length-filter, count_by-le-length, starts, ReadsTokens}
-use Rattle.drl_parse.proofs.Common.{line_at}
-use Rattle.std.proofs.{lemmas.List.{length-take, Elements.{filter-append}}, Math.Seq.{take-add}}
+use Rattle.{drl_parse.proofs.Common.{line_at}, std.proofs.{lemmas.List.{length-take, Elements.{filter-append}}, Math.Seq.{take-add}}}
 use Rattle.drl_lex.specs.Tokens as p
 use Rattle.drl_parse.specs.Lines.{newlines, Rises}
 

@@ -11,8 +11,8 @@ use Rattle.drl_grammar.specs.Actions.{IsAction}
 use Rattle.drl_grammar.specs.Items as g
 use Rattle.drl_phrase.specs.declared.phrase.Punctuation.TheVariants as p
 use Rattle.drl_condition.{specs.Choices.{ends_all, pieces_at}, proofs.ChoiceLaws.{asked_sound, asked_again, asked_shorter}}
-use Rattle.drl_action.{specs.Reading.{action_word, action_at}, proofs.ActionLaws.{action_exact}}
-use Rattle.drl_parse.specs.Reading.{salience_at, attr_at, actions_at, conditions_at, rule_at}
+use Rattle.{drl_action.{specs.Reading.{action_word, action_at}, proofs.ActionLaws.{action_exact}}, drl_parse.specs.Reading.{salience_at, attr_at, actions_at}}
+use Rattle.drl_parse.specs.Reading.{conditions_at, rule_at}
 
 -- ---- attributes
 

@@ -4,15 +4,14 @@ use Rattle.drl_parse.proofs.Common.{TokenKind, Word, Mark, Minus, Found, Written
 use Rattle.drl_parse.proofs.Common.{name_at, name_exact, then, guarded, ident_then, ident_is, same_bytes, ended_then, ended_is, Begins, many_sound, many_again}
 use Rattle.drl_parse.proofs.Common.{many_shorter, OpenParenthesis, CloseParenthesis, Colon, At, IsSpan, IsMeta, IsField, IsParentName, IsLateness, Maybe}
 use Rattle.drl_parse.proofs.Common.{maybe_at, span_at, span_exact, closed_then, maybe_sound, maybe_again, maybe_shorter, meta_text}
-use Rattle.drl_expr.specs.Words.{is_ident}
-use Rattle.drl_grammar.specs.declared.file.Meta.{Meta}
+use Rattle.{drl_expr.specs.Words.{is_ident}, drl_grammar.specs.declared.file.Meta.{Meta}}
 use Rattle.drl_grammar.specs.declared.file.Meta.TheVariants as meta
 use Rattle.drl_grammar.specs.Items as g
 use Rattle.drl_grammar.specs.Shapes as m
 use Rattle.drl_phrase.specs.declared.phrase.Punctuation.TheVariants as p
-use Rattle.drl_phrase.specs.Reading.{after, closed, ident}
-use Rattle.drl_parse.specs.declared.words.MetaWord.{MetaWord, TheVariants.{RoleWord, TimestampWord, DurationWord, ExpiresWord, ReferenceWord}}
-use Rattle.drl_parse.specs.Reading.{meta_word_of, role_word, behind_meta, meta_at, field_at, parent_at, type_at, lateness_at, behind_point, entry_at}
+use Rattle.{drl_phrase.specs.Reading.{after, closed, ident}, drl_parse.specs.declared.words.MetaWord.{MetaWord, TheVariants.{RoleWord, TimestampWord}}}
+use Rattle.drl_parse.specs.{declared.words.MetaWord.TheVariants.{DurationWord, ExpiresWord, ReferenceWord}, Reading.{meta_word_of, role_word, behind_meta}}
+use Rattle.drl_parse.specs.Reading.{meta_at, field_at, parent_at, type_at, lateness_at, behind_point, entry_at}
 
 -- ---- annotations
 

@@ -2,8 +2,7 @@
 use Rattle.drl_phrase.proofs.Common.{◌≡◌, ℕ, ◌≤◌, Bool, true, false, cond, List, ◌∷◌, refl, subst, arith, codes, bytes_eq, TokenKind, Word, Mark, Dot, Star}
 use Rattle.drl_phrase.proofs.Common.{Plus, Minus, And, Or, Comma, Semicolon, Read, Phrase, IsIdent, phrase_binds, ExactPhrase}
 use Rattle.drl_expr.specs.Exact as expressions
-use Rattle.drl_expr.specs.Words.{is_ident}
-use Rattle.drl_phrase.proofs.ShapeLaws.{same_bytes}
+use Rattle.{drl_expr.specs.Words.{is_ident}, drl_phrase.proofs.ShapeLaws.{same_bytes}}
 
 not_over : IsIdent (codes "over") → ⊥
 unfolding is_ident

@@ -2,8 +2,7 @@
 use Rattle.drl_phrase.proofs.Common.{◌≡◌, ℕ, ℤ, ◌<◌, ◌≤◌, List, ◌∷◌, length, Some, refl, arith, TokenKind, Word, Number, Time, Text, Mark, Minus, Found}
 use Rattle.drl_phrase.proofs.Common.{phrase_binds, ExactPhrase}
 use Rattle.drl_grammar.specs.Conditions as g
-use Rattle.drl_grammar.specs.Conditions.{IsSpan, IsName}
-use Rattle.drl_phrase.{specs.Reading.{span_at, name_at}, proofs.ShapeLaws.{ident_then, ident_is}}
+use Rattle.{drl_grammar.specs.Conditions.{IsSpan, IsName}, drl_phrase.{specs.Reading.{span_at, name_at}, proofs.ShapeLaws.{ident_then, ident_is}}}
 
 pub span_exact : ExactPhrase IsSpan span_at 0
 unfolding span_at

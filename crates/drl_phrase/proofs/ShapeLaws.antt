@@ -3,9 +3,8 @@ use Rattle.drl_phrase.proofs.Common.{◌≡◌, ℕ, zero, suc, ◌<◌, ◌≤�
 use Rattle.drl_phrase.proofs.Common.{arith, IfSome, IfNone, bytes_eq, TokenKind, Word, Mark, CloseParenthesis, CloseBracket, CloseBrace, Comma, Semicolon, Or}
 use Rattle.drl_phrase.proofs.Common.{And, is_ident, IsIdent, Read, Phrase, Found, Punctuation, phrase_binds, ExactPhrase, ◌>>=◌, mark_of, level, with_first}
 use Rattle.drl_phrase.proofs.Common.{more_step, members_at, listed_step, many_step, maybe_step, optional_step, if_last}
-use Rattle.std.proofs.lemmas.Slice.Eq.{bytes_eq-Decides}
-use Rattle.drl_grammar.specs.Shapes.{Maybe, left_out, written, Optional, absent, present, Many, nothing, further, Separated, single, more, Listed, empty}
-use Rattle.drl_grammar.specs.Shapes.{members}
+use Rattle.{std.proofs.lemmas.Slice.Eq.{bytes_eq-Decides}, drl_grammar.specs.Shapes.{Maybe, left_out, written, Optional, absent, present, Many, nothing}}
+use Rattle.drl_grammar.specs.Shapes.{further, Separated, single, more, Listed, empty, members}
 use Rattle.drl_phrase.specs.declared.phrase.Punctuation.TheVariants as p
 use Rattle.drl_phrase.specs.Reading.{after, after_word, closed, ended, ident, more_at, separated_at, listed_at, turns_at, many_at, maybe_at, optional_at}
 use Rattle.drl_phrase.specs.Reading.{whole_at}

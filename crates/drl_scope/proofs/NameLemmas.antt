@@ -1,9 +1,8 @@
 -- The places of names in a list that grows at its end, and names that stand once.
 use Rattle.drl_scope.proofs.Common.{◌≡◌, ◌+◌, ◌++◌, ◌∷◌, ◌&&◌, ◌||◌, ℕ, ◌<◌, Bool, true, false, not, List, [], length, get_or, drop, drop-cons, add-one, Option}
 use Rattle.drl_scope.proofs.Common.{Some, None, is_some, cond, refl, sym, ap, subst, ◌∙◌, append_assoc, suc, arith, place_of_name, is_among}
-use Rattle.drl_scope.specs.Names.{place_from, are_distinct}
-use Rattle.std.{proofs.lemmas.Bool.{or_right}, specs.{Str.{bytes_eq}, Cmp.Lexicographic.{nat_list_eq_equiv}}}
-use Rattle.fx_base.proofs.Tests.{or_first_false, or_second_false}
+use Rattle.{drl_scope.specs.Names.{place_from, are_distinct}, std.{proofs.lemmas.Bool.{or_right}, specs.Str.{bytes_eq}}}
+use Rattle.{std.specs.Cmp.Lexicographic.{nat_list_eq_equiv}, fx_base.proofs.Tests.{or_first_false, or_second_false}}
 
 abbrev turned : (a b : List ℕ) → bytes_eq a b ≡ bytes_eq b a
 turned a b = nat_list_eq_equiv.symm a b

@@ -2,8 +2,7 @@
 use Rattle.drl_show.proofs.Common.{◌≡◌, ℕ, ℤ, suc, ◌+◌, ◌<◌, List, [], ◌∷◌, ◌++◌, length, drop, get_or, refl, sym, ap, ◌∙◌, append_assoc, add-one, drop-cons}
 use Rattle.drl_show.proofs.Common.{arith, append-nil, TokenKind, Word, Mark, OpenParenthesis, OpenBracket, CloseBracket, Comma, codes, SourceTree, FoldWord}
 use Rattle.drl_show.proofs.Common.{each, parted, number_tokens, param_tokens, source_tokens, spaced, added, function_tokens, joined}
-use Rattle.drl_show.specs.{Canonical.{accumulate_tokens}, Texts.{token_text}}
-use Rattle.drl_lex.specs.declared.token.Mark.{Mark as MarkData}
+use Rattle.{drl_show.specs.{Canonical.{accumulate_tokens}, Texts.{token_text}}, drl_lex.specs.declared.token.Mark.{Mark as MarkData}}
 
 pub added_append : (bytes : List ℕ) (xs ys : List TokenKind) → added bytes (xs ++ ys) ≡ added (added bytes xs) ys
 added_append bytes [] ys = refl

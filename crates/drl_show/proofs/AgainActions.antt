@@ -1,13 +1,11 @@
 -- The tokens of an action stand for it again, whatever follows.
 use Rattle.drl_show.proofs.Common.{◌≡◌, ℕ, ◌+◌, ◌&&◌, Bool, true, false, cond, List, [], ◌∷◌, ◌++◌, refl, arith, codes, list_all, nat_tests, Word, Var, Mark}
 use Rattle.drl_show.proofs.Common.{OpenParenthesis, CloseParenthesis, Comma, Semicolon, Assign, IsIdent, parted, listed, expr_tokens, action_tokens, nat_le}
-use Rattle.drl_show.proofs.Common.{OpenBrace, CloseBrace, assign_tokens}
-use Rattle.drl_lex.specs.Bytes.{begins_word, is_word_byte}
+use Rattle.{drl_show.proofs.Common.{OpenBrace, CloseBrace, assign_tokens}, drl_lex.specs.Bytes.{begins_word, is_word_byte}}
 use Rattle.drl_grammar.specs.Shapes as shapes
 use Rattle.drl_grammar.specs.Actions as g
-use Rattle.drl_grammar.specs.Actions.{small, IsSetter, IsAssign, IsAction}
-use Rattle.drl_show.proofs.{Fine.{Good, fine_word, fine_var, fine_append, both}, AgainShapes.{Agains, regroup, separated_again, listed_again, optional_good}}
-use Rattle.drl_show.proofs.AgainExpressions.{expression_again}
+use Rattle.{drl_grammar.specs.Actions.{small, IsSetter, IsAssign, IsAction}, drl_show.proofs.Fine.{Good, fine_word, fine_var, fine_append, both}}
+use Rattle.drl_show.proofs.{AgainShapes.{Agains, regroup, separated_again, listed_again, optional_good}, AgainExpressions.{expression_again}}
 
 -- ---- the field that a setter names is a word
 

@@ -1,8 +1,7 @@
 -- The tokens of what a rule asks for stand for it again.
 use Rattle.drl_show.proofs.Common.{◌≡◌, ℕ, suc, List, [], ◌∷◌, ◌++◌, refl, sym, ap, subst, ◌∙◌, append_assoc, append-nil, codes, TokenKind, Word, Mark}
 use Rattle.drl_show.proofs.Common.{OpenParenthesis, CloseParenthesis, Phrase, each, piece_tokens, IsChoice, AreAll, AreAny, IsAsked}
-use Rattle.drl_lex.specs.Bytes.{begins_word, is_word_byte}
-use Rattle.drl_grammar.specs.declared.written.Piece.{Piece, TheVariants.{One, Or, Close}}
+use Rattle.{drl_lex.specs.Bytes.{begins_word, is_word_byte}, drl_grammar.specs.declared.written.Piece.{Piece, TheVariants.{One, Or, Close}}}
 use Rattle.drl_grammar.specs.Conditions as g
 use Rattle.drl_show.proofs.{Fine.{fine_append}, AgainShapes.{Again, Agains, regroup}, AgainConditions.{condition_again}}
 

@@ -5,10 +5,9 @@ use Rattle.drl_show.proofs.Common.{Comma, Semicolon, Colon, Dot, Comparison, Sou
 use Rattle.drl_show.proofs.Common.{literal_tokens, param_tokens, Or, And, op_text, fold_text, IsLiteral, IsOperand, IsSpan, IsName, IsCmp, IsConj, IsDisj}
 use Rattle.drl_show.proofs.Common.{AreParams, IsPart, IsWindow, IsPlace, IsBinding, IsSource, IsGroup, IsValueTest, IsResultTest, AreResultTests, IsFolded}
 use Rattle.drl_show.proofs.Common.{IsCondition, operand_tokens, cmp_tokens, conj_tokens, disj_tokens, part_tokens, window_tokens, place_tokens, binding_tokens}
-use Rattle.drl_show.proofs.Common.{test_tokens, group_tokens, condition_tokens}
-use Rattle.temporal_ops.specs.declared.word.OpWord.{OpWord, TheVariants.{After, Before, Coincides, During, Includes, Finishes, FinishedBy, Starts, StartedBy}}
-use Rattle.temporal_ops.specs.declared.word.OpWord.TheVariants.{Meets, MetBy, Overlaps, OverlappedBy}
-use Rattle.drl_lex.specs.{Bytes.{begins_word, is_word_byte}, declared.token.Rel.{Rel}}
+use Rattle.{drl_show.proofs.Common.{test_tokens, group_tokens, condition_tokens}, temporal_ops.specs.declared.word.OpWord.{OpWord, TheVariants.{After, Before}}}
+use Rattle.temporal_ops.specs.declared.word.OpWord.TheVariants.{Coincides, During, Includes, Finishes, FinishedBy, Starts, StartedBy, Meets, MetBy, Overlaps}
+use Rattle.{temporal_ops.specs.declared.word.OpWord.TheVariants.{OverlappedBy}, drl_lex.specs.{Bytes.{begins_word, is_word_byte}, declared.token.Rel.{Rel}}}
 use Rattle.drl_grammar.specs.declared.condition.{Operand.{Operand}, FoldWord.TheVariants.{Count, Sum, Min, Max, Average}, CondTree.{CondTree}}
 use Rattle.drl_grammar.specs.declared.condition.ResultWord.TheVariants.{LongValue}
 use Rattle.drl_grammar.specs.Shapes as shapes

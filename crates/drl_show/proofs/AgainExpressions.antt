@@ -2,12 +2,11 @@
 use Rattle.drl_show.proofs.Common.{◌≡◌, ℕ, zero, suc, pos, negsuc, ◌≤◌, Bool, true, false, List, [], ◌∷◌, ◌++◌, refl, sym, subst, append_assoc, arith, list_all}
 use Rattle.drl_show.proofs.Common.{TokenKind, Word, Var, Number, Text, Mark, OpenParenthesis, CloseParenthesis, Dot, Minus, height, IsIdent, literal_tokens}
 use Rattle.drl_show.proofs.Common.{expr_tokens, Plus, Star, Tree, lit, var, var_field, neg, add, sub, mul, joins, enclosed, enclosed_tokens}
-use Rattle.drl_lex.specs.Bytes.{begins_word, is_word_byte}
-use Rattle.drl_expr.specs.declared.literal.LitTree.{LitTree}
+use Rattle.{drl_lex.specs.Bytes.{begins_word, is_word_byte}, drl_expr.specs.declared.literal.LitTree.{LitTree}}
 use Rattle.drl_expr.specs.declared.literal.LitTree.TheVariants as l
 use Rattle.drl_expr.specs.Grammar as g
-use Rattle.drl_expr.specs.Grammar.{IsExpr, IsTerm, IsFactor, IsExpression}
-use Rattle.drl_show.proofs.{Fine.{Good, AllGood, fine, fine_word, fine_var, fine_number, fine_text, fine_append}, AgainShapes.{Agains, regroup}}
+use Rattle.{drl_expr.specs.Grammar.{IsExpr, IsTerm, IsFactor, IsExpression}, drl_show.proofs.Fine.{Good, AllGood, fine, fine_word, fine_var, fine_number}}
+use Rattle.drl_show.proofs.{Fine.{fine_text, fine_append}, AgainShapes.{Agains, regroup}}
 
 -- ---- what an expression in the grammar is made of
 

@@ -3,13 +3,12 @@ use Rattle.drl_show.proofs.Common.{◌≡◌, ℕ, ℤ, zero, suc, pos, true, Li
 use Rattle.drl_show.proofs.Common.{TokenKind, Word, Text, Mark, OpenParenthesis, CloseParenthesis, Comma, Colon, Dot, Minus, Phrase, IsPathStep, IsPath, IsStar}
 use Rattle.drl_show.proofs.Common.{IsType, IsEntry, IsRule, each, maybe, number_tokens, name_tokens, path_tokens, star_tokens, piece_tokens, action_tokens, At}
 use Rattle.drl_show.proofs.Common.{IsMeta, IsField, IsParentName, IsLateness, IsSalience, IsAttr, meta_tokens, field_tokens, parent_tokens, lateness_tokens}
-use Rattle.drl_show.proofs.Common.{attr_tokens}
-use Rattle.drl_lex.specs.Bytes.{begins_word, is_word_byte}
+use Rattle.{drl_show.proofs.Common.{attr_tokens}, drl_lex.specs.Bytes.{begins_word, is_word_byte}}
 use Rattle.drl_grammar.specs.Shapes as shapes
 use Rattle.drl_grammar.specs.Items as g
-use Rattle.drl_grammar.specs.declared.written.{WrittenType.{WrittenType}, WrittenRule.{WrittenRule}}
-use Rattle.drl_show.{specs.Canonical.{type_tokens, entry_tokens, rule_tokens}, proofs.Fine.{AllGood, fine, fine_word, fine_number, fine_text, fine_append}}
-use Rattle.drl_show.proofs.{AgainShapes.{Agains, regroup, many_again, maybe_again, optional_good}, AgainConditions.{negative_fine, span_again, name_again}}
+use Rattle.{drl_grammar.specs.declared.written.{WrittenType.{WrittenType}, WrittenRule.{WrittenRule}}, drl_show.specs.Canonical.{type_tokens, entry_tokens}}
+use Rattle.drl_show.{specs.Canonical.{rule_tokens}, proofs.{Fine.{AllGood, fine, fine_word, fine_number, fine_text, fine_append}, AgainShapes.{Agains}}}
+use Rattle.drl_show.proofs.{AgainShapes.{regroup, many_again, maybe_again, optional_good}, AgainConditions.{negative_fine, span_again, name_again}}
 use Rattle.drl_show.proofs.{AgainChoices.{asked_again}, AgainActions.{action_again}}
 
 -- ---- names with dots

@@ -2,9 +2,7 @@
 use Rattle.drl_show.proofs.Common.{◌≡◌, ℕ, ◌+◌, ◌&&◌, ◌||◌, Bool, true, false, not, List, [], ◌∷◌, ◌++◌, length, refl, ap, ◌∙◌, length-append, arith, codes}
 use Rattle.drl_show.proofs.Common.{list_all, bytes_eq, begins, begins_word, TokenKind, Word, Var, Number, Time, Text, Mark, IsIdent, prefix_len, is_word_byte}
 use Rattle.drl_show.proofs.{Common.{is_among, condition_words, value_words, opens_block, count_before}, Fine.{fine, both}}
-use Rattle.std.proofs.lemmas.List.Folds.{length-prefix_len}
-use Rattle.drl_expr.specs.Words.{is_ident}
-use Rattle.drl_grammar.specs.Files.{begins_item, ends_block, extent}
+use Rattle.{std.proofs.lemmas.List.Folds.{length-prefix_len}, drl_expr.specs.Words.{is_ident}, drl_grammar.specs.Files.{begins_item, ends_block, extent}}
 
 -- no token passes the test
 abbrev pub Calm : (TokenKind → Bool) → List TokenKind → Type 0

@@ -1,10 +1,8 @@
 -- Tokens that can be spelled, and tokens that may stand in the text of an item before its end.
 use Rattle.drl_show.proofs.Common.{◌≡◌, ℕ, zero, suc, ◌<◌, ◌≤◌, ◌^◌, ◌&&◌, Bool, true, false, not, List, [], ◌∷◌, ◌++◌, length, refl, subst, arith, nat_lt}
 use Rattle.drl_show.proofs.Common.{codes, All, list_all, bytes_eq, nat_tests, begins, begins_word, Spells, TokenKind, Word, Var, Number, Time, Text, Mark}
-use Rattle.drl_show.proofs.Common.{IsIdent, is_utf8, IsAscii, lt-ltb, CanBeSpelled}
-use Rattle.std.proofs.lemmas.{Slice.Eq.{bytes_eq-Decides}, Str.{IsUtf8-from_ascii, is_utf8-from_IsUtf8}}
-use Rattle.drl_lex.specs.Bytes.{is_word_byte}
-use Rattle.drl_expr.specs.Words.{is_ident}
+use Rattle.{drl_show.proofs.Common.{IsIdent, is_utf8, IsAscii, lt-ltb, CanBeSpelled}, std.proofs.lemmas.{Slice.Eq.{bytes_eq-Decides}, Str.{IsUtf8-from_ascii}}}
+use Rattle.{std.proofs.lemmas.Str.{is_utf8-from_IsUtf8}, drl_lex.specs.Bytes.{is_word_byte}, drl_expr.specs.Words.{is_ident}}
 
 pub both : (a b : Bool) → a && b ≡ true → (a ≡ true) × (b ≡ true)
 both true b e = (refl, e)

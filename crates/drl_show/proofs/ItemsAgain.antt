@@ -1,8 +1,8 @@
 -- The tokens of an item stand for it again, are spelled by their texts, and are what its first token takes from a file.
 use Rattle.drl_show.proofs.Common.{◌≡◌, ℕ, true, false, Bool, List, [], ◌∷◌, ◌++◌, length, refl, sym, subst, append-nil, codes, Spells, TokenKind, Word, Text}
 use Rattle.drl_show.proofs.Common.{Mark, Dot, Many, IsPathStep, IsPath, IsStar, IsItem, extent, WrittenBody, each, name_tokens, path_tokens, star_tokens}
-use Rattle.drl_show.proofs.Common.{item_word_shown, behind_word, tokens_of_item, type_tokens, entry_tokens, rule_tokens}
-use Rattle.drl_lex.specs.Bytes.{begins_word, is_word_byte}
+use Rattle.{drl_show.proofs.Common.{item_word_shown, behind_word, tokens_of_item, type_tokens, entry_tokens, rule_tokens}, drl_lex.specs.Bytes.{begins_word}}
+use Rattle.drl_lex.specs.Bytes.{is_word_byte}
 use Rattle.drl_grammar.specs.Shapes as shapes
 use Rattle.drl_grammar.specs.Items as g
 use Rattle.drl_grammar.specs.Files.{opens_block, begins_item}

@@ -2,15 +2,13 @@
 use Rattle.drl_show.proofs.Common.{◌≡◌, ℕ, suc, ◌+◌, true, false, List, [], ◌∷◌, ◌++◌, None, length, take, drop, map, refl, sym, ap, subst, ◌∙◌, append_assoc}
 use Rattle.drl_show.proofs.Common.{length-append, length-drop, arith, All, begins, Spells, longer, TokenKind, Word, extent, IsItem, WrittenBody, each}
 use Rattle.drl_show.proofs.Common.{item_word_shown, behind_word, tokens_of_item, shown_items, spaced, length-map, IsPiece, ReadsTokens, begins_item, line_at}
-use Rattle.drl_show.proofs.Common.{lines_at, AreItems, StandsInGrammar, InGrammar, IsReadAgain, token_text}
-use Rattle.std.proofs.Math.Seq.{take-append_seam, drop-append_seam}
-use Rattle.drl_lex.specs.{Bytes.{is_blank}, Kinds.{kinds, starts}}
+use Rattle.{drl_show.proofs.Common.{lines_at, AreItems, StandsInGrammar, InGrammar, IsReadAgain, token_text}, std.proofs.Math.Seq.{take-append_seam}}
+use Rattle.{std.proofs.Math.Seq.{drop-append_seam}, drl_lex.specs.{Bytes.{is_blank}, Kinds.{kinds, starts}}}
 use Rattle.drl_lex.specs.Tokens as p
 use Rattle.drl_lex.{proofs.FileLaws.{ends_there}, specs.declared.token.Token.{Token}}
 use Rattle.drl_grammar.specs.Files as files
-use Rattle.drl_grammar.specs.declared.written.{Written.{Written}, WrittenItem.{WrittenItem}}
-use Rattle.drl_show.{specs.Shown.{shown}, proofs.{Fine.{all_good}, Spellings.{AllSpelled, ended_by_space, ended_by_newline}, Extents.{StartsWith}}}
-use Rattle.drl_show.proofs.ItemsAgain.{ItemAgain, item_again, first_begins}
+use Rattle.{drl_grammar.specs.declared.written.{Written.{Written}, WrittenItem.{WrittenItem}}, drl_show.{specs.Shown.{shown}, proofs.Fine.{all_good}}}
+use Rattle.drl_show.proofs.{Spellings.{AllSpelled, ended_by_space, ended_by_newline}, Extents.{StartsWith}, ItemsAgain.{ItemAgain, item_again, first_begins}}
 
 -- ---- the bytes are the tokens
 

@@ -1,13 +1,12 @@
 -- Each token of an item is spelled by its text, and no blank would make it longer.
 use Rattle.drl_show.proofs.Common.{◌≡◌, ℕ, ◌<◌, ◌≤◌, ◌^◌, ◌==◌, ◌&&◌, Bool, true, false, not, cond, List, [], ◌∷◌, ◌++◌, length, refl, arith, nat_lt, codes}
 use Rattle.drl_show.proofs.Common.{list_all, bytes_eq, nat_tests, begins, begins_word, Spells, longer, Assign, Comparison, TokenKind, Word, Var, Number, Time}
-use Rattle.drl_show.proofs.Common.{Text, Mark, escaped, ltb-true}
-use Rattle.std.{specs.{Char.{is_ascii_digit}, Fmt.{decimal}, Str.Parse.{AllDigits}}, proofs.lemmas.{Fmt.{decimal_is_IsNumeral}, Str.Parse.{digit_from_value}}}
-use Rattle.drl_lex.specs.{Bytes.{is_word_byte, is_run_byte, is_quote}, Marks.{lengthens}}
+use Rattle.{drl_show.proofs.Common.{Text, Mark, escaped, ltb-true}, std.specs.{Char.{is_ascii_digit}, Fmt.{decimal}, Str.Parse.{AllDigits}}}
+use Rattle.{std.proofs.lemmas.{Fmt.{decimal_is_IsNumeral}, Str.Parse.{digit_from_value}}, drl_lex.specs.Bytes.{is_word_byte, is_run_byte, is_quote}}
+use Rattle.drl_lex.specs.Marks.{lengthens}
 use Rattle.drl_lex.specs.Texts as texts
 use Rattle.drl_lex.specs.{Texts.{escaped_byte, is_plain, IsContent}, Times.{IsNumeral}, declared.token.Rel.TheVariants.{Less, Greater}}
-use Rattle.drl_lex.specs.declared.token.Mark.{Mark as MarkData}
-use Rattle.drl_show.{specs.Texts.{escape, token_text}, proofs.Fine.{fine, both}}
+use Rattle.{drl_lex.specs.declared.token.Mark.{Mark as MarkData}, drl_show.{specs.Texts.{escape, token_text}, proofs.Fine.{fine, both}}}
 
 -- ---- texts
 

@@ -1,8 +1,7 @@
 -- The fields of a type one after the other: what one field more adds to those that count.
 use Rattle.drl_typing.proofs.Common.{◌≡◌, ◌+◌, ◌<◌, ◌++◌, ◌∷◌, ◌||◌, ℕ, Bool, true, false, not, List, [], Option, length, map, get_or, take, if◌then◌else◌}
 use Rattle.drl_typing.{proofs.Common.{refl, sym, ap, ◌∙◌, append-nil, map-append, take_more, Kind, word_kind, taken_kinds}, specs.Kinds.{fields_once}}
-use Rattle.std.{specs.{List.{filter}, Str.{bytes_eq}}, proofs.lemmas.List.Elements.{filter-append}}
-use Rattle.drl_expr.specs.Words.{is_among}
+use Rattle.{std.{specs.{List.{filter}, Str.{bytes_eq}}, proofs.lemmas.List.Elements.{filter-append}}, drl_expr.specs.Words.{is_among}}
 
 abbrev pub names_in : List (List ℕ × List ℕ) → List (List ℕ)
 names_in fields = map (λ (field : List ℕ × List ℕ). field.0) fields

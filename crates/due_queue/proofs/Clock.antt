@@ -1,8 +1,7 @@
 -- Moments and keys that are whole numbers.
 use Rattle.due_queue.proofs.Common.{◌≡◌, ◌∙◌, sym, refl, ℕ, ℤ, List, [], ◌∷◌, Bool, true, false, not, ◌||◌, arith, ints, list_any, Ordering, nat_cmp, int_cmp}
 use Rattle.due_queue.proofs.Common.{eq_by_cmp, ordering_then, is_eq, is_gt, Included, Excluded, is_past_end, pair_cmp, has_pair, and_parts, unsigned_tied, ◌≤ℤ◌}
-use Rattle.due_queue.proofs.Common.{int_le, int_lt, nat_eq, is_eq-then}
-use Rattle.std.proofs.Common.{map as list_map}
+use Rattle.{due_queue.proofs.Common.{int_le, int_lt, nat_eq, is_eq-then}, std.proofs.Common.{map as list_map}}
 
 -- up to a moment what has come is due
 pub come : (now at : ℤ) → not (is_past_end int_cmp (Included now) at) ≡ int_le at now

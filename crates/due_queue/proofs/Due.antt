@@ -2,9 +2,9 @@
 use Rattle.due_queue.proofs.Common.{◌≡◌, ◌∙◌, sym, ap, refl, List, [], ◌∷◌, filter, Bool, true, false, cond, not, ◌&&◌, Ordering, Less, is_eq, is_gt, eq_by_cmp}
 use Rattle.due_queue.proofs.Common.{subst, found, has_pair, is_moment, eq_by_cmp_equiv, IsTotalOrder, AllByRecursion, Bound, is_past_end, pair_cmp, AreDue}
 use Rattle.due_queue.proofs.{Common.{Agree, and_parts, take_while, is_eq-then, is_eq-true}, Agreeing.{paired}, Orders.{gt_first, pair_total, past_same}}
-use Rattle.due_queue.{proofs.Orders.{past_later}, specs.Moments.{AreDuePairs}}
-use Rattle.std.{proofs.{Common.{map as list_map}, lemmas.List.Kept.{IsStrictlySortedBy-filter}}, specs.List.Sorted.{IsStrictlySortedBy}}
-use Rattle.std.proofs.lemmas.{List.Sums.{take_while-cons}, Map.Made.{is_member-filter}}
+use Rattle.{due_queue.{proofs.Orders.{past_later}, specs.Moments.{AreDuePairs}}, std.proofs.Common.{map as list_map}}
+use Rattle.std.{proofs.lemmas.List.{Kept.{IsStrictlySortedBy-filter}, Sums.{take_while-cons}}, specs.List.Sorted.{IsStrictlySortedBy}}
+use Rattle.std.proofs.lemmas.Map.Made.{is_member-filter}
 
 module _ {M K : Type 0} (moments : M → M → Ordering) (keys : K → K → Ordering) (mt : IsTotalOrder moments) (bound : Bound M) where
   -- whether a pair's moment is due

@@ -3,8 +3,8 @@ use Rattle.due_queue.proofs.Common.{◌≡◌, ◌∙◌, sym, ap, refl, List, [
 use Rattle.due_queue.proofs.Common.{Ordering, Less, is_eq, IsTotalOrder, AllByRecursion, found, pair_cmp, has_pair, is_moment, Bound, is_past_end}
 use Rattle.due_queue.{proofs.Common.{ordering_then, is_eq-then, is_eq-true, AreDue}, specs.{declared.rising.Entry.{Entry}, Moments.{AreDuePairs}}}
 use Rattle.due_queue.{specs.Rising.{with_value, live, pairs_of, IsBehind, Rises, AreApart}, proofs.{Due.{AreDuePairs-front}, Entries.{flip, none_after}}}
-use Rattle.due_queue.proofs.{Entries.{rises_kept}, Orders.{less_then}, Together.{in_some, in_others, not_other}}
-use Rattle.std.{proofs.{Common.{map as list_map}, lemmas.List.Sums.{take_while-cons}}, specs.{Prelude.{◌++◌, is_some}, List.Sorted.{IsStrictlySortedBy}}}
+use Rattle.{due_queue.proofs.{Entries.{rises_kept}, Orders.{less_then}, Together.{in_some, in_others, not_other}}, std.proofs.Common.{map as list_map}}
+use Rattle.std.{proofs.lemmas.List.Sums.{take_while-cons}, specs.{Prelude.{◌++◌, is_some}, List.Sorted.{IsStrictlySortedBy}}}
 
 -- whether an entry has a value
 abbrev pub waits : {M K V : Type 0} → Entry M K V → Bool

@@ -1,10 +1,8 @@
 -- The kept facts by tag are the kept facts of a lawful world.
-use Rattle.std.{proofs.Common.{◌↔◌}, specs.List.Sorted.{IsStrictlySortedBy}}
-use Rattle.fx_base.specs.{Lists.{In}, declared.fact.Fact.{Fact}}
+use Rattle.{std.{proofs.Common.{◌↔◌}, specs.List.Sorted.{IsStrictlySortedBy}}, fx_base.specs.{Lists.{In}, declared.fact.Fact.{Fact}}}
 use Rattle.rule_model.{specs.{declared.{life.LifeTable.{LifeTable}, program.Program.{Program}}, Distinct.{tag_cmp}}, proofs.Once.{marked_once_filter}}
-use Rattle.rule_world.specs.{Lawful.{IsLawful}, Worlds.{World}}
-use Rattle.kept_meaning.specs.Kept.{is_kept, kept_facts}
-use Rattle.engine.{specs.KeptFacts.{kept_by_tag}, proofs.Sorting.{by_tag_sorted, by_tag_members}}
+use Rattle.{rule_world.specs.{Lawful.{IsLawful}, Worlds.{World}}, kept_meaning.specs.Kept.{is_kept, kept_facts}, engine.specs.KeptFacts.{kept_by_tag}}
+use Rattle.engine.proofs.Sorting.{by_tag_sorted, by_tag_members}
 
 pub kept_sorted : (p : Program) (table : LifeTable) (w : World) → IsStrictlySortedBy tag_cmp (kept_by_tag p table w)
 unfolding kept_by_tag

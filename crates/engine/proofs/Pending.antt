@@ -1,11 +1,9 @@
 -- Each match of a lawful world stands once.
-use Rattle.std.proofs.Common.{◌≡◌, ◌+◌, ◌≤◌, inl, inr, ℕ, List, [], ◌∷◌, map, ap, arith, not}
-use Rattle.fx_base.{specs.Lists.{In, EachOnce}, proofs.Sequences.{In-append}}
-use Rattle.row_delta.specs.declared.row.Row.{Row}
-use Rattle.rule_model.specs.{declared.{matched.Match.{Match}, program.{Program.{Program}, Rule.{Rule}}}, Matches.{match_of, matches_from, matches, has_match}}
-use Rattle.rule_model.{specs.{Matches.{rows_by_rule}, Snapshots.{Snapshot}, Distinct.{HaveDistinctTags}}, proofs.{Listed.{of_map}, Once.{once_append}}}
-use Rattle.rule_model.proofs.Once.{once_filter, once_map, rows_once}
-use Rattle.rule_world.specs.{Lawful.{IsLawful}, Worlds.{World, snapshot, pending}}
+use Rattle.{std.proofs.Common.{◌≡◌, ◌+◌, ◌≤◌, inl, inr, ℕ, List, [], ◌∷◌, map, ap, arith, not}, fx_base.specs.Lists.{In, EachOnce}}
+use Rattle.{fx_base.proofs.Sequences.{In-append}, row_delta.specs.declared.row.Row.{Row}, rule_model.specs.declared.matched.Match.{Match}}
+use Rattle.rule_model.specs.{declared.program.{Program.{Program}, Rule.{Rule}}, Matches.{match_of, matches_from, matches, has_match, rows_by_rule}}
+use Rattle.rule_model.{specs.{Snapshots.{Snapshot}, Distinct.{HaveDistinctTags}}, proofs.{Listed.{of_map}, Once.{once_append, once_filter, once_map}}}
+use Rattle.{rule_model.proofs.Once.{rows_once}, rule_world.specs.{Lawful.{IsLawful}, Worlds.{World, snapshot, pending}}}
 
 -- each row of each of these stands once
 abbrev AllOnce : List (List Row) → Type 0

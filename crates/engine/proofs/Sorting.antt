@@ -1,10 +1,8 @@
 -- Facts in the order of their tags.
 use Rattle.std.{proofs.Common.{◌≡◌, ◌∙◌, ◌↔◌, inl, inr, ℕ, List, [], ◌∷◌, map, refl, sym, ap, subst}, specs.Ordering.{match_ordering, ordering_reverse}}
 use Rattle.std.specs.{declared.cmp.Ordering.{Ordering, TheVariants.{Less, Equal, Greater}}, List.{AllByRecursion, Sorted.{IsStrictlySortedBy}}}
-use Rattle.std.specs.{BTreeSet.{insert_key}, FinMap.{nat_cmp-IsAntisymmetric}}
-use Rattle.fx_base.specs.{Lists.{In}, declared.{fact.Fact.{Fact}, ids.Tag.{Tag}}}
-use Rattle.rule_model.{specs.Distinct.{HaveDistinctTags, tag_cmp}, proofs.{Listed.{in_map}, Sorted.{tag_total}}}
-use Rattle.engine.specs.KeptFacts.{by_tag}
+use Rattle.{std.specs.{BTreeSet.{insert_key}, FinMap.{nat_cmp-IsAntisymmetric}}, fx_base.specs.{Lists.{In}, declared.{fact.Fact.{Fact}, ids.Tag.{Tag}}}}
+use Rattle.{rule_model.{specs.Distinct.{HaveDistinctTags, tag_cmp}, proofs.{Listed.{in_map}, Sorted.{tag_total}}}, engine.specs.KeptFacts.{by_tag}}
 
 abbrev IsBelow : Fact → List Fact → Type 0
 IsBelow f gs = AllByRecursion (λ g. tag_cmp f g ≡ Less) gs

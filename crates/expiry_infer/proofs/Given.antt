@@ -3,9 +3,8 @@ use Rattle.expiry_infer.proofs.Common.{◌≡◌, inl, inr, ◌≤◌, ℕ, suc,
 use Rattle.expiry_infer.proofs.Common.{arith, slice_get, Times, Condition, Program, Rule, TypeInfo, pattern_of, is_reference, in_place, Occurrence, Limit}
 use Rattle.expiry_infer.proofs.Common.{finite, infinite, plus, tail, AddsAt, GivesAt, GivesIn, placed, Among, IsTop, false_is, is_event_type, expiry_in, Placed}
 use Rattle.expiry_infer.proofs.{Common.{SolvesWith, IsReach, Adds, of_fact, of_event, AddsSome, LivesFor, PatternLife, IsLife, AddsBy}, Tops.{top_like}}
-use Rattle.expiry_infer.proofs.Tops.{top_of_none, anywhere}
-use Rattle.fx_base.{specs.Lists.{In}, proofs.Orders.{≤ℤ_antisym}}
-use Rattle.rule_model.specs.Types.{is_event, expiry_of}
+use Rattle.{expiry_infer.proofs.Tops.{top_of_none, anywhere}, fx_base.{specs.Lists.{In}, proofs.Orders.{≤ℤ_antisym}}, rule_model.specs.Types.{is_event}}
+use Rattle.rule_model.specs.Types.{expiry_of}
 
 -- ---- one reach
 

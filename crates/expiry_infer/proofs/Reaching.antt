@@ -1,11 +1,9 @@
 -- What a solved network says of its conditions.
 use Rattle.expiry_infer.proofs.Common.{◌≡◌, ◌≤◌, ℕ, Bool, List, [], length, Option, Some, None, sym, ◌∙◌, ap, subst, Decides, Bound, Times, Condition, Program}
 use Rattle.expiry_infer.proofs.Common.{Occurrence, AreSolvable, edges_of_conditions, IsSolved, false_is, Network, SolvesConditions, of_points, of_times}
-use Rattle.std.specs.Option.{is_some}
-use Rattle.temporal_net.specs.declared.edge.NetEdge.{NetEdge}
+use Rattle.{std.specs.Option.{is_some}, temporal_net.specs.declared.edge.NetEdge.{NetEdge}}
 use Rattle.temporal_net.specs.Networks as net
-use Rattle.rule_world.specs.Programs.{NameEarlier}
-use Rattle.life_edges.proofs.Solved.{times_of, points_of}
+use Rattle.{rule_world.specs.Programs.{NameEarlier}, life_edges.proofs.Solved.{times_of, points_of}}
 
 pub solvable : (p : Program) (conditions : List Condition) → NameEarlier conditions → net.IsSolvable (edges_of_conditions p conditions [] 0 conditions) → AreSolvable p conditions
 solvable p conditions named h = (times_of conditions h.0, of_points p conditions [] named h.0 h.1)

@@ -2,8 +2,7 @@
 use Rattle.expiry_infer.proofs.Common.{◌≡◌, ◌⊎◌, inl, inr, ◌<◌, ◌≤◌, ◌+◌, ℕ, ℤ, ◌≤ℤ◌, List, length, Some, refl, sym, ◌∙◌, subst, arith, pos, negsuc, to_z, of_z}
 use Rattle.expiry_infer.proofs.Common.{to_z-of_z, w64, FitsSigned, ◌^◌, slice_get, ints, Bound, IsWithinNetwork, Limit, finite, infinite, plus, limit_of}
 use Rattle.expiry_infer.proofs.Common.{IsShortLimit, IsSmallLimit, Among, IsTop, slice_get_within, Below, IsShortSpan, the_same}
-use Rattle.fx_base.{specs.declared.bound.Bound.TheVariants.{Finite, Infinite}, proofs.Orders.{below_or_last, ≤ℤ_trans}}
-use Rattle.rule_world.specs.Events.{most_millis}
+use Rattle.{fx_base.{specs.declared.bound.Bound.TheVariants.{Finite, Infinite}, proofs.Orders.{below_or_last, ≤ℤ_trans}}, rule_world.specs.Events.{most_millis}}
 
 pub below_itself : (l : Limit) → Below l l
 below_itself (finite a) = omega (arith, ints)

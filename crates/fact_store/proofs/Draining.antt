@@ -1,11 +1,10 @@
 -- Facts that are taken out of a store one by one, in the order of their tags.
 use Rattle.fact_store.proofs.Common.{◌≡◌, ◌∙◌, sym, ap, refl, subst, ℕ, List, [], ◌∷◌, ◌++◌, Option, Some, None, Bool, true, false, cond, length, arith, T}
 use Rattle.fact_store.proofs.Common.{find, is_sorted, get-entries, get-remove, entries_sorted, nat_cmp_total, below_all, nat_cmp, eq_by_cmp, Fact, HeldFacts}
-use Rattle.fact_store.proofs.Common.{facts_of, tag_of}
-use Rattle.std.proofs.Common.{map as list_map}
+use Rattle.{fact_store.proofs.Common.{facts_of, tag_of}, std.proofs.Common.{map as list_map}}
 use Rattle.std.specs.FinMap as map
-use Rattle.fx_base.{specs.declared.ids.Tag.{Tag}, proofs.Tests.{T_first, T_second}}
-use Rattle.fact_store.proofs.{Members.{found_first, found_later, not_found}, Stored.{tied}}
+use Rattle.{fx_base.{specs.declared.ids.Tag.{Tag}, proofs.Tests.{T_first, T_second}}, fact_store.proofs.Members.{found_first, found_later, not_found}}
+use Rattle.fact_store.proofs.Stored.{tied}
 
 -- These facts are made; the tags that are left are those of entries that the store still has, and whose facts complete the list.
 pub record AreTaken (all made : List Fact) (tags : List Tag) (store : HeldFacts) : Type 0 where

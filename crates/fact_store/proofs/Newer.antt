@@ -3,9 +3,8 @@ use Rattle.fact_store.proofs.Common.{◌≡◌, ◌∙◌, sym, ap, refl, subst,
 use Rattle.fact_store.proofs.Common.{◌&&◌, Option, Some, None, length, Result, Ok, Err, arith, T, nat_eq, IfSome, IfNone, Ordering, Less, Equal, Greater}
 use Rattle.fact_store.proofs.Common.{nat_cmp, is_eq, is_lt, nat_cmp_total, unsigned_tied, is_at, below_all, find, is_sorted, get-entries, get-insert}
 use Rattle.fact_store.proofs.Common.{get-remove, entries_sorted, exact_unsigned_eq, cases_lt, NumberMap, id_tag_cmp, has_pair, LeadsToNewest, OnSome, OnOk}
-use Rattle.fact_store.proofs.Common.{OnErr, len-entries, len-empty, IsAboveNumber}
-use Rattle.std.proofs.{lemmas.Bool.{and_parts}, Math.Bool.{or-false, or-true, or_assoc}}
-use Rattle.fx_base.proofs.{Orders.{eqb-flip, eqb-self, is_eq-then}, Tests.{T_first, T_second, both_ways_absurd}}
+use Rattle.{fact_store.proofs.Common.{OnErr, len-entries, len-empty, IsAboveNumber}, std.proofs.{lemmas.Bool.{and_parts}, Math.Bool.{or-false, or-true}}}
+use Rattle.{std.proofs.Math.Bool.{or_assoc}, fx_base.proofs.{Orders.{eqb-flip, eqb-self, is_eq-then}, Tests.{T_first, T_second, both_ways_absurd}}}
 use Rattle.std.specs.FinMap as map
 
 -- whether there is a tag, and it is this one

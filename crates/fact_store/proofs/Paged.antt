@@ -3,8 +3,7 @@ use Rattle.fact_store.proofs.Common.{◌≡◌, ◌∙◌, sym, ap, refl, subst,
 use Rattle.fact_store.proofs.Common.{nat_cmp, eq_by_cmp, nat_cmp_total, unsigned_tied, IsDistinct, keys_of, lookup, find, get-entries, get-insert, get-remove}
 use Rattle.fact_store.proofs.Common.{entries_sorted, same_map, nat_cmp-IsAntisymmetric, Slab, get, NumberMap, Fact, stored, Names}
 use Rattle.std.specs.FinMap as map
-use Rattle.std.proofs.lemmas.Map.Keys.{IsDistinct-from_sorted}
-use Rattle.fact_store.proofs.{Stored.{slot_of, tied, named, not_empty, get-stored}, Members.{keys_rise}}
+use Rattle.{std.proofs.lemmas.Map.Keys.{IsDistinct-from_sorted}, fact_store.proofs.{Stored.{slot_of, tied, named, not_empty, get-stored}, Members.{keys_rise}}}
 use Rattle.fx_base.proofs.Orders.{eq_by_nat_cmp-flip}
 
 same_find : (q : ℕ) (es : List (ℕ × ℕ)) → find nat_cmp q es ≡ lookup (nat_eq q) es

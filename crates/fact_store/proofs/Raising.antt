@@ -4,8 +4,8 @@ use Rattle.fact_store.proofs.Common.{nat_eq, Ordering, Less, Equal, Greater, nat
 use Rattle.fact_store.proofs.Common.{OnFalse, list_any, exact_unsigned_eq, HeldFacts, is_of, Version, version_cmp, is_version, IsTotalOrder, CountsIds}
 use Rattle.fact_store.proofs.Common.{CountsType}
 use Rattle.std.specs.FinMap as map
-use Rattle.std.{specs.List.{IsDistinct}, proofs.lemmas.Cmp.{on_total, then_total, nat_cmp_total, eq_by_cmp_equiv}}
-use Rattle.fact_store.{specs.Versions.{Counted}, proofs.Counting.{without, length-without, AreIds-same, AreIds-first, AreIds-again, AreIds-last, AreIds-still}}
+use Rattle.{std.{specs.List.{IsDistinct}, proofs.lemmas.Cmp.{on_total, then_total, nat_cmp_total, eq_by_cmp_equiv}}, fact_store.specs.Versions.{Counted}}
+use Rattle.fact_store.proofs.Counting.{without, length-without, AreIds-same, AreIds-first, AreIds-again, AreIds-last, AreIds-still}
 use Rattle.fx_base.proofs.{Orders.{eqb-self}, Tests.{both_ways_absurd}}
 
 -- the order of versions is total

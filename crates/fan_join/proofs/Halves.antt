@@ -3,8 +3,7 @@ use Rattle.fan_join.proofs.Common.{◌≡◌, ◌∙◌, sym, ap, refl, List, []
 use Rattle.fan_join.proofs.Common.{row_cmp, has, LeadsRows, IsDifference, without, along, at, Look, joins, Candidates, LeftRows, joined, has_name, has_left}
 use Rattle.fan_join.proofs.Common.{made, KeepsMemories, has_row, has_candidate, beside, LooksWhereKept, NamesLeave, NamesCome, keeps_then, RowTurn}
 use Rattle.fan_join.proofs.{Common.{AreRowsInTurn, IsRowsDifference, AreNamesTurned, value_beside}, Sets.{none_joined, rows_less, rows_more, rows_inside}}
-use Rattle.fan_join.{proofs.Sets.{rows_outside, names_less, names_more, names_inside, names_outside}, specs.Fans.{nothing}}
-use Rattle.std.proofs.Math.Bool.{or-false}
+use Rattle.{fan_join.{proofs.Sets.{rows_outside, names_less, names_more, names_inside, names_outside}, specs.Fans.{nothing}}, std.proofs.Math.Bool.{or-false}}
 use Rattle.row_change.{specs.declared.change.Change.{Change}, proofs.{Alike.{leads_alike}, Placing.{nil_order}}}
 use Rattle.join_memory.{specs.declared.memories.Memories.{Memories}, proofs.Keeping.{made_after}}
 

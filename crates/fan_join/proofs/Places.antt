@@ -1,7 +1,6 @@
 -- Members by their places.
 use Rattle.fan_join.proofs.Common.{nat_cmp, eq_by_cmp, Bool, true, false, cond, ◌||◌, ◌≡◌, ◌∙◌, sym, ap, refl, ℕ, ◌+◌, ◌<◌, List, [], ◌∷◌, ◌++◌, length, Some}
-use Rattle.fan_join.proofs.Common.{None, slice_get, ◌⊎◌, inl, inr}
-use Rattle.std.proofs.{lemmas.Bool.Decides.{nat_tests}, Common.{arith, suc, zero}}
+use Rattle.{fan_join.proofs.Common.{None, slice_get, ◌⊎◌, inl, inr}, std.proofs.{lemmas.Bool.Decides.{nat_tests}, Common.{arith, suc, zero}}}
 use Rattle.fx_base.proofs.Orders.{eq_by_nat_cmp-flip}
 
 -- what stands in a list with one element more stood there, or is that element

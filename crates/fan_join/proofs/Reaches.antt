@@ -2,11 +2,9 @@
 use Rattle.fan_join.proofs.Common.{◌≡◌, ◌∙◌, sym, ap, refl, subst, ℕ, ◌+◌, ◌<◌, List, length, take, get_or, Bool, true, false, cond, ◌&&◌, ◌||◌, Some, None}
 use Rattle.fan_join.proofs.Common.{slice_get, set, is_some, nat_cmp, eq_by_cmp, JoinIndex, at, Value, same_value, Named, name_cmp, Look, candidate_value}
 use Rattle.fan_join.proofs.Common.{Candidates, Delta, has_name, AreNamesTurned, FanJoin, IsReached, is_member_under, false≢true, IsMemberTurned}
-use Rattle.fan_join.proofs.Whole.{member_turned}
-use Rattle.std.{specs.List.{list_any}, proofs.lemmas.{List.Folds.{list_any_more}, Bool.{and_parts, and_from}}}
+use Rattle.{fan_join.proofs.Whole.{member_turned}, std.{specs.List.{list_any}, proofs.lemmas.{List.Folds.{list_any_more}, Bool.{and_parts, and_from}}}}
 use Rattle.fx_base.{specs.SameValues.{equal_values, same_itself}, proofs.{Orders.{eq_by_nat_cmp-self, eq_by_nat_cmp-true}, Sequences.{get-set_other}}}
-use Rattle.fx_base.proofs.Sequences.{get-set_same, is_some-cond, one_value}
-use Rattle.join_memory.specs.Doors.{keeps_time}
+use Rattle.{fx_base.proofs.Sequences.{get-set_same, is_some-cond, one_value}, join_memory.specs.Doors.{keeps_time}}
 
 -- what holds of the elements so far and of the next one
 pub among_more : {A : Type 0} (eq : A → A → Bool) → ((a b : A) → eq a b ≡ true → a ≡ b) → (xs : List A) (i : ℕ) → i < length xs → (any x : A) → x ≡ get_or xs i any → (P : A → Type 0)

@@ -6,12 +6,11 @@ use Rattle.fan_join.proofs.Common.{AreRowsInTurn, IsRowsDifference, AreNamesTurn
 use Rattle.fan_join.proofs.Common.{false≢true, candidate_value, value_by, joins, has_candidate, FanJoin, nothing, IsReached, has_place, is_member_under}
 use Rattle.fan_join.{proofs.Common.{AreAmong, AreKept, value_beside, IsMemberTurned}, specs.{Reaching.{AreAsked, IsDifferencePut}, Fans.{IsEmpty}}}
 use Rattle.fan_join.{specs.{Fans.{AreRowsTurned, given_delta, AreBeside, IsMemberAt}, Laws.{EmptyLaw, MemberStepLaw, MemberForgetLaw}}, proofs.Halves.{still}}
-use Rattle.fan_join.{proofs.Places.{last_or_before}, specs.Doors.{shared_key}}
-use Rattle.std.{proofs.{Math.{Bool.{or-false}, ListN.{length-set}}, lemmas.Option.{slice_get_within}}, specs.{Option.{option_map}, BTreeMap.{is_at, BTreeMap}}}
-use Rattle.std.specs.Map.{lookup}
-use Rattle.join_memory.specs.{Inputs.{row_naming}, Doors.{keeps_time}}
-use Rattle.join_tests.{specs.{declared.row_key.RowKey.{RowKey}, RowKeys.{row_time}, TimeKeys.{time_key}}, proofs.Meeting.{values_meet}}
-use Rattle.fx_base.proofs.{Orders.{eq_by_nat_cmp-true}, Sequences.{get-set_other, get-set_same, one_value}}
+use Rattle.{fan_join.{proofs.Places.{last_or_before}, specs.Doors.{shared_key}}, std.proofs.Math.{Bool.{or-false}, ListN.{length-set}}}
+use Rattle.std.{proofs.lemmas.Option.{slice_get_within}, specs.{Option.{option_map}, BTreeMap.{is_at, BTreeMap}, Map.{lookup}}}
+use Rattle.{join_memory.specs.{Inputs.{row_naming}, Doors.{keeps_time}}, join_tests.specs.{declared.row_key.RowKey.{RowKey}, RowKeys.{row_time}}}
+use Rattle.{join_tests.{specs.TimeKeys.{time_key}, proofs.Meeting.{values_meet}}, fx_base.proofs.{Orders.{eq_by_nat_cmp-true}, Sequences.{get-set_other}}}
+use Rattle.fx_base.proofs.Sequences.{get-set_same, one_value}
 
 -- ---- members that are not asked
 

@@ -3,8 +3,8 @@ use Rattle.fold_fn.proofs.Common.{◌≡◌, ℕ, zero, suc, ◌+◌, ◌<◌, �
 use Rattle.fold_fn.proofs.Common.{Some, refl, sym, ◌∙◌, arith, Contains, int_eq, ⊎_elim, lookup, keys_of, count_at, cases_Bool, lookup_head, lookup_tail}
 use Rattle.fold_fn.proofs.Common.{none_past_head, times, insert_rising, in_rising_order, repeated, NoneIsZero, HasOneMore, IsDistinct, IsDistinct-tail}
 use Rattle.fold_fn.proofs.{Common.{unwrap_or, IfSome, int_eq-self, int_eq-true}, Rising.{times-cons, times-nil, times-rising, rising_same}}
-use Rattle.fold_fn.proofs.{LawLemmas.{times_from_contains}, ResultLemmas.{length-rising}}
-use Rattle.std.{specs.Cmp.{int_eq_equiv}, proofs.lemmas.{List.{length-replicate}, Map.{lookup-none}}}
+use Rattle.{fold_fn.proofs.{LawLemmas.{times_from_contains}, ResultLemmas.{length-rising}}, std.specs.Cmp.{int_eq_equiv}}
+use Rattle.std.proofs.lemmas.{List.{length-replicate}, Map.{lookup-none}}
 
 times-replicate : (w v : ℤ) (n : ℕ) (xs : List ℤ) → times w (replicate n v ++ xs) ≡ cond (int_eq w v) n 0 + times w xs
 times-replicate w v zero xs = grind arith

@@ -1,7 +1,6 @@
 -- The rising order of a list keeps its numbers and forgets its order.
 use Rattle.fold_fn.proofs.Common.{◌≡◌, ◌+◌, ◌<◌, ℤ, cond, List, [], ◌∷◌, refl, sym, ap, ◌∙◌, ⊎_elim, arith, int_eq, ints, cases_Bool, insert_rising}
-use Rattle.fold_fn.{proofs.Common.{in_rising_order, HaveSame, int_eq-self, int_eq-true}, specs.Order.{times}}
-use Rattle.std.proofs.lemmas.List.Sums.{sum_by-cons}
+use Rattle.{fold_fn.{proofs.Common.{in_rising_order, HaveSame, int_eq-self, int_eq-true}, specs.Order.{times}}, std.proofs.lemmas.List.Sums.{sum_by-cons}}
 
 pub times-cons : (v x : ℤ) (xs : List ℤ) → times v (x ∷ xs) ≡ cond (int_eq v x) 1 0 + times v xs
 unfolding times

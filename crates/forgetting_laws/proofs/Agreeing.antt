@@ -6,16 +6,11 @@ use Rattle.forgetting_laws.proofs.Common.{has_id, kept_ordered, has_pending, has
 use Rattle.forgetting_laws.proofs.Common.{kept, is_kept_tag, is_forgotten_tag, is_clean, fact_at, sight_of, slice_get, of_filter, has_in, pending}
 use Rattle.forgetting_laws.proofs.Common.{modified_plain, fact_with, plain_present, forgotten_fact, PlainEndless, ExpiredEndless, ModifyEndless}
 use Rattle.forgetting_laws.proofs.{Before.{chosen}, Forgotten.{two_tests}, Naming.{some_in, one_in, holds_of}, Seeing.{tag_of, fact_in, own_at, at_filter}}
-use Rattle.forgetting_laws.proofs.Seeing.{named_present, sight_law}
-use Rattle.std.proofs.lemmas.Bool.{and_parts, eq-eqb, eqb-true}
-use Rattle.rule_model.specs.declared.life.Life.{Life, TheVariants.{Plain, Explicit, Finite, Infinite}}
-use Rattle.rule_world.specs.Worlds.{step_fault}
-use Rattle.life_meaning.{specs.Tables.{AreSafe}, proofs.Safe.{plain_unlisted}}
-use Rattle.life_laws.proofs.Still.{always_present}
-use Rattle.join_memory.specs.Joined.{has_name}
-use Rattle.condition_rows.proofs.Ends.{in_name, name_in}
-use Rattle.kept_meaning.specs.Kept.{is_alive, is_pending_named, is_kept as is_kept_in, is_forgotten as is_forgotten_in}
-use Rattle.fx_base.proofs.Tests.{same_test}
+use Rattle.{forgetting_laws.proofs.Seeing.{named_present, sight_law}, std.proofs.lemmas.Bool.{and_parts, eq-eqb, eqb-true}}
+use Rattle.{rule_model.specs.declared.life.Life.{Life, TheVariants.{Plain, Explicit, Finite, Infinite}}, rule_world.specs.Worlds.{step_fault}}
+use Rattle.{life_meaning.{specs.Tables.{AreSafe}, proofs.Safe.{plain_unlisted}}, life_laws.proofs.Still.{always_present}, join_memory.specs.Joined.{has_name}}
+use Rattle.{condition_rows.proofs.Ends.{in_name, name_in}, kept_meaning.specs.Kept.{is_alive, is_pending_named, is_kept as is_kept_in}}
+use Rattle.{kept_meaning.specs.Kept.{is_forgotten as is_forgotten_in}, fx_base.proofs.Tests.{same_test}}
 
 -- ---- lives that do not end
 

@@ -2,8 +2,8 @@
 use Rattle.forgetting_laws.proofs.Common.{◌≡◌, ℤ, ℕ, ◌&&◌, ◌≤ℤ◌, Bool, true, false, cond, not, inl, inr, refl, sym, ◌∙◌, ap, arith, Option, Some, None, is_some}
 use Rattle.forgetting_laws.proofs.Common.{ints, Fact, Match, has_match, or_split, has_come, names_tag, Lives, TagWorld, IsSoundSight, only, is_needed}
 use Rattle.forgetting_laws.proofs.Common.{is_kept_fact, is_kept_tag, is_forgotten_tag, each_tag, IsStep, KeptBeforeStep, ComeClean, KeptBeforeLaw}
-use Rattle.forgetting_laws.proofs.Naming.{found, witness, holds_of, each_named, free_of}
-use Rattle.std.proofs.lemmas.Bool.{and_from, and_parts, not-true, or_left, or_right}
+use Rattle.{forgetting_laws.proofs.Naming.{found, witness, holds_of, each_named, free_of}, std.proofs.lemmas.Bool.{and_from, and_parts, not-true, or_left}}
+use Rattle.std.proofs.lemmas.Bool.{or_right}
 
 -- ---- the fact under one tag
 

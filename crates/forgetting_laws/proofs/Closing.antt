@@ -4,10 +4,8 @@ use Rattle.forgetting_laws.proofs.Common.{list_any, In, Fact, Named, LifeTable, 
 use Rattle.forgetting_laws.proofs.Common.{one_fact, rule_of, World, snapshot, present, below_of, clean, ends_by, only, is_kept_tag, is_forgotten_tag, is_clean}
 use Rattle.forgetting_laws.proofs.Common.{fact_at, sight_of, comes, goes, marked, lost, StepComesClean, NextClean, WorldStepKept, WorldFireKept}
 use Rattle.forgetting_laws.proofs.{Agreeing.{present_at, same_kept, same_clean}, Firing.{fire_law}, Naming.{one_in}, Seeing.{tag_of, fact_in, sight_law}}
-use Rattle.forgetting_laws.proofs.{Seeing.{world_fire_law}, Stepping.{step_law}, WorldSteps.{world_step_law}}
-use Rattle.std.proofs.lemmas.Bool.{and_parts, not-true}
-use Rattle.rule_world.{specs.Worlds.{stepped}, proofs.{Steps.{step_in_order, firing_in_order}, Vain.{next_tag}}}
-use Rattle.life_laws.proofs.Remains.{match_names_kept}
+use Rattle.{forgetting_laws.proofs.{Seeing.{world_fire_law}, Stepping.{step_law}, WorldSteps.{world_step_law}}, std.proofs.lemmas.Bool.{and_parts, not-true}}
+use Rattle.{rule_world.{specs.Worlds.{stepped}, proofs.{Steps.{step_in_order, firing_in_order}, Vain.{next_tag}}}, life_laws.proofs.Remains.{match_names_kept}}
 use Rattle.kept_meaning.{specs.Kept.{is_kept as is_kept_in, is_forgotten as is_forgotten_in}, proofs.Decided.{is_tested}}
 use Rattle.kept_laws.specs.Steps.{IsLawfulStep}
 

@@ -3,9 +3,8 @@ use Rattle.forgetting_laws.proofs.Common.{◌≡◌, ℕ, ◌≤ℤ◌, ◌&&◌
 use Rattle.forgetting_laws.proofs.Common.{tells_apart, Match, has_match, match_cmp, match_exact, names_tag, lingers, Covers, later_law, same_covered, is_needed}
 use Rattle.forgetting_laws.proofs.{Common.{is_kept_tag, some_tag, each_tag, ends_of}, Before.{kept_before, needed_kept, pending_kept}}
 use Rattle.forgetting_laws.{specs.Firings.{FireLaw}, proofs.{Forgotten.{all_stay, IsForgotten, still_kept, holds_kept}, Naming.{found, witness}}}
-use Rattle.std.proofs.lemmas.Bool.{and_parts}
-use Rattle.retention.specs.declared.retention.Retention.{Retention}
-use Rattle.fx_base.proofs.{Orders.{≤ℤ_same}, Tests.{and_not_not}}
+use Rattle.{std.proofs.lemmas.Bool.{and_parts}, retention.specs.declared.retention.Retention.{Retention}, fx_base.proofs.Orders.{≤ℤ_same}}
+use Rattle.fx_base.proofs.Tests.{and_not_not}
 
 -- a match that was pending and is not is the one that was marked
 is_marked : (a s : Bool) → a ≡ true → (a && not s) ≡ false → s ≡ true

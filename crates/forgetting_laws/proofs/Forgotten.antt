@@ -3,8 +3,7 @@ use Rattle.forgetting_laws.proofs.Common.{◌≡◌, ℕ, ℤ, ◌&&◌, ◌||�
 use Rattle.forgetting_laws.proofs.Common.{Fact, Match, has_match, has_come, names_tag, lingers, Covers, without, same_watched, Lives, TagWorld, only, is_needed}
 use Rattle.forgetting_laws.proofs.Common.{is_kept_fact, kept, is_kept_tag, some_tag, each_tag, ends_of, brought, changed, KeptBeforeStep, is_named, Watches}
 use Rattle.forgetting_laws.proofs.{Common.{is_old, Holding, HoldsKept, HasLeft, Forgets}, Before.{chosen, kept_here}, Naming.{any_alike, each_next}}
-use Rattle.retention.proofs.{Leaving.{left_law}, Past.{past_law}}
-use Rattle.fx_base.proofs.Tests.{and_is}
+use Rattle.{retention.proofs.{Leaving.{left_law}, Past.{past_law}}, fx_base.proofs.Tests.{and_is}}
 
 -- ---- the store, at one tag
 

@@ -1,10 +1,8 @@
 -- Lists of matches that name a tag, and the tags that a match names.
 use Rattle.forgetting_laws.proofs.Common.{◌≡◌, ℕ, ◌==◌, ◌&&◌, ◌||◌, Bool, true, false, not, inl, inr, List, [], ◌∷◌, refl, sym, ◌∙◌, ap, list_any, eq_by_cmp}
 use Rattle.forgetting_laws.proofs.Common.{Decides-eqb, tells_apart, In, Named, Match, match_cmp, has_match, match_equiv, match_exact, or_split, names_tag}
-use Rattle.forgetting_laws.proofs.Common.{each_tag, some_tag, list_all}
-use Rattle.std.proofs.{lemmas.Bool.{and_from, and_parts, or_left, or_right}, Math.Bool.{and-false}}
-use Rattle.rule_world.proofs.Acting.{all_of}
-use Rattle.fx_base.proofs.{Orders.{eqb-self}, Tests.{same_test}}
+use Rattle.{forgetting_laws.proofs.Common.{each_tag, some_tag, list_all}, std.proofs.lemmas.Bool.{and_from, and_parts, or_left, or_right}}
+use Rattle.{std.proofs.Math.Bool.{and-false}, rule_world.proofs.Acting.{all_of}, fx_base.proofs.{Orders.{eqb-self}, Tests.{same_test}}}
 
 -- ---- lists
 

@@ -3,11 +3,8 @@ use Rattle.forgetting_laws.proofs.Common.{◌≡◌, ◌<◌, ℕ, ◌==◌, ◌
 use Rattle.forgetting_laws.proofs.Common.{arith, Option, Some, None, is_some, eq_by_cmp, nat_tests, In, Fact, Value, Named, Match, Program, HaveDistinctTags}
 use Rattle.forgetting_laws.proofs.Common.{match_equiv, matches, has_match, match_cmp, name_of, named_of, one_fact, rule_of, World, snapshot, present}
 use Rattle.forgetting_laws.proofs.Common.{only_present, has_id, revised, AllBelow, has_pending, only, brought, changed, fact_at, map, filter, revised_in}
-use Rattle.forgetting_laws.proofs.{Common.{SightLaw, WorldFireLaw}, Naming.{each_in}}
-use Rattle.std.proofs.{lemmas.Bool.{eq-eqb, eqb-true}, Math.Bool.{or_comm}}
-use Rattle.fx_base.specs.declared.ids.Tag.{Tag}
-use Rattle.rule_model.proofs.Listed.{in_map}
-use Rattle.rule_world.{specs.Worlds.{fact_of}, proofs.Kept.{kept_matches}}
+use Rattle.{forgetting_laws.proofs.{Common.{SightLaw, WorldFireLaw}, Naming.{each_in}}, std.proofs.{lemmas.Bool.{eq-eqb, eqb-true}, Math.Bool.{or_comm}}}
+use Rattle.{fx_base.specs.declared.ids.Tag.{Tag}, rule_model.proofs.Listed.{in_map}, rule_world.{specs.Worlds.{fact_of}, proofs.Kept.{kept_matches}}}
 
 abbrev pub tag_of : ℕ → Tag
 tag_of number = record { 0 = number }

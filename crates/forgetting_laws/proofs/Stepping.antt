@@ -3,8 +3,7 @@ use Rattle.forgetting_laws.proofs.Common.{◌≡◌, ℤ, ◌≤ℤ◌, ◌+ℤ�
 use Rattle.forgetting_laws.proofs.Common.{option_and_then, ints, Match, has_match, has_come, same_watched, Lives, TagWorld, IsSoundSight, end_of_life, only}
 use Rattle.forgetting_laws.proofs.Common.{is_needed, is_kept_fact, ends_of, is_kept_tag, is_clean, some_tag, each_tag, new_law, EndLaw, EmptySessionLaw}
 use Rattle.forgetting_laws.proofs.{Common.{MatchesLeftLaw, DropFiredLaw, TwoPhaseLaw}, Before.{pending_kept, kept_before_law}, Forgotten.{IsForgotten}}
-use Rattle.forgetting_laws.proofs.{Forgotten.{still_kept, holds_kept}, Naming.{clean_is}}
-use Rattle.std.proofs.lemmas.Bool.{and_parts}
+use Rattle.{forgetting_laws.proofs.{Forgotten.{still_kept, holds_kept}, Naming.{clean_is}}, std.proofs.lemmas.Bool.{and_parts}}
 
 -- ---- lives
 

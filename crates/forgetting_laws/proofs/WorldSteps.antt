@@ -5,10 +5,9 @@ use Rattle.forgetting_laws.proofs.Common.{IsOrdered, World, snapshot, present, o
 use Rattle.forgetting_laws.proofs.Common.{brought, changed, IsStep, fact_at, sight_of, comes, goes, settled, modify_fault, new_fact, with_new, with_revised}
 use Rattle.forgetting_laws.proofs.Common.{with_retracted, world_at_clock, with_promise, with_begin, moved_forward, found_in, has_number, others, kept_new}
 use Rattle.forgetting_laws.proofs.{Common.{kept_numbers, kept_revised, kept_without, kept_later, has_still, WorldStepLaw, RetractsOne}, Forgotten.{all_stay}}
-use Rattle.forgetting_laws.proofs.Seeing.{tag_of, fact_in, free_at, at_filter, only_same, at_end, at_revised, at_next}
-use Rattle.std.proofs.lemmas.Bool.{and_from, and_parts, eq-eqb, eqb-true}
-use Rattle.rule_model.specs.declared.step.Step.TheVariants.{Insert, Modify, Retract, Advance, At, Promise, Begin}
-use Rattle.rule_world.{specs.Worlds.{moved, stepped, step_fault}, proofs.Ids.{one_id}}
+use Rattle.{forgetting_laws.proofs.Seeing.{tag_of, fact_in, free_at, at_filter, only_same, at_end, at_revised, at_next}, std.proofs.lemmas.Bool.{and_from}}
+use Rattle.{std.proofs.lemmas.Bool.{and_parts, eq-eqb, eqb-true}, rule_model.specs.declared.step.Step.TheVariants.{Insert, Modify, Retract, Advance, At}}
+use Rattle.{rule_model.specs.declared.step.Step.TheVariants.{Promise, Begin}, rule_world.{specs.Worlds.{moved, stepped, step_fault}, proofs.Ids.{one_id}}}
 use Rattle.fx_base.proofs.{Orders.{≤ℤ_same}, Tests.{same_test}}
 
 twice_not : (t : Bool) → t ≡ not (not t)

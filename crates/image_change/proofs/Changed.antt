@@ -5,16 +5,12 @@ use Rattle.image_change.proofs.Common.{forgotten_fact, fun_ext, has_fired, has_m
 use Rattle.image_change.proofs.Common.{not, of_map, refl, same_test, snapshot, snapshot_of, subst, sym, true, was_fired, ℕ, ℤ, ◌&&◌, ◌↔◌, ◌∙◌, ◌≡◌, AreOwners}
 use Rattle.image_change.proofs.{Common.{IsLadenMatch, Rule, rows_of, slice_get, take}, Counted.{clean_same, moved_extra}, Forgotten.{uncounted}, Kept.{IsTaken}}
 use Rattle.image_change.proofs.{Kept.{behind, forgotten_same, still_safe}, Lists.{sorted_mapped}, Matched.{of_laden, to_laden}, Owners.{owners}}
-use Rattle.image_change.specs.Images.{ChangedFits, ChangedIsImage, IsMovedImage}
-use Rattle.image_laws.{proofs.{Fit.{image_fits}, Imaged.{image_facts}}, specs.{Fitting.{IsNextNumber}, Images.{fired_cmp}}}
-use Rattle.kept_meaning.{proofs.Decided.{kept_decided, kept_inside}, specs.Kept.{is_forgotten, is_kept}}
-use Rattle.join_memory.specs.Memories.{made}
-use Rattle.rule_change.specs.Changed.{changed, entry_in, moment_or_zero}
+use Rattle.{image_change.specs.Images.{ChangedFits, ChangedIsImage, IsMovedImage}, image_laws.proofs.{Fit.{image_fits}, Imaged.{image_facts}}}
+use Rattle.{image_laws.specs.{Fitting.{IsNextNumber}, Images.{fired_cmp}}, kept_meaning.{proofs.Decided.{kept_decided, kept_inside}, specs.Kept.{is_forgotten}}}
+use Rattle.{kept_meaning.specs.Kept.{is_kept}, join_memory.specs.Memories.{made}, rule_change.specs.Changed.{changed, entry_in, moment_or_zero}}
 use Rattle.rule_model.{proofs.Sorted.{sorted_marked, tag_total, tags_apart}, specs.{Distinct.{tag_cmp}, Moments.{moment_in}, Snapshots.{Reached}}}
-use Rattle.std.{proofs.lemmas.Bool.{not-false}, specs.List.Sorted.{IsStrictlySortedBy}}
-use Rattle.change_resolve.proofs.Places.{some_is}
-use Rattle.laden_rows.{proofs.Rows.{laden_rows}, specs.Laden.{laden}}
-use Rattle.row_delta.specs.declared.extra.Extra.{Extra}
+use Rattle.{std.{proofs.lemmas.Bool.{not-false}, specs.List.Sorted.{IsStrictlySortedBy}}, change_resolve.proofs.Places.{some_is}}
+use Rattle.{laden_rows.{proofs.Rows.{laden_rows}, specs.Laden.{laden}}, row_delta.specs.declared.extra.Extra.{Extra}}
 
 module _ (p q : Program) (from : ℕ → Option ℕ) (table own : LifeTable) (w : World) (t : IsTaken p q from table own w) (image made : Image) (is : IsImageOf p table w image)
     (c : IsMovedImage p q image made) where

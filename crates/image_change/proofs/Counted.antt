@@ -6,16 +6,13 @@ use Rattle.image_change.proofs.Common.{option_and_then, option_map, pattern_of, 
 use Rattle.image_change.proofs.{Common.{values_gathered, ℕ, ℤ, ◌&&◌, ◌<◌, ◌==◌, ◌↔◌, ◌∙◌, ◌≡◌}, Forgotten.{lost_life, of_type}, Kept.{IsTaken, are_moved}}
 use Rattle.image_change.proofs.{Kept.{behind, forgotten_same, moves, places, still_safe}, Lists.{at_last, in_take, take_fewer}, Lost.{binds_moved}}
 use Rattle.image_change.{proofs.{Lost.{gathered_moved, lost_moved, pattern_moved}, Owners.{first_with}}, specs.Images.{IsMovedExtra}}
-use Rattle.change_resolve.{proofs.Places.{some_is}, specs.Changes.{type_named}}
-use Rattle.condition_rows.specs.Sets.{partners}
-use Rattle.fx_base.{proofs.Sequences.{get-below}, specs.declared.ids.RuleId.{RuleId}}
-use Rattle.kept_meaning.specs.Kept.{is_forgotten}
-use Rattle.laden_rows.{proofs.{Extras.{first_of_some}, Rows.{in_lost}}, specs.Extras.{IsExtraIn}}
-use Rattle.row_delta.specs.{Rows.{has}, declared.extra.Extra.{Extra}}
-use Rattle.rule_change.{proofs.{Places.{type_back}, Rows.{rows_same}}, specs.{Alike.{HasPlaces}, Changed.{changed, moved_rule, type_in}}}
-use Rattle.rule_model.{proofs.{Named.{of_filter}, Order.{passed}, RuleOf.{in_place}}, specs.{Candidates.{is_candidate, is_inside}, Simple.{observes}}}
-use Rattle.rule_model.specs.declared.{condition.Condition.TheVariants.{Plain}, program.TypeInfo.{TypeInfo}}
-use Rattle.std.proofs.lemmas.{Bool.{eq-eqb}, List.{length-map, take-map}, Option.{slice_get-map}}
+use Rattle.{change_resolve.{proofs.Places.{some_is}, specs.Changes.{type_named}}, condition_rows.specs.Sets.{partners}, fx_base.proofs.Sequences.{get-below}}
+use Rattle.{fx_base.specs.declared.ids.RuleId.{RuleId}, kept_meaning.specs.Kept.{is_forgotten}, laden_rows.proofs.{Extras.{first_of_some}, Rows.{in_lost}}}
+use Rattle.{laden_rows.specs.Extras.{IsExtraIn}, row_delta.specs.{Rows.{has}, declared.extra.Extra.{Extra}}, rule_change.proofs.Places.{type_back}}
+use Rattle.{rule_change.{proofs.Rows.{rows_same}, specs.{Alike.{HasPlaces}, Changed.{changed, moved_rule, type_in}}}, rule_model.proofs.Named.{of_filter}}
+use Rattle.rule_model.{proofs.{Order.{passed}, RuleOf.{in_place}}, specs.{Candidates.{is_candidate, is_inside}, Simple.{observes}}}
+use Rattle.{rule_model.specs.declared.{condition.Condition.TheVariants.{Plain}, program.TypeInfo.{TypeInfo}}, std.proofs.lemmas.Bool.{eq-eqb}}
+use Rattle.std.proofs.lemmas.{List.{length-map, take-map}, Option.{slice_get-map}}
 
 observes_aside : (c : Condition) → binds c ≡ false → observes c ≡ true
 observes_aside (Plain pattern) e = absurd (let torn : true ≡ false = e in cc)

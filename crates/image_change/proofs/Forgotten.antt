@@ -1,13 +1,10 @@
 -- What was forgotten and fits a pattern has a finite life.
 use Rattle.image_change.proofs.Common.{AreSafe, Condition, Explicit, Fact, Finite, In, Infinite, IsLawful, Life, LifeTable, None, Option, Pattern, Program}
 use Rattle.image_change.proofs.Common.{Rule, Some, World, and_parts, false, false_from_ne_true, fits, forgotten_fact, is_alive, name_of, pattern_of, refl}
-use Rattle.image_change.proofs.Common.{slice_get, sym, true, ℕ, ℤ, ◌&&◌, ◌==◌, ◌∙◌, ◌≡◌}
-use Rattle.kept_meaning.{proofs.Decided.{not_alive}, specs.Kept.{is_forgotten, is_kept}}
-use Rattle.life_meaning.{proofs.Limits.{lives_below}, specs.Reach.{infinite}}
-use Rattle.rule_model.specs.{Candidates.{is_present}, Tests.{tests_hold}, Tuples.{unbound}, declared.condition.WindowTag.TheVariants.{Length}}
-use Rattle.rule_model.specs.declared.life.Life.TheVariants.{Plain}
-use Rattle.rule_world.specs.Worlds.{present}
-use Rattle.std.proofs.lemmas.Bool.{eqb-true, not-true}
+use Rattle.{image_change.proofs.Common.{slice_get, sym, true, ℕ, ℤ, ◌&&◌, ◌==◌, ◌∙◌, ◌≡◌}, kept_meaning.{proofs.Decided.{not_alive}, specs.Kept.{is_forgotten}}}
+use Rattle.{kept_meaning.specs.Kept.{is_kept}, life_meaning.{proofs.Limits.{lives_below}, specs.Reach.{infinite}}, rule_model.specs.Candidates.{is_present}}
+use Rattle.rule_model.specs.{Tests.{tests_hold}, Tuples.{unbound}, declared.{condition.WindowTag.TheVariants.{Length}, life.Life.TheVariants.{Plain}}}
+use Rattle.{rule_world.specs.Worlds.{present}, std.proofs.lemmas.Bool.{eqb-true, not-true}}
 
 module _ (p : Program) (table : LifeTable) (w : World) (safe : AreSafe p table) (l : IsLawful p w) where
   finite_by : (f : Fact) → is_present p w.clock f ≡ true → (life : Option Life) → slice_get table.lives f.ty.0 ≡ life → is_alive p life w.clock f ≡ false

@@ -3,17 +3,12 @@ use Rattle.image_change.proofs.Common.{Bool, Explicit, Fact, Finite, In, Infinit
 use Rattle.image_change.proofs.Common.{Some, World, and_parts, ap, ap₂, as_old, carried, cond, false, filtered, has_match, has_pending, is_alive, is_marked}
 use Rattle.image_change.proofs.Common.{life_stays, list_any-from, matches, moved_fact, name_of, new_type, not, option_and_then, option_map, pending, refl}
 use Rattle.image_change.proofs.{Common.{same_test, slice_get, snapshot, sym, true, version_at, was_fired, ℕ, ℤ, ◌&&◌, ◌==◌, ◌∙◌, ◌≡◌}, Lists.{find_mapped}}
-use Rattle.condition_rows.{proofs.Holding.{version_in}, specs.Sets.{held}}
-use Rattle.fx_base.proofs.Sequences.{list_any-In}
-use Rattle.join_tests.specs.Joins.{is_named_version}
-use Rattle.kept_meaning.specs.Kept.{is_forgotten, is_kept, is_lost, is_pending_named}
-use Rattle.join_memory.specs.Joined.{has_name}
+use Rattle.{condition_rows.{proofs.Holding.{version_in}, specs.Sets.{held}}, fx_base.proofs.Sequences.{list_any-In}, join_tests.specs.Joins.{is_named_version}}
+use Rattle.{kept_meaning.specs.Kept.{is_forgotten, is_kept, is_lost, is_pending_named}, join_memory.specs.Joined.{has_name}}
 use Rattle.rule_change.proofs.{Carrying.{carried_is_safe}, Changing.{alike_at_change}, Matching.{alike_moved, lawful_places, over_moves, same_pending}}
 use Rattle.rule_change.{proofs.{Places.{Moves}, Rows.{AreMoved, HasPlace, present_same}}, specs.{Alike.{AreAlike, AreOver}, Changed.{changed}}}
-use Rattle.rule_change.specs.Refused.{IsVerdict}
-use Rattle.life_meaning.specs.Tables.{AreLives}
-use Rattle.rule_model.{proofs.RuleOf.{has_in, in_has}, specs.{Lives.{AreShort}, Matches.{match_of}, declared.life.Life.TheVariants.{Plain}}}
-use Rattle.std.proofs.Common.{◌||◌}
+use Rattle.{rule_change.specs.Refused.{IsVerdict}, life_meaning.specs.Tables.{AreLives}, rule_model.{proofs.RuleOf.{has_in, in_has}, specs.Lives.{AreShort}}}
+use Rattle.{rule_model.specs.{Matches.{match_of}, declared.life.Life.TheVariants.{Plain}}, std.proofs.Common.{◌||◌}}
 
 -- other rules that are taken over a lawful world
 pub record IsTaken (p q : Program) (from : ℕ → Option ℕ) (table own : LifeTable) (w : World) : Type 0 where

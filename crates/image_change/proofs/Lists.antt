@@ -1,7 +1,7 @@
 -- Lists: their first members, and members under other names.
 use Rattle.image_change.proofs.Common.{Bool, In, List, Some, [], ap, cond, false, inl, inr, map, option_map, refl, slice_get, suc, take, true, zero, ℕ, ◌∙◌}
-use Rattle.image_change.proofs.Common.{◌∷◌, ◌≡◌}
-use Rattle.std.specs.{List.{AllByRecursion, find, Sorted.{IsStrictlySortedBy}}, declared.cmp.Ordering.{Ordering, TheVariants.{Less}}}
+use Rattle.{image_change.proofs.Common.{◌∷◌, ◌≡◌}, std.specs.{List.{AllByRecursion, find, Sorted.{IsStrictlySortedBy}}, declared.cmp.Ordering.{Ordering}}}
+use Rattle.std.specs.declared.cmp.Ordering.TheVariants.{Less}
 
 pub at_last : {A : Type 0} (n : ℕ) (xs : List A) → slice_get (take (suc n) xs) n ≡ slice_get xs n
 at_last zero [] = refl

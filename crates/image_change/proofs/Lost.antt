@@ -2,15 +2,11 @@
 use Rattle.image_change.proofs.Common.{Condition, Existing, Fact, Folded, LifeTable, List, Named, Negated, None, Option, Pattern, Program, Row, Some, World, []}
 use Rattle.image_change.proofs.Common.{ap, ap₂, binds, carried, length, lost_partners, map, moved_condition, moved_fact, name_of, option_and_then, option_map}
 use Rattle.image_change.proofs.{Common.{pattern_of, refl, snapshot, values_gathered, version_at, ℕ, ◌<◌, ◌∙◌, ◌∷◌, ◌≡◌}, Kept.{IsTaken, are_moved}}
-use Rattle.image_change.proofs.Kept.{forgotten_same, moves, version_moved}
-use Rattle.condition_rows.specs.Sets.{held, partners}
-use Rattle.fold_fn.specs.Order.{in_rising_order}
-use Rattle.join_tests.specs.Joins.{joins, passes_given, tuple_at, versions_at}
-use Rattle.kept_meaning.specs.Kept.{is_forgotten}
+use Rattle.{image_change.proofs.Kept.{forgotten_same, moves, version_moved}, condition_rows.specs.Sets.{held, partners}, fold_fn.specs.Order.{in_rising_order}}
+use Rattle.{join_tests.specs.Joins.{joins, passes_given, tuple_at, versions_at}, kept_meaning.specs.Kept.{is_forgotten}}
 use Rattle.rule_change.{proofs.{Rows.{arguments_same, candidates_same, filter_mapped, passes_same}, Tests.{moved_tuple}}, specs.Changed.{changed}}
-use Rattle.rule_change.specs.Changed.{moved_pattern}
-use Rattle.rule_model.specs.{Candidates.{candidates}, Lent.{tuple_of}, Tuples.{Tuple}, declared.condition.Condition.TheVariants.{Plain}}
-use Rattle.std.specs.List.{filter}
+use Rattle.{rule_change.specs.Changed.{moved_pattern}, rule_model.specs.{Candidates.{candidates}, Lent.{tuple_of}, Tuples.{Tuple}}}
+use Rattle.{rule_model.specs.declared.condition.Condition.TheVariants.{Plain}, std.specs.List.{filter}}
 
 pub pattern_moved : (p q : Program) (c : Condition) → pattern_of (moved_condition p q c) ≡ moved_pattern p q (pattern_of c)
 pattern_moved p q (Plain pattern) = refl

@@ -1,13 +1,9 @@
 -- The whole rows of an image are the matches that name kept facts alone.
 use Rattle.image_change.proofs.Common.{AreExtras, AreOwners, Bool, Condition, HaveDistinctTags, Image, IsKeptOf, IsLadenMatch, List, Match, Named, Program, Row}
 use Rattle.image_change.proofs.Common.{Rule, Some, and_from, and_parts, ap, arith, clean, has_match, length, matches, rows_of, rule_of, slice_get, snapshot_of}
-use Rattle.image_change.proofs.Common.{sym, true, ℕ, ◌∙◌, ◌≡◌}
-use Rattle.condition_rows.proofs.Ends.{has_in, in_has}
-use Rattle.laden_rows.{proofs.Rows.{laden_rows}, specs.Laden.{laden}}
-use Rattle.join_memory.specs.Standing.{cleaned}
-use Rattle.rule_change.proofs.Matching.{is_match}
-use Rattle.rule_model.specs.{Rows.{rows}, Snapshots.{Snapshot}}
-use Rattle.std.proofs.{Common.{◌≤◌}, lemmas.List.{take_all}}
+use Rattle.{image_change.proofs.Common.{sym, true, ℕ, ◌∙◌, ◌≡◌}, condition_rows.proofs.Ends.{has_in, in_has}, laden_rows.proofs.Rows.{laden_rows}}
+use Rattle.{laden_rows.specs.Laden.{laden}, join_memory.specs.Standing.{cleaned}, rule_change.proofs.Matching.{is_match}, rule_model.specs.Rows.{rows}}
+use Rattle.{rule_model.specs.Snapshots.{Snapshot}, std.proofs.{Common.{◌≤◌}, lemmas.List.{take_all}}}
 
 module _ (p : Program) (s : Snapshot) (forgotten : Named → Bool) (image : Image) (owners : ℕ → ℕ → ℕ) (tags : HaveDistinctTags s.facts)
     (kept : IsKeptOf p s forgotten (snapshot_of image)) (are : AreExtras p s forgotten image.extras) (own : AreOwners p owners) where

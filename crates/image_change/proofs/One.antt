@@ -1,11 +1,9 @@
 -- An image is changed in one way.
 use Rattle.image_change.proofs.Common.{AreMoments, Image, In, IsChangedImage, IsLadenMatch, List, Match, Option, Program, ap, has_fired, in_map, length, map}
 use Rattle.image_change.{proofs.{Common.{match_fired, of_map, same_test, subst, sym, true, ℕ, ℤ, ◌∙◌, ◌≡◌}, Owners.{owners}}, specs.Images.{ChangedIsOne}}
-use Rattle.checkpoint.specs.declared.image.FiredMatch.{FiredMatch}
-use Rattle.image_laws.{proofs.One.{extra_total, fired_total}, specs.Images.{fired_cmp}}
-use Rattle.laden_rows.specs.Extras.{extra_cmp}
-use Rattle.rule_model.proofs.{RuleOf.{has_in, in_has}, Sorted.{sorted_same}}
-use Rattle.std.proofs.{Common.{pos}, lemmas.List.{ext_get_or}}
+use Rattle.{checkpoint.specs.declared.image.FiredMatch.{FiredMatch}, image_laws.{proofs.One.{extra_total, fired_total}, specs.Images.{fired_cmp}}}
+use Rattle.{laden_rows.specs.Extras.{extra_cmp}, rule_model.proofs.{RuleOf.{has_in, in_has}, Sorted.{sorted_same}}, std.proofs.Common.{pos}}
+use Rattle.std.proofs.lemmas.List.{ext_get_or}
 
 same_moments : (of : ℕ → ℤ) (n : ℕ) (xs ys : List ℤ) → AreMoments of n xs → AreMoments of n ys → xs ≡ ys
 same_moments of n xs ys a b = ext_get_or (pos 0) xs ys (a.as_many ∙ sym b.as_many) (λ k less. a.each k ∙ sym (b.each k))

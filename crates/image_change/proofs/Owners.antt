@@ -1,7 +1,6 @@
 -- For each condition of each rule there is a first rule that has the conditions up to it.
 use Rattle.image_change.proofs.Common.{AreOwners, Condition, IsFirstWith, List, None, Option, Program, Rule, Some, [], ap, ap₂, arith, inl, inr, refl}
-use Rattle.image_change.proofs.Common.{slice_get, subst, suc, sym, take, zero, ℕ, ◌<◌, ◌∙◌, ◌∷◌, ◌≡◌}
-use Rattle.std.{proofs.Common.{◌⊎◌}, specs.Coded.{Coded, codes}}
+use Rattle.{image_change.proofs.Common.{slice_get, subst, suc, sym, take, zero, ℕ, ◌<◌, ◌∙◌, ◌∷◌, ◌≡◌}, std.{proofs.Common.{◌⊎◌}, specs.Coded.{Coded, codes}}}
 use base.Stored.{Gv, gcons, gnil, gnum}
 
 -- ---- whether conditions are the same can be told

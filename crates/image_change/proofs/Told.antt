@@ -2,13 +2,9 @@
 use Rattle.image_change.proofs.Common.{AreOwners, AreSafe, Image, In, IsImageOf, IsKept, IsKeptOf, IsLadenMatch, IsLawful, IsSafeTable, LifeTable, Match, Named}
 use Rattle.image_change.proofs.Common.{Option, Program, Some, World, and_from, and_parts, ap, clean, false, false_from_ne_true, forgotten_fact, has_fired}
 use Rattle.image_change.proofs.Common.{has_match, has_pending, matches, not, pending, rule_of, snapshot, snapshot_of, subst, sym, true, ℕ, ◌∙◌, ◌≡◌}
-use Rattle.image_change.{proofs.{Matched.{of_laden, to_laden}, Owners.{owners}}, specs.Images.{PendingIsTold}}
-use Rattle.fx_base.proofs.Sequences.{list_any-none}
-use Rattle.image_laws.proofs.Imaged.{image_kept}
-use Rattle.kept_meaning.{proofs.Decided.{is_tested}, specs.Kept.{is_forgotten}}
-use Rattle.rule_change.specs.Refused.{NonePending}
-use Rattle.life_meaning.specs.Tables.IsKept.{named}
-use Rattle.rule_model.proofs.Named.{named_of}
+use Rattle.{image_change.{proofs.{Matched.{of_laden, to_laden}, Owners.{owners}}, specs.Images.{PendingIsTold}}, fx_base.proofs.Sequences.{list_any-none}}
+use Rattle.{image_laws.proofs.Imaged.{image_kept}, kept_meaning.{proofs.Decided.{is_tested}, specs.Kept.{is_forgotten}}}
+use Rattle.{rule_change.specs.Refused.{NonePending}, life_meaning.specs.Tables.IsKept.{named}, rule_model.proofs.Named.{named_of}}
 
 module _ (p : Program) (table : LifeTable) (w : World) (safe : AreSafe p table) (l : IsLawful p w) where
   -- a pending match names kept facts alone

@@ -1,8 +1,7 @@
 -- The first rules that have first conditions of a rule are the same however they are found, and so are laden rows by them.
 use Rattle.image_fitting.proofs.Common.{◌≡◌, ◌∙◌, ℕ, zero, suc, ◌<◌, Bool, List, length, Option, Some, None, refl, ap, slice_get, slice_get_within, Fact, Extra}
 use Rattle.image_fitting.proofs.Common.{Row, Image, Condition, LifeTable, Program, Rule, Snapshot, IsNeeded, snapshot_of, extra_at, AreOwners, laden_with}
-use Rattle.image_fitting.proofs.{Common.{IsLadenRow, IsLadenMatch}, Placing.{one_first}}
-use Rattle.laden_rows.specs.Laden.{laden}
+use Rattle.{image_fitting.proofs.{Common.{IsLadenRow, IsLadenMatch}, Placing.{one_first}}, laden_rows.specs.Laden.{laden}}
 
 laden_same : (p : Program) (s : Snapshot) (extras : List Extra) (a b : ℕ → ℕ) (conditions : List Condition) → ((k : ℕ) → k < length conditions → a k ≡ b k)
     → (n : ℕ) → laden p s extras a conditions n ≡ laden p s extras b conditions n

@@ -5,12 +5,10 @@ use Rattle.image_fitting.proofs.Common.{nat_cmp, ints, length-replicate, In, Fac
 use Rattle.image_fitting.proofs.Common.{IsForgettable, FitByParts, FitsPlainly, nat_le, list_all, int_eq, tied_itself, get_or-replicate, is_present, is_point}
 use Rattle.image_fitting.proofs.Common.{fact_fits, IsTimed, IsSoundFact, EventsInOrder, IsNextNumber, tag_cmp, is_small, is_next, is_reached, ends_as_its_type}
 use Rattle.image_fitting.proofs.{Common.{is_event_short, is_lasting, is_timed, times_fit, is_at_hand}, Turning.{StartInTurn, StartFrom, turn_says, turn_holds}}
-use Rattle.image_fitting.specs.Orders.{tag_total}
-use Rattle.std.{proofs.lemmas.Bool.{and_from, and_parts, eq-eqb, eqb-true, le-leb, leb-true, lt-ltb, ltb-true}, specs.List.Sorted.{IsStrictlySortedBy}}
-use Rattle.std.proofs.lemmas.List.Elements.{All-head, All-tail}
-use Rattle.fx_base.{specs.declared.{ids.Tag.{Tag}, times.Times.{Times}}, proofs.Orders.{int_eq-true, int_le-true, le-int_le, nat_cmp-Less}}
-use Rattle.fx_base.proofs.Sequences.{All-from_In, list_all-In, list_all-from}
-use Rattle.rule_model.{specs.Moments.{moment_in}, proofs.Sorted.{below_each, sorted_marked}}
+use Rattle.{image_fitting.specs.Orders.{tag_total}, std.proofs.lemmas.Bool.{and_from, and_parts, eq-eqb, eqb-true, le-leb, leb-true, lt-ltb, ltb-true}}
+use Rattle.{std.{specs.List.Sorted.{IsStrictlySortedBy}, proofs.lemmas.List.Elements.{All-head, All-tail}}, fx_base.specs.declared.ids.Tag.{Tag}}
+use Rattle.fx_base.{specs.declared.times.Times.{Times}, proofs.{Orders.{int_eq-true, int_le-true, le-int_le, nat_cmp-Less}, Sequences.{All-from_In}}}
+use Rattle.{fx_base.proofs.Sequences.{list_all-In, list_all-from}, rule_model.{specs.Moments.{moment_in}, proofs.Sorted.{below_each, sorted_marked}}}
 use Rattle.rule_world.{specs.Events.{most_millis, no_times}, proofs.{Fresh.{below_of, below_all}, Ids.{under_all, id_number, id_below}}}
 
 -- ---- tests of numbers

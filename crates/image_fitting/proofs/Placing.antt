@@ -2,8 +2,7 @@
 use Rattle.image_fitting.proofs.Common.{◌≡◌, ◌↔◌, ◌∙◌, ℕ, suc, ◌<◌, ℤ, Bool, true, false, List, length, Option, Some, None, IsTrue, refl, sym, ap, subst, arith}
 use Rattle.image_fitting.proofs.Common.{slice_get, slice_index_or, none-some, slice_get_within, slice_get-get_or, same_Some, Extra, Condition, Life, Plain}
 use Rattle.image_fitting.proofs.Common.{Explicit, Finite, Infinite, LifeTable, Program, Rule, IsFirstWith, IsForgettable, AreOwners, IsPlaceTable, first_at}
-use Rattle.image_fitting.proofs.Common.{is_place, is_first, is_finite, CanCount}
-use Rattle.std.proofs.lemmas.Bool.{eq-eqb, eqb-true}
+use Rattle.{image_fitting.proofs.Common.{is_place, is_first, is_finite, CanCount}, std.proofs.lemmas.Bool.{eq-eqb, eqb-true}}
 use Rattle.rule_model.specs.Rows.{pattern_of}
 
 pub one_first : (p : Program) (n : ℕ) (conditions : List Condition) (a b : ℕ) → IsFirstWith p n conditions a → IsFirstWith p n conditions b → a ≡ b

@@ -4,17 +4,13 @@ use Rattle.image_fitting.proofs.Common.{Option, Some, None, refl, sym, ap, subst
 use Rattle.image_fitting.proofs.Common.{Extra, Row, Image, Condition, Life, Plain, Explicit, Finite, Infinite, LifeTable, Program, Snapshot, is_event}
 use Rattle.image_fitting.proofs.Common.{values_fit, IsLawful, AreSafe, world_of, IsNeeded, snapshot_of, laden_with, extra_at, is_within, is_inside}
 use Rattle.image_fitting.proofs.Common.{is_candidate, fits, HaveDistinctTags, expiry_of, extra_values_of, laden_gives, laden_line}
-use Rattle.std.{proofs.lemmas.{Bool.{and_parts, or_right}, Map.Views.{tells_apart}}, specs.Option.{is_some}}
-use Rattle.row_delta.specs.{declared.row.Named.{Named}, RowOrder.{row_exact}}
-use Rattle.rule_model.specs.declared.condition.{Condition.TheVariants.{Plain as plain_condition, Negated, Existing, Folded}, Pattern.{Pattern}}
-use Rattle.rule_model.specs.{declared.program.TypeInfo.{TypeInfo}, Candidates.{is_present}, Tests.{tests_hold}, Tuples.{name_of, unbound}}
-use Rattle.rule_model.proofs.{Named.{of_filter}, Once.{one_fact}, Order.{passed}}
-use Rattle.join_tests.specs.Joins.{joins}
-use Rattle.join_memory.{specs.Joined.{joined}, proofs.{Joining.{joined_with, joined_from}, Valued.{valued_from}}}
+use Rattle.{std.{proofs.lemmas.{Bool.{and_parts, or_right}, Map.Views.{tells_apart}}, specs.Option.{is_some}}, row_delta.specs.declared.row.Named.{Named}}
+use Rattle.{row_delta.specs.RowOrder.{row_exact}, rule_model.specs.declared.condition.Condition.TheVariants.{Plain as plain_condition, Negated, Existing}}
+use Rattle.rule_model.specs.{declared.{condition.{Condition.TheVariants.{Folded}, Pattern.{Pattern}}, program.TypeInfo.{TypeInfo}}, Candidates.{is_present}}
+use Rattle.rule_model.{specs.{Tests.{tests_hold}, Tuples.{name_of, unbound}}, proofs.{Named.{of_filter}, Once.{one_fact}, Order.{passed}}}
+use Rattle.{join_tests.specs.Joins.{joins}, join_memory.{specs.Joined.{joined}, proofs.{Joining.{joined_with, joined_from}, Valued.{valued_from}}}}
 use Rattle.condition_rows.{specs.{Lines.{is_ripe, empty_row, is_empty_row}, Sets.{held, candidates_of, has_partner}}, proofs.Joined.{candidate_of}}
-use Rattle.kept_meaning.specs.Kept.{is_alive}
-use Rattle.laden_rows.specs.Laden.{laden}
-use Rattle.fx_base.proofs.Sequences.{In-append}
+use Rattle.{kept_meaning.specs.Kept.{is_alive}, laden_rows.specs.Laden.{laden}, fx_base.proofs.Sequences.{In-append}}
 
 -- ---- what laden rows name
 

@@ -6,9 +6,8 @@ use Rattle.image_fitting.proofs.Common.{is_le, is_lt, is_some_and, eq_by_cmp, or
 use Rattle.std.{proofs.{lemmas.Bool.{ne_eqb}, Math.Bool.{and-false}}, specs.{declared.cmp.Ordering.{Ordering}, Cmp.{IsTotalOrder}, List.{IsDistinct}}}
 use Rattle.std.{specs.List.Sorted.{IsStrictlySortedBy}, proofs.lemmas.List.Sorted.{IsPermutation-sym, IsNonDecreasingBy-from_sort}}
 use Rattle.std.proofs.lemmas.Map.Keys.{IsDistinct-from_sorted, IsDistinct-IsPermutation, IsStrictlyIncreasing-from_distinct, Less-from_sorted}
-use Rattle.std.proofs.lemmas.Map.Keys.{sorted_from_all_adjacent, sorted_from_strictly_increasing}
-use Rattle.fx_base.{specs.declared.{ids.FactId.{FactId}, kind.Kind.{Kind}}, proofs.Orders.{eq_by_nat_cmp-flip, eq_by_nat_cmp-self, eqb-flip}}
-use Rattle.rule_world.specs.Kinds.{have_kinds}
+use Rattle.{std.proofs.lemmas.Map.Keys.{sorted_from_all_adjacent, sorted_from_strictly_increasing}, fx_base.specs.declared.ids.FactId.{FactId}}
+use Rattle.{fx_base.{specs.declared.kind.Kind.{Kind}, proofs.Orders.{eq_by_nat_cmp-flip, eq_by_nat_cmp-self, eqb-flip}}, rule_world.specs.Kinds.{have_kinds}}
 
 pub always : {P : Type 0} → P → IsTrue true ↔ P
 always x = (λ e. x, λ y. refl)

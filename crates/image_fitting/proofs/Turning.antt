@@ -1,8 +1,7 @@
 -- Events that come in turn: one turn of the loop, and what the test says.
 use Rattle.image_fitting.proofs.Common.{◌≡◌, ◌∙◌, ◌&&◌, ◌==◌, ℕ, ◌<◌, ℤ, pos, ◌≤ℤ◌, Bool, true, false, List, [], ◌∷◌, length, get_or, set, inl, inr, refl, sym}
 use Rattle.image_fitting.proofs.Common.{ap, subst, nat_lt, int_le, slice_index_or, In, Fact, Program, is_event, come_in_turn, slice_set, length-set}
-use Rattle.image_fitting.proofs.Common.{get_or-set_same, get_or-set_other}
-use Rattle.std.proofs.lemmas.Bool.{and_parts, eqb-false, eqb-true, lt-ltb, ltb-true}
+use Rattle.{image_fitting.proofs.Common.{get_or-set_same, get_or-set_other}, std.proofs.lemmas.Bool.{and_parts, eqb-false, eqb-true, lt-ltb, ltb-true}}
 use Rattle.fx_base.proofs.Orders.{int_le-true, le-int_le, ≤ℤ_trans}
 
 -- ---- one turn

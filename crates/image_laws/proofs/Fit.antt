@@ -7,21 +7,17 @@ use Rattle.image_laws.proofs.Common.{rule_of, IsLawful, FollowedBy, EventsInOrde
 use Rattle.image_laws.proofs.Common.{is_pending_named, is_tested, not_alive, tag_cmp, match_fired, snapshot_of, IsImageOf, AreOwners, laden, int_cmp, IsExtraIn}
 use Rattle.image_laws.proofs.Common.{and_from, and_parts, false_from_ne_true, tag_total, below_each, sorted_once, in_lost, laden_rows}
 use Rattle.image_laws.{specs.Fitting.{world_of, IsNextNumber, IsForgettable, IsLadenRow, IsLadenMatch, IsNeeded, Fits}, proofs.Imaged.{image_tags, image_facts}}
-use Rattle.image_laws.proofs.Imaged.{image_kept, forgotten_is}
-use Rattle.std.{specs.{List.{AllByRecursion, list_any, IsDistinct}, Int.Signed.{≤ℤ_refl}}, proofs.lemmas.{Bool.Decides.{nat_tests}, Option.{slice_get_within}}}
-use Rattle.std.{specs.List.Sorted.{IsStrictlySortedBy}, proofs.lemmas.{List.{take_all, length-map}, Map.Steps.{length-le_from_distinct_below}}}
-use Rattle.row_delta.specs.declared.row.{Named.{Named}, Row.{Row}}
+use Rattle.{image_laws.proofs.Imaged.{image_kept, forgotten_is}, std.specs.{List.{AllByRecursion, list_any, IsDistinct}, Int.Signed.{≤ℤ_refl}}}
+use Rattle.std.{proofs.lemmas.{Bool.Decides.{nat_tests}, Option.{slice_get_within}, List.{take_all, length-map}}, specs.List.Sorted.{IsStrictlySortedBy}}
+use Rattle.{std.proofs.lemmas.Map.Steps.{length-le_from_distinct_below}, row_delta.specs.declared.row.{Named.{Named}, Row.{Row}}}
 use Rattle.rule_model.specs.{declared.condition.{Condition.TheVariants.{Negated, Existing, Folded, Plain as plain_condition}, Pattern.{Pattern}}, Rows.{rows}}
 use Rattle.rule_model.{proofs.{Named.{of_filter, named_of}, Once.{once_filter, once_facts, once_map, one_fact}}, specs.Matches.{matches, has_match}}
-use Rattle.rule_model.specs.Types.{is_event}
-use Rattle.join_memory.specs.{Standing.{clean, cleaned}, Joined.{has_name}}
-use Rattle.condition_rows.{specs.Sets.{rows_of, partners}, proofs.Ends.{name_in, in_has as row_in_has}}
-use Rattle.kept_meaning.specs.Kept.{is_kept}
-use Rattle.fx_base.{proofs.{Sequences.{list_any-In, list_any-none}, Orders.{nat_cmp-Less}}, specs.declared.ids.FactId.{FactId}}
-use Rattle.laden_rows.{specs.{Extras.{lost_partners, values_gathered}, Placed.{IsSmall, CanGather}}, proofs.Extras.{first_of_some}}
-use Rattle.fold_fn.proofs.{ResultLemmas.{length-rising}, Sorting.{sorted-rising}}
-use Rattle.rule_world.{specs.Events.{most_millis}, proofs.{Fresh.{below_of, below_all}, Ids.{under_all, id_number, id_below, one_id}, Pending.{has_pending}}}
-use Rattle.rule_world.proofs.Sound.{sound_on}
+use Rattle.{rule_model.specs.Types.{is_event}, join_memory.specs.{Standing.{clean, cleaned}, Joined.{has_name}}, condition_rows.specs.Sets.{rows_of, partners}}
+use Rattle.{condition_rows.proofs.Ends.{name_in, in_has as row_in_has}, kept_meaning.specs.Kept.{is_kept}, fx_base.proofs.Sequences.{list_any-In}}
+use Rattle.{fx_base.{proofs.{Sequences.{list_any-none}, Orders.{nat_cmp-Less}}, specs.declared.ids.FactId.{FactId}}, laden_rows.specs.Extras.{lost_partners}}
+use Rattle.laden_rows.{specs.{Extras.{values_gathered}, Placed.{IsSmall, CanGather}}, proofs.Extras.{first_of_some}}
+use Rattle.{fold_fn.proofs.{ResultLemmas.{length-rising}, Sorting.{sorted-rising}}, rule_world.{specs.Events.{most_millis}, proofs.Fresh.{below_of, below_all}}}
+use Rattle.rule_world.proofs.{Ids.{under_all, id_number, id_below, one_id}, Pending.{has_pending}, Sound.{sound_on}}
 
 -- ---- numbers that are few
 

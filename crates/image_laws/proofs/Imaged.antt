@@ -4,10 +4,9 @@ use Rattle.image_laws.proofs.Common.{Condition, Life, Plain, Explicit, Finite, I
 use Rattle.image_laws.proofs.Common.{moment_in, reached_in, pattern_of, tests_hold, name_of, unbound, IsLawful, World, snapshot, AreSafe, is_alive}
 use Rattle.image_laws.proofs.Common.{is_forgotten, is_kept, is_tested, kept_inside, is_so, not_alive, snapshot_of, IsImageOf, IsKeptOf, and_parts, eqb-true}
 use Rattle.image_laws.proofs.Common.{false_from_ne_true, not-false, not-true, sorted_marked, tag_total, tags_apart}
+use Rattle.{rule_model.specs.{declared.condition.WindowTag.TheVariants.{Length}, Snapshots.{Reached}}, life_meaning.specs.Reach.{infinite}}
+use Rattle.{life_meaning.proofs.Limits.{lives_below}, kept_meaning.proofs.Versions.{forgotten_fact}}
 use mathlib.Core.Path.{fun_ext}
-use Rattle.rule_model.specs.{declared.condition.WindowTag.TheVariants.{Length}, Snapshots.{Reached}}
-use Rattle.life_meaning.{specs.Reach.{infinite}, proofs.Limits.{lives_below}}
-use Rattle.kept_meaning.proofs.Versions.{forgotten_fact}
 
 module _ (p : Program) (table : LifeTable) (w : World) (image : Image) (safe : AreSafe p table) (l : IsLawful p w) (is : IsImageOf p table w image) where
   pub image_tags : HaveDistinctTags image.facts

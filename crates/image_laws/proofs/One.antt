@@ -2,9 +2,7 @@
 use Rattle.image_laws.proofs.Common.{◌≡◌, ◌∙◌, ℕ, suc, ℤ, Bool, List, [], ◌∷◌, map, length, refl, sym, ap, subst, arith, IsTotalOrder, on_total, nat_cmp_total}
 use Rattle.image_laws.proofs.Common.{then_total, In, Fact, Extra, FiredMatch, Image, LifeTable, Match, Program, moment_in, in_map, of_map, Same, has_in, in_has}
 use Rattle.image_laws.proofs.Common.{World, tag_cmp, match_fired, IsImageOf, AreMoments, fired_cmp, has_fired, extra_cmp, tag_total, sorted_same}
-use Rattle.row_delta.specs.RowOrder.{row_total}
-use Rattle.checkpoint.specs.declared.image.RunPart.{RunPart}
-use Rattle.rule_model.specs.MatchOrders.{match_total}
+use Rattle.{row_delta.specs.RowOrder.{row_total}, checkpoint.specs.declared.image.RunPart.{RunPart}, rule_model.specs.MatchOrders.{match_total}}
 
 pub fired_total : IsTotalOrder fired_cmp
 fired_total = on_total match_fired match_total

@@ -1,11 +1,9 @@
 -- What is put into an ordered set, one after the other.
 use Rattle.std.proofs.Common.{List, [], ap, arith, cond, get_or, inl, inr, length, suc, sym, take, true, zero, ℕ, ◌&&◌, ◌++◌, ◌+◌, ◌<◌, ◌==◌, ◌||◌, ◌∙◌, ◌∷◌}
-use Rattle.std.{proofs.{Common.{◌≡◌}, Math.Bool.{or_assoc}, lemmas.List.{take_more}}, specs.Ordering.{eq_by_cmp, nat_cmp}}
-use Rattle.fx_base.{specs.Lists.{In}, proofs.{Orders.{eq_by_nat_cmp, is_eq-then}, Tests.{cond_true_first, or_and_join}}}
-use Rattle.row_delta.specs.{declared.row.Row.{Row}, RowOrder.{same_equiv}, Rows.{has, row_cmp}}
-use Rattle.rule_model.specs.{declared.matched.Match.{Match}, Matches.{has_match, match_cmp}}
-use Rattle.rete_net.specs.declared.changes.RuleChange.{RuleChange}
-use Rattle.image_making.specs.Loads.{comes_by}
+use Rattle.{std.{proofs.{Common.{◌≡◌}, Math.Bool.{or_assoc}, lemmas.List.{take_more}}, specs.Ordering.{eq_by_cmp, nat_cmp}}, fx_base.specs.Lists.{In}}
+use Rattle.{fx_base.proofs.{Orders.{eq_by_nat_cmp, is_eq-then}, Tests.{cond_true_first, or_and_join}}, row_delta.specs.declared.row.Row.{Row}}
+use Rattle.{row_delta.specs.{RowOrder.{same_equiv}, Rows.{has, row_cmp}}, rule_model.specs.{declared.matched.Match.{Match}, Matches.{has_match, match_cmp}}}
+use Rattle.{rete_net.specs.declared.changes.RuleChange.{RuleChange}, image_making.specs.Loads.{comes_by}}
 
 -- ---- turns over a slice
 

@@ -1,12 +1,9 @@
 -- First conditions of old rules that are the same under their new places are the same.
-use Rattle.std.proofs.Common.{List, Option, [], ap, ap₂, inl, inr, map, refl, take, ℕ, ◌∷◌, ◌≡◌}
-use Rattle.fx_base.specs.Lists.{In}
-use Rattle.image_change.proofs.Lists.{in_take}
-use Rattle.rule_change.{proofs.{Matching.{over_moves}, Places.{Moves, entries_apart}}, specs.{Alike.{AreOver, HasPlaces}, Changed.{moved_condition}}}
-use Rattle.rule_change.specs.Changed.{moved_pattern}
-use Rattle.rule_model.{proofs.RuleOf.{in_place}, specs.declared.condition.{Accumulate.{Accumulate}, Condition.{Condition, TheVariants.{Existing, Folded}}}}
-use Rattle.rule_model.specs.declared.{condition.{Condition.TheVariants.{Negated, Plain}, Pattern.{Pattern}}, program.Program.{Program}}
-use Rattle.image_making.specs.Moved.{MovesApart}
+use Rattle.{std.proofs.Common.{List, Option, [], ap, ap₂, inl, inr, map, refl, take, ℕ, ◌∷◌, ◌≡◌}, fx_base.specs.Lists.{In}}
+use Rattle.{image_change.proofs.Lists.{in_take}, rule_change.{proofs.{Matching.{over_moves}, Places.{Moves, entries_apart}}, specs.Alike.{AreOver, HasPlaces}}}
+use Rattle.{rule_change.specs.Changed.{moved_condition, moved_pattern}, rule_model.{proofs.RuleOf.{in_place}, specs.declared.condition.Accumulate.{Accumulate}}}
+use Rattle.rule_model.specs.declared.condition.{Condition.{Condition, TheVariants.{Existing, Folded, Negated, Plain}}, Pattern.{Pattern}}
+use Rattle.{rule_model.specs.declared.program.Program.{Program}, image_making.specs.Moved.{MovesApart}}
 
 module _ (p q : Program) (m : Moves p q) where
   pattern_apart : (a b : Pattern) → HasPlaces p (Plain a) → HasPlaces p (Plain b) → moved_pattern p q a ≡ moved_pattern p q b → a ≡ b

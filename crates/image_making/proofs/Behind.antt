@@ -1,21 +1,16 @@
 -- A network can be loaded from what is made of an image.
 use Rattle.std.proofs.Common.{List, Option, Some, [], ap, ap₂, map, option_map, refl, slice_get, subst, suc, sym, take, true, ℕ, ℤ, ◌∙◌, ◌≡◌}
-use Rattle.std.{proofs.lemmas.Option.{slice_get-map}, specs.List.Sorted.{IsStrictlySortedBy}}
-use Rattle.change_resolve.proofs.Places.{some_is}
-use Rattle.checkpoint.specs.declared.image.Image.{Image}
-use Rattle.fx_base.specs.{Lists.{In}, declared.fact.Fact.{Fact}}
-use Rattle.image_change.{proofs.{Lists.{at_last, sorted_mapped}, Lost.{binds_moved}, Owners.{owners}}, specs.Images.{IsMovedExtra, IsMovedImage}}
-use Rattle.image_fitting.specs.Plain.{FittingLaw, FitsPlainly}
-use Rattle.image_laws.specs.Fitting.{world_of}
-use Rattle.laden_rows.specs.{Extras.{IsFirstWith}, Placed.{CanGather, IsPlaced}}
-use Rattle.row_delta.specs.declared.extra.Extra.{Extra}
-use Rattle.rule_change.{proofs.{Changing.{alike_at_change}, Matching.{lawful_places, over_moves}, Rows.{present_same}}, specs.Alike.{AreAlike, AreOver}}
-use Rattle.rule_change.specs.Changed.{changed, moved_condition, moved_fact}
-use Rattle.rule_model.{proofs.Listed.{of_map}, specs.{Candidates.{is_present}, Distinct.{tag_cmp}, Moments.{moment_in}, Snapshots.{Reached}}}
-use Rattle.rule_model.specs.declared.{condition.Condition.{Condition, TheVariants.{Existing, Folded, Negated, Plain}}, program.{Program.{Program}, Rule.{Rule}}}
-use Rattle.rule_world.specs.{Lawful.{IsLawful, IsSoundFact}, Worlds.{World}}
-use mathlib.Core.Path.{fun_ext}
+use Rattle.{std.{proofs.lemmas.Option.{slice_get-map}, specs.List.Sorted.{IsStrictlySortedBy}}, change_resolve.proofs.Places.{some_is}}
+use Rattle.{checkpoint.specs.declared.image.Image.{Image}, fx_base.specs.{Lists.{In}, declared.fact.Fact.{Fact}}, image_change.proofs.Lists.{at_last}}
+use Rattle.image_change.{proofs.{Lists.{sorted_mapped}, Lost.{binds_moved}, Owners.{owners}}, specs.Images.{IsMovedExtra, IsMovedImage}}
+use Rattle.{image_fitting.specs.Plain.{FittingLaw, FitsPlainly}, image_laws.specs.Fitting.{world_of}, laden_rows.specs.Extras.{IsFirstWith}}
+use Rattle.{laden_rows.specs.Placed.{CanGather, IsPlaced}, row_delta.specs.declared.extra.Extra.{Extra}, rule_change.proofs.Changing.{alike_at_change}}
+use Rattle.rule_change.{proofs.{Matching.{lawful_places, over_moves}, Rows.{present_same}}, specs.{Alike.{AreAlike, AreOver}, Changed.{changed}}}
+use Rattle.{rule_change.specs.Changed.{moved_condition, moved_fact}, rule_model.{proofs.Listed.{of_map}, specs.{Candidates.{is_present}, Distinct.{tag_cmp}}}}
+use Rattle.rule_model.specs.{Moments.{moment_in}, Snapshots.{Reached}, declared.condition.Condition.{Condition, TheVariants.{Existing, Folded, Negated, Plain}}}
+use Rattle.{rule_model.specs.declared.program.{Program.{Program}, Rule.{Rule}}, rule_world.specs.{Lawful.{IsLawful, IsSoundFact}, Worlds.{World}}}
 use Rattle.image_making.specs.{Laws.{ChangedCanBeLoaded, FittingCanBeLoaded}, Loads.{CanBeLoaded}}
+use mathlib.Core.Path.{fun_ext}
 
 -- ---- a lawful world in which nothing was fired
 

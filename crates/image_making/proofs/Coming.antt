@@ -1,13 +1,10 @@
 -- What comes of a network that is loaded from an image are the rows of the rules over its facts.
 use Rattle.std.proofs.Common.{Bool, List, None, Option, Some, [], ap, arith, cond, false, map, refl, sym, true, ℕ, ◌&&◌, ◌==◌, ◌↔◌, ◌∙◌, ◌∷◌, ◌||◌, ◌≡◌}
 use Rattle.std.{proofs.lemmas.Bool.{eqb-true, Decides.{nat_tests}}, specs.{List.{AllByRecursion}, Ordering.{nat_cmp}, declared.cmp.Ordering.TheVariants.{Less}}}
-use Rattle.std.{proofs.Math.Bool.{or-false}, specs.List.Sorted.{IsStrictlySortedBy}}
-use Rattle.checkpoint.specs.declared.image.Image.{Image}
-use Rattle.image_laws.specs.{Fitting.{IsLadenMatch}, Images.{snapshot_of}}
-use Rattle.rete_net.specs.{declared.changes.RuleChange.{RuleChange}, Loading.{AreLadenRows, coming}, Nets.{change_of}}
-use Rattle.row_delta.specs.{declared.delta.Delta.{Delta}, Rows.{has}}
-use Rattle.rule_model.specs.declared.{matched.Match.{Match}, program.Program.{Program}}
-use Rattle.image_making.specs.Loads.{comes_by}
+use Rattle.{std.{proofs.Math.Bool.{or-false}, specs.List.Sorted.{IsStrictlySortedBy}}, checkpoint.specs.declared.image.Image.{Image}}
+use Rattle.{image_laws.specs.{Fitting.{IsLadenMatch}, Images.{snapshot_of}}, rete_net.specs.{declared.changes.RuleChange.{RuleChange}, Loading.{AreLadenRows}}}
+use Rattle.{rete_net.specs.{Loading.{coming}, Nets.{change_of}}, row_delta.specs.{declared.delta.Delta.{Delta}, Rows.{has}}}
+use Rattle.{rule_model.specs.declared.{matched.Match.{Match}, program.Program.{Program}}, image_making.specs.Loads.{comes_by}}
 
 abbrev rules_of : List RuleChange → List ℕ
 rules_of changes = map (λ (c : RuleChange). c.rule.0) changes

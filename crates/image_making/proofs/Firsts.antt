@@ -1,11 +1,8 @@
 -- Moments of entry points, one after the other.
 use Rattle.std.proofs.Common.{List, Option, [], ap, arith, inl, inr, length, refl, subst, suc, sym, zero, ℕ, ℤ, pos, ◌++◌, ◌+◌, ◌<◌, ◌∙◌, ◌∷◌, ◌≡◌, ◌≤◌, ◌⊎◌}
 use Rattle.std.{proofs.lemmas.{Bool.{cases_lt}, Option.{slice_get_past}, List.{length-append}}, specs.Option.{option_and_then}}
-use Rattle.fx_base.proofs.Orders.{below_or_last}
-use Rattle.image_laws.specs.Images.{AreMoments}
-use Rattle.rule_change.specs.Changed.{entry_in, moment_or_zero}
-use Rattle.rule_model.specs.{declared.program.{Program.{Program}, EntryInfo.{EntryInfo}}, Moments.{moment_in}}
-use Rattle.change_resolve.specs.Changes.{entry_named}
+use Rattle.{fx_base.proofs.Orders.{below_or_last}, image_laws.specs.Images.{AreMoments}, rule_change.specs.Changed.{entry_in, moment_or_zero}}
+use Rattle.{rule_model.specs.{declared.program.{Program.{Program}, EntryInfo.{EntryInfo}}, Moments.{moment_in}}, change_resolve.specs.Changes.{entry_named}}
 
 -- the first so many moments
 pub record AreFirst (of : ℕ → ℤ) (entries : ℕ) (moments : List ℤ) : Type 0 where

@@ -4,15 +4,12 @@ use Rattle.std.proofs.{Common.{◌∙◌, ◌∷◌, ◌≡◌, ◌⊎◌, appen
 use Rattle.std.{proofs.lemmas.Map.{Entries.{btree_map_get_place}, Lookups.{CmpEqualImpliesEq, exact_unsigned}}, specs.BTreeMap.{BTreeMap, IsOrdered, get}}
 use Rattle.std.specs.{BTreeMap.{is_at}, Cmp.{IsTotalOrder}, List.{AllByRecursion, Sorted.{IsStrictlySortedBy}}, Map.{keys_of, lookup}, Ordering.{eq_by_cmp}}
 use Rattle.std.specs.{Ordering.{nat_cmp, ordering_then}, declared.cmp.Ordering.{Ordering, TheVariants.{Equal, Greater, Less}}}
-use Rattle.change_resolve.proofs.Places.{some_is}
-use Rattle.fx_base.{proofs.{Orders.{is_eq-true}, Sequences.{In-append, In-place}}, specs.{Lists.{In}, declared.ids.RuleId.{RuleId}}}
-use Rattle.laden_rows.specs.{Extras.{extra_cmp}, Placed.{IsPlaced}}
-use Rattle.row_delta.specs.{RowOrder.{row_exact, row_total}, Rows.{row_cmp}, declared.extra.Extra.{Extra}}
-use Rattle.rule_change.specs.Changed.{moved_condition}
+use Rattle.{change_resolve.proofs.Places.{some_is}, fx_base.{proofs.{Orders.{is_eq-true}, Sequences.{In-append, In-place}}, specs.Lists.{In}}}
+use Rattle.{fx_base.specs.declared.ids.RuleId.{RuleId}, laden_rows.specs.{Extras.{extra_cmp}, Placed.{IsPlaced}}, row_delta.specs.RowOrder.{row_exact}}
+use Rattle.{row_delta.specs.{RowOrder.{row_total}, Rows.{row_cmp}, declared.extra.Extra.{Extra}}, rule_change.specs.Changed.{moved_condition}}
 use Rattle.rule_model.proofs.{Exact.{decides_by}, Listed.{in_left, in_map, in_right, of_map}, Sorted.{below_each}}
-use Rattle.rule_model.specs.declared.{condition.Condition.{Condition}, program.{Program.{Program}, Rule.{Rule}}}
-use Rattle.image_making.specs.Moved.{Beyond, GoesOn, IsFirstMoved, IsMoved, IsNewPlace, IsPut, IsPutAt, MovesApart, Place, beyond_of, extra_in, place_cmp}
-use Rattle.image_making.specs.Moved.{place_of}
+use Rattle.{rule_model.specs.declared.{condition.Condition.{Condition}, program.{Program.{Program}, Rule.{Rule}}}, image_making.specs.Moved.{Beyond, GoesOn}}
+use Rattle.image_making.specs.Moved.{IsFirstMoved, IsMoved, IsNewPlace, IsPut, IsPutAt, MovesApart, Place, beyond_of, extra_in, place_cmp, place_of}
 
 -- ---- places in order
 

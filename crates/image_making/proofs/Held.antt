@@ -1,9 +1,8 @@
 -- Facts by their tags, one after the other.
 use Rattle.std.proofs.Common.{Bool, List, Some, [], ap, arith, cond, false, get_or, inl, inr, length, map, option_map, subst, suc, sym, take, true, zero, ℕ}
 use Rattle.std.{proofs.{Common.{◌+◌, ◌<◌, ◌==◌, ◌∙◌, ◌∷◌, ◌≡◌, ◌⊎◌}, lemmas.Bool.{eqb-true, false_from_ne_true}}, specs.{Borrow.{Bor}, BTreeMap.{BTreeMap}}}
-use Rattle.std.specs.{BTreeMap.{get, is_at}, Ordering.{nat_cmp}}
-use Rattle.fx_base.{proofs.{Orders.{eq_by_nat_cmp, eqb-self}, Sequences.{In-append}}, specs.{Lists.{In}, declared.{fact.Fact.{Fact}, ids.Tag.{Tag}}}}
-use Rattle.rule_model.{proofs.Listed.{in_map}, specs.Distinct.{HaveDistinctTags}}
+use Rattle.{std.specs.{BTreeMap.{get, is_at}, Ordering.{nat_cmp}}, fx_base.{proofs.{Orders.{eq_by_nat_cmp, eqb-self}, Sequences.{In-append}}, specs.Lists.{In}}}
+use Rattle.{fx_base.specs.declared.{fact.Fact.{Fact}, ids.Tag.{Tag}}, rule_model.{proofs.Listed.{in_map}, specs.Distinct.{HaveDistinctTags}}}
 use Rattle.image_making.{specs.AtHand.{fact_in}, proofs.Adding.{in_at, next_taken}}
 
 -- no fact before another has its tag

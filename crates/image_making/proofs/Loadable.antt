@@ -1,20 +1,13 @@
 -- A network can be loaded from an image.
 use Rattle.std.{proofs.Common.{Err, Ok, Result, List, Some, ap, arith, false, refl, subst, sym, true, ℕ, ◌==◌, ◌↔◌, ◌∙◌, ◌≡◌, ◌≤ℤ◌}, specs.Result.{IsErrAnd}}
-use Rattle.std.{proofs.lemmas.{Bool.{eqb-true}, Int.{ints}}, specs.Ordering.{nat_cmp}}
-use Rattle.rete_net.specs.{declared.{load.LoadFault.{LoadFault, TheVariants.{NoRow}}, changes.RuleChange.{RuleChange}}, Loading.{AreLadenRows, IsLoadable}}
-use Rattle.rete_net.specs.Loading.{IsThere}
-use Rattle.checkpoint.specs.declared.image.Image.{Image}
-use Rattle.condition_rows.{proofs.Holding.{held_in}, specs.{Looks.{empty_snapshot}, Sets.{held}}}
-use Rattle.fx_base.specs.{Lists.{In}, declared.{fact.Fact.{Fact}, ids.Tag.{Tag}}}
-use Rattle.image_change.proofs.Lists.{sorted_mapped}
-use Rattle.image_laws.specs.{Images.{snapshot_of}, Fitting.{IsLadenMatch}}
-use Rattle.join_tests.specs.Joins.{Look}
-use Rattle.pattern_gate.specs.Moves.{IsOrderly}
-use Rattle.laden_rows.{proofs.Extras.{found_in}, specs.Laden.{AreOwners}}
-use Rattle.row_delta.specs.declared.extra.Extra.{Extra}
+use Rattle.{std.{proofs.lemmas.{Bool.{eqb-true}, Int.{ints}}, specs.Ordering.{nat_cmp}}, rete_net.specs.declared.load.LoadFault.{LoadFault}}
+use Rattle.rete_net.specs.{declared.{load.LoadFault.TheVariants.{NoRow}, changes.RuleChange.{RuleChange}}, Loading.{AreLadenRows, IsLoadable, IsThere}}
+use Rattle.{checkpoint.specs.declared.image.Image.{Image}, condition_rows.{proofs.Holding.{held_in}, specs.{Looks.{empty_snapshot}, Sets.{held}}}}
+use Rattle.{fx_base.specs.{Lists.{In}, declared.{fact.Fact.{Fact}, ids.Tag.{Tag}}}, image_change.proofs.Lists.{sorted_mapped}}
+use Rattle.{image_laws.specs.{Images.{snapshot_of}, Fitting.{IsLadenMatch}}, join_tests.specs.Joins.{Look}, pattern_gate.specs.Moves.{IsOrderly}}
+use Rattle.{laden_rows.{proofs.Extras.{found_in}, specs.Laden.{AreOwners}}, row_delta.specs.declared.extra.Extra.{Extra}}
 use Rattle.rule_model.{specs.declared.{matched.Match.{Match}, moment.Moment.{Moment}, program.Program.{Program}}, proofs.Floors.{floor_on}}
-use Rattle.rule_model.specs.{Distinct.{tag_cmp}, Moments.{reached_in}, Snapshots.{Snapshot}, Types.{is_event}}
-use Rattle.rule_world.specs.Events.{most_millis}
+use Rattle.{rule_model.specs.{Distinct.{tag_cmp}, Moments.{reached_in}, Snapshots.{Snapshot}, Types.{is_event}}, rule_world.specs.Events.{most_millis}}
 use Rattle.image_making.{specs.Loads.{CanBeLoaded, comes_by}, proofs.Coming.{comes_laden}}
 
 abbrev tag_of : ℕ → Tag

@@ -1,13 +1,9 @@
 -- What is made of the parts of an image is the image under other rules.
 use Rattle.std.proofs.Common.{List, None, Option, Some, ap, arith, length, map, refl, subst, suc, sym, take, true, ℕ, ℤ, ◌&&◌, ◌+◌, ◌↔◌, ◌∙◌, ◌≡◌}
 use Rattle.std.{proofs.lemmas.{Bool.{and_from, and_parts}, List.Kept.{IsStrictlySortedBy-filter}}, specs.List.{filter, Sorted.{IsStrictlySortedBy}}}
-use Rattle.change_resolve.proofs.Places.{some_is}
-use Rattle.checkpoint.specs.declared.image.{FiredMatch.{FiredMatch}, Image.{Image}}
-use Rattle.fx_base.specs.Lists.{In}
-use Rattle.image_change.specs.Images.{IsChangedImage, IsMovedExtra, IsMovedImage}
-use Rattle.image_laws.specs.{Fitting.{IsLadenMatch}, Images.{AreMoments, has_fired, match_fired}}
-use Rattle.laden_rows.specs.{Laden.{AreOwners}, Placed.{IsPlaced}}
-use Rattle.row_delta.specs.declared.extra.Extra.{Extra}
+use Rattle.{change_resolve.proofs.Places.{some_is}, checkpoint.specs.declared.image.{FiredMatch.{FiredMatch}, Image.{Image}}, fx_base.specs.Lists.{In}}
+use Rattle.{image_change.specs.Images.{IsChangedImage, IsMovedExtra, IsMovedImage}, image_laws.specs.{Fitting.{IsLadenMatch}, Images.{AreMoments, has_fired}}}
+use Rattle.{image_laws.specs.Images.{match_fired}, laden_rows.specs.{Laden.{AreOwners}, Placed.{IsPlaced}}, row_delta.specs.declared.extra.Extra.{Extra}}
 use Rattle.rule_change.{proofs.Changing.{filtered}, specs.Changed.{entry_in, is_marked, moment_or_zero, moved_condition, was_fired}}
 use Rattle.rule_model.specs.{declared.{matched.Match.{Match}, program.{Program.{Program}, Rule.{Rule}}}, Matches.{has_match, match_cmp}, Moments.{moment_in}}
 use Rattle.image_making.{proofs.Going.{unmapped}, specs.Moved.{Begins, IsFirstMoved, IsMoved}}

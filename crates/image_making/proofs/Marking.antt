@@ -2,14 +2,11 @@
 use Rattle.std.proofs.Common.{Bool, List, None, Option, Some, [], ap, cond, false, map, refl, sym, true, ℕ, ◌++◌, ◌↔◌, ◌∙◌, ◌∷◌, ◌||◌, ◌≡◌, append_assoc}
 use Rattle.std.{proofs.{lemmas.List.{map-append, Folds.{list_any-append}}, Math.Bool.{or-false}}, specs.List.{filter, list_all, list_any}}
 use Rattle.std.{specs.{Option.{option_and_then}, Ordering.{eq_by_cmp}, Prelude.{slice_get}}, proofs.lemmas.Bool.{eq-eqb, eqb-true}}
-use Rattle.change_rules.specs.Staying.{place_in}
-use Rattle.checkpoint.specs.declared.image.{FiredMatch.{FiredMatch}, Image.{Image}}
+use Rattle.{change_rules.specs.Staying.{place_in}, checkpoint.specs.declared.image.{FiredMatch.{FiredMatch}, Image.{Image}}}
 use Rattle.fx_base.{proofs.{Sequences.{In-place, list_all-In, list_all-from, list_any-In, list_any-from}, Tests.{cond_true_first}}, specs.Lists.{In}}
-use Rattle.image_laws.specs.{Fitting.{IsLadenMatch}, Images.{has_fired, match_fired}}
-use Rattle.rule_change.specs.Told.{is_place}
-use Rattle.rule_model.{proofs.RuleOf.{has_in, in_has, in_place}, specs.{declared.{matched.Match.{Match}, program.Program.{Program}}, MatchOrders.{match_equiv}}}
-use Rattle.rule_model.specs.Matches.{has_match, match_cmp}
-use Rattle.image_making.specs.Marks.{if_marked, is_told}
+use Rattle.{image_laws.specs.{Fitting.{IsLadenMatch}, Images.{has_fired, match_fired}}, rule_change.specs.Told.{is_place}, rule_model.proofs.RuleOf.{has_in}}
+use Rattle.rule_model.{proofs.RuleOf.{in_has, in_place}, specs.{declared.{matched.Match.{Match}, program.Program.{Program}}, MatchOrders.{match_equiv}}}
+use Rattle.{rule_model.specs.Matches.{has_match, match_cmp}, image_making.specs.Marks.{if_marked, is_told}}
 
 -- one fired match more
 pub one_fired : (now new : List Match) (taken : List FiredMatch) (f : FiredMatch) → ((q : Match) → has_match new q ≡ cond (eq_by_cmp match_cmp (match_fired f) q) true (has_match now q))

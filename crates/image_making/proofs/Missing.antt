@@ -1,16 +1,9 @@
 -- No extra of a changed image is without its row.
-use Rattle.std.proofs.Common.{None, Option, false, sym, true, ℕ, ◌∙◌, ◌≡◌}
-use Rattle.checkpoint.specs.declared.image.Image.{Image}
-use Rattle.fx_base.specs.Lists.{In}
-use Rattle.image_change.{proofs.{Changed.{rows_there}, Kept.{IsTaken}, Owners.{owners}}, specs.Images.{IsMovedImage}}
-use Rattle.image_laws.specs.{Fitting.{Fits}, Images.{snapshot_of}}
-use Rattle.laden_rows.specs.Laden.{AreOwners}
-use Rattle.rete_net.specs.Loading.{IsThere}
-use Rattle.row_delta.specs.declared.extra.Extra.{Extra}
-use Rattle.rule_change.specs.{Alike.{AreOver}, Refused.{IsVerdict}}
-use Rattle.life_meaning.specs.Tables.{AreLives}
-use Rattle.rule_model.specs.{Lives.{AreShort}, declared.{life.LifeTable.{LifeTable}, program.Program.{Program}}}
-use Rattle.rule_world.specs.Worlds.{World}
+use Rattle.{std.proofs.Common.{None, Option, false, sym, true, ℕ, ◌∙◌, ◌≡◌}, checkpoint.specs.declared.image.Image.{Image}, fx_base.specs.Lists.{In}}
+use Rattle.{image_change.{proofs.{Changed.{rows_there}, Kept.{IsTaken}, Owners.{owners}}, specs.Images.{IsMovedImage}}, image_laws.specs.Fitting.{Fits}}
+use Rattle.{image_laws.specs.Images.{snapshot_of}, laden_rows.specs.Laden.{AreOwners}, rete_net.specs.Loading.{IsThere}}
+use Rattle.{row_delta.specs.declared.extra.Extra.{Extra}, rule_change.specs.{Alike.{AreOver}, Refused.{IsVerdict}}, life_meaning.specs.Tables.{AreLives}}
+use Rattle.{rule_model.specs.{Lives.{AreShort}, declared.{life.LifeTable.{LifeTable}, program.Program.{Program}}}, rule_world.specs.Worlds.{World}}
 use Rattle.image_making.specs.Change.{IsWorldOf}
 
 pub none_missing : (p q : Program) (from : ℕ → Option ℕ) (image made : Image) → AreOver p q from → IsMovedImage p q image made

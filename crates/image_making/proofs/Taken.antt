@@ -1,12 +1,8 @@
 -- What is made where other rules are taken.
-use Rattle.std.proofs.Common.{None, Option, ap, subst, sym, ℕ, ◌∙◌, ◌≡◌}
-use Rattle.checkpoint.specs.declared.image.{Image.{Image}, RunPart.{RunPart}}
-use Rattle.image_change.specs.Images.{ChangedFits, ChangedIsImage, IsChangedImage}
-use Rattle.image_laws.specs.{Fitting.{Fits}, Images.{IsImageOf}}
-use Rattle.laden_rows.specs.Placed.{IsSmall}
-use Rattle.rule_change.specs.{Alike.{AreOver}, Changed.{carried, changed}, Refused.{HaveEntries, HaveTypes}}
-use Rattle.rule_model.specs.declared.{life.LifeTable.{LifeTable}, program.Program.{Program}}
-use Rattle.image_making.specs.Change.{AreRules, IsTakenOver, IsVerdictOf}
+use Rattle.{std.proofs.Common.{None, Option, ap, subst, sym, ℕ, ◌∙◌, ◌≡◌}, checkpoint.specs.declared.image.{Image.{Image}, RunPart.{RunPart}}}
+use Rattle.{image_change.specs.Images.{ChangedFits, ChangedIsImage, IsChangedImage}, image_laws.specs.{Fitting.{Fits}, Images.{IsImageOf}}}
+use Rattle.{laden_rows.specs.Placed.{IsSmall}, rule_change.specs.{Alike.{AreOver}, Changed.{carried, changed}, Refused.{HaveEntries, HaveTypes}}}
+use Rattle.{rule_model.specs.declared.{life.LifeTable.{LifeTable}, program.Program.{Program}}, image_making.specs.Change.{AreRules, IsTakenOver, IsVerdictOf}}
 
 pub are_over : (p q : Program) (from : ℕ → Option ℕ) → AreRules p q from → HaveTypes p q → HaveEntries p q → AreOver p q from
 are_over p q from are types entries = record {

@@ -3,8 +3,7 @@ use Rattle.join_memory.proofs.Common.{◌≡◌, ◌∙◌, sym, ap, refl, subst
 use Rattle.join_memory.proofs.Common.{Value, same_value, equal_values, Named, Row, row_cmp, name_cmp, Pattern, JoinIndex, bucket_at, at, Look, joins, row_value}
 use Rattle.join_memory.proofs.Common.{candidate_value, row_kept, unjoined, row_joins, name_joins, stands_in, rows_sought, candidates_sought, is_value_among}
 use Rattle.join_memory.{proofs.{Common.{name_kept}, Joining.{row_decides, name_decides, splits_alike, splits_or}}, specs.Joined.{joined}}
-use Rattle.std.{proofs.Math.Bool.{and-false, or-false}, specs.List.Sorted.{IsStrictlySortedBy}}
-use Rattle.join_tests.proofs.Meeting.{row_sought, candidate_sought}
+use Rattle.{std.{proofs.Math.Bool.{and-false, or-false}, specs.List.Sorted.{IsStrictlySortedBy}}, join_tests.proofs.Meeting.{row_sought, candidate_sought}}
 
 or_same : (a : Bool) → (a || a) ≡ a
 or_same true = refl

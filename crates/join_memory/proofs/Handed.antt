@@ -3,8 +3,7 @@ use Rattle.join_memory.proofs.Common.{◌≡◌, ◌∙◌, sym, ap, refl, ℕ, 
 use Rattle.join_memory.proofs.Common.{◌||◌, eq_by_cmp, Named, Row, name_cmp, name_equiv, Look, joins, Memories, has_name, has_left, has_right, KeepsMemories}
 use Rattle.join_memory.{proofs.Common.{unjoined}, specs.{Inputs.{IsStepped}, declared.candidates.Candidates.{Candidates}, Handed.{moved, MayMove}}}
 use Rattle.join_memory.{specs.{Joined.{joined, AreDistinct}, Shared.{sharing, NamesAgree, AreHanded, ForgoesOld, TakesOver}}, proofs.Joining.{splits_alike}}
-use Rattle.join_memory.proofs.Turning.{any_name, keeps_then, less_more, more_more}
-use Rattle.fx_base.proofs.Tests.{and_first, or_first_false, or_second_false}
+use Rattle.{join_memory.proofs.Turning.{any_name, keeps_then, less_more, more_more}, fx_base.proofs.Tests.{and_first, or_first_false, or_second_false}}
 use Rattle.row_delta.specs.{declared.delta.Delta.{Delta}, Rows.{has}}
 
 -- ---- one candidate after another

@@ -2,9 +2,8 @@
 use Rattle.join_memory.proofs.Common.{◌≡◌, ◌∙◌, sym, ap, refl, subst, List, [], ◌∷◌, Bool, true, false, ◌&&◌, ◌||◌, Option, Some, None, is_some, option_map}
 use Rattle.join_memory.proofs.Common.{is_at, eq_by_cmp, is_some-lookup, Named, Row, row_cmp, has, same_equiv, name_cmp, name_equiv, found, with_name}
 use Rattle.join_memory.proofs.{Common.{split_last, unjoined, splits, has_name, row_exact, name_exact, front_of}, Lasts.{split_snoc, is_snoc}}
-use Rattle.join_memory.specs.Joined.{joined}
-use Rattle.std.{proofs.{lemmas.Bool.{and_from, and_parts, Decides.{same_from_decides}}, Math.Bool.{and-false, or-false, or_assoc}}, specs.Bool.{Decides}}
-use Rattle.alpha_memory.specs.declared.bucket.Bucket.TheVariants.{One}
+use Rattle.{join_memory.specs.Joined.{joined}, std.proofs.{lemmas.Bool.{and_from, and_parts, Decides.{same_from_decides}}, Math.Bool.{and-false, or-false}}}
+use Rattle.{std.{proofs.Math.Bool.{or_assoc}, specs.Bool.{Decides}}, alpha_memory.specs.declared.bucket.Bucket.TheVariants.{One}}
 use Rattle.fx_base.proofs.{Orders.{is_eq-true}, Tests.{and_or_and}}
 
 pub row_decides : (a b : Row) → Decides (eq_by_cmp row_cmp a b) (a ≡ b)

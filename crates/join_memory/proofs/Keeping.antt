@@ -3,8 +3,7 @@ use Rattle.join_memory.proofs.Common.{◌≡◌, ◌∙◌, sym, ap, refl, subst
 use Rattle.join_memory.proofs.Common.{SeesRows, eq_by_cmp, Value, same_value, Named, Row, row_cmp, name_cmp, Pattern, JoinIndex, at, Look, joins, row_value}
 use Rattle.join_memory.proofs.Common.{candidate_value, Memories, joined, has_left, has_right, made, KeepsMemories, same_itself, left_at}
 use Rattle.join_memory.{specs.{declared.candidates.Candidates.{Candidates}, Shared.{KeepsNames}}, proofs.Joining.{row_decides, name_decides, joined_alike}}
-use Rattle.std.proofs.lemmas.Bool.{and_parts}
-use Rattle.join_tests.specs.declared.sought.Sight.{Sight}
+use Rattle.{std.proofs.lemmas.Bool.{and_parts}, join_tests.specs.declared.sought.Sight.{Sight}}
 
 absorbed : (a b : Bool) → (b ≡ true → a ≡ true) → (a && b) ≡ b
 absorbed a true h = ap (λ x. x && true) (h refl)

@@ -1,7 +1,6 @@
 -- The left rows as a list.
 use Rattle.join_memory.proofs.Common.{◌≡◌, ◌∙◌, ap, List, is_some, Value, equal_values, same_value, Row, row_cmp, has, at, Look, Memories, has_left, AreKeys}
-use Rattle.join_memory.proofs.Common.{row_value, true}
-use Rattle.fx_base.proofs.Tests.{same_test}
+use Rattle.{join_memory.proofs.Common.{row_value, true}, fx_base.proofs.Tests.{same_test}}
 
 -- each row stands under its own join value
 abbrev pub RowsAgree : {S : Type 0} → Memories S → Look → Type 0

@@ -2,11 +2,10 @@
 use Rattle.join_memory.proofs.Common.{◌≡◌, ◌∙◌, sym, ap, refl, subst, ℕ, zero, suc, List, [], ◌∷◌, map, Bool, true, false, cond, Option, Some, None, is_some}
 use Rattle.join_memory.proofs.Common.{option_map, Value, same_value, equal_values, Named, Row, row_cmp, name_cmp, Pattern, Look, at, has_left, has_right}
 use Rattle.join_memory.proofs.Common.{option_and_then, is_named_version, version_at, versions_at, tuple_at, passes_given, kept_under, AlikeOn, MemoryMoveLaw}
-use Rattle.fx_base.{specs.declared.fact.Fact.{Fact}, proofs.Sequences.{is_some-false}}
-use Rattle.rule_model.specs.{Lent.{named_at, bound_in, tuple_of}, Tests.{field_of}}
-use Rattle.join_tests.specs.{declared.key.{JoinKey.{JoinKey}, JoinSide.{JoinSide, TheVariants.{Field, Accumulated}}}, Joins.{joins}}
-use Rattle.join_tests.specs.{declared.time_key.TimeKey.{TimeKey}, Keys.{join_keys, earlier_value, given_or_true}, TimeKeys.{time_key}, Slots.{moment_at_point}}
-use Rattle.join_tests.specs.Kept.{row_value, candidate_value}
+use Rattle.{fx_base.{specs.declared.fact.Fact.{Fact}, proofs.Sequences.{is_some-false}}, rule_model.specs.Lent.{named_at, bound_in, tuple_of}}
+use Rattle.{rule_model.specs.Tests.{field_of}, join_tests.specs.declared.key.{JoinKey.{JoinKey}, JoinSide.{JoinSide, TheVariants.{Field, Accumulated}}}}
+use Rattle.join_tests.specs.{Joins.{joins}, declared.time_key.TimeKey.{TimeKey}, Keys.{join_keys, earlier_value, given_or_true}, TimeKeys.{time_key}}
+use Rattle.join_tests.specs.{Slots.{moment_at_point}, Kept.{row_value, candidate_value}}
 
 module _ (look other : Look) where
   pub named_alike : (names : List Named) → AlikeOn look other names → (k : ℕ) → named_at look names k ≡ named_at other names k

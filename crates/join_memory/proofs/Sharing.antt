@@ -5,8 +5,7 @@ use Rattle.join_memory.proofs.Common.{same_value, Pattern, Look, row_value, cand
 use Rattle.join_memory.proofs.Common.{Option, Some, None, name_kept, beside, RowsLeave, RowsCome, NamesLeave, NamesCome, LooksWhereKept}
 use Rattle.join_memory.specs.{declared.{candidates.Candidates.{Candidates}, left_rows.LeftRows.{LeftRows}}, Shared.{over}, Joined.{joined}}
 use Rattle.join_memory.proofs.{Joining.{name_decides, splits_alike, splits_or, joined_alike, none_right}, Turning.{keeps_then, less_more, more_more, any_name}}
-use Rattle.join_tests.{specs.{declared.row_key.RowKey.{RowKey}, RowKeys.{value_by}}, proofs.Siding.{kept_by}}
-use Rattle.fx_base.proofs.Tests.{and_or_and}
+use Rattle.{join_tests.{specs.{declared.row_key.RowKey.{RowKey}, RowKeys.{value_by}}, proofs.Siding.{kept_by}}, fx_base.proofs.Tests.{and_or_and}}
 use Rattle.std.proofs.Math.Bool.{and-false, and-true}
 
 -- ---- where a row is kept

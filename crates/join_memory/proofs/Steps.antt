@@ -1,7 +1,6 @@
 -- What memories stand for after a step, and after forgetting.
 use Rattle.join_memory.{proofs.Common.{◌≡◌, ◌∙◌, ap, refl, Bool, true, false, not, ◌&&◌, ◌||◌, has, row_naming, cleaned, remembered}, specs.Steps.{StepsLaw}}
-use Rattle.join_memory.{specs.Steps.{ForgetsLaw}, proofs.Worlds.{forgotten_more}}
-use Rattle.fx_base.proofs.Tests.{and_not_not}
+use Rattle.{join_memory.{specs.Steps.{ForgetsLaw}, proofs.Worlds.{forgotten_more}}, fx_base.proofs.Tests.{and_not_not}}
 
 -- a set after its difference
 stepped : (a b : Bool) → ((a && not (a && not b)) || (b && not a)) ≡ b

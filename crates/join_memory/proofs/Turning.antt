@@ -1,8 +1,7 @@
 -- What one row or one candidate more, or less, does to the sets that are kept.
 use Rattle.join_memory.proofs.Common.{◌≡◌, ◌∙◌, sym, ap, refl, ℕ, ◌+◌, ◌<◌, length, take, get_or, List, Bool, true, false, not, ◌&&◌, ◌||◌, list_any, eq_by_cmp}
 use Rattle.join_memory.proofs.{Common.{list_any_more, Named, Row, row_cmp, name_cmp, Look, Memories, KeepsMemories}, Joining.{row_decides, name_decides}}
-use Rattle.std.proofs.Math.Bool.{or_assoc}
-use Rattle.fx_base.proofs.Tests.{and_not_not, or_implied}
+use Rattle.{std.proofs.Math.Bool.{or_assoc}, fx_base.proofs.Tests.{and_not_not, or_implied}}
 
 -- ---- a row that goes and is not there, and one that comes and is there
 

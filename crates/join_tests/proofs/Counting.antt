@@ -2,8 +2,7 @@
 use Rattle.join_tests.proofs.Common.{◌≡◌, ◌≢◌, ◌∙◌, sym, ap, refl, ℕ, ◌+◌, ◌<◌, ◌⊎◌, inl, inr, List, [], ◌∷◌, ◌++◌, map, length, get_or, drop, Option}
 use Rattle.join_tests.proofs.Common.{option_map, cast_signed, FoldHasher, Value, Int, Fact, Named, Compare, Test, field_of, JoinKey, Nothing, Look}
 use Rattle.join_tests.proofs.Common.{keys_of_choices, keys_of_tests, given_or_true, candidate_part, fed_with, as_one, with_slot, and_more, part, One, Several}
-use Rattle.join_tests.proofs.Common.{and_one}
-use Rattle.std.{specs.{Borrow.{Bor}, Int.{w64}}, proofs.lemmas.List.{at_drop_more}}
+use Rattle.{join_tests.proofs.Common.{and_one}, std.{specs.{Borrow.{Bor}, Int.{w64}}, proofs.lemmas.List.{at_drop_more}}}
 use Rattle.std.specs.Hash.FoldHasher as hasher
 use Rattle.join_tests.specs.{declared.{key.Keying.{Keying}, part.Partner.TheVariants.{OfCandidate}}, Keys.{number_for}}
 

@@ -7,11 +7,9 @@ use Rattle.join_tests.proofs.Common.{row_moment, candidate_moment, first_event, 
 use Rattle.join_tests.proofs.Common.{bound_in, related, related_given, side_value, related_side, compare_holds, compares_hold, test_holds, tests_hold, bound_by}
 use Rattle.join_tests.{proofs.Common.{key_of_side, key_of_sides, key_of_compare, in_front, earlier_value}, specs.{Joins.{joins}, Keys.{join_keys}}}
 use Rattle.join_tests.{specs.{TimeKeys.{time_key}, Kept.{row_value, candidate_value, rows_sought, candidates_sought}}, proofs.Neighbours.{found_among}}
-use Rattle.join_tests.proofs.{Ranges.{Fits, fits_times}, Versions.{version_is, versions_are, row_is}}
-use Rattle.std.specs.List.{list_any}
+use Rattle.{join_tests.proofs.{Ranges.{Fits, fits_times}, Versions.{version_is, versions_are, row_is}}, std.specs.List.{list_any}}
 use Rattle.rule_model.specs.declared.test.{RelTag.{RelTag, TheVariants.{OneOf, Equal, NotEqual, Less, LessOrEqual, Greater, GreaterOrEqual}}, Side.{Side}}
-use Rattle.rule_model.{specs.declared.test.Side.TheVariants.{Lit, Own, Of, Result}, proofs.Naming.{bound_named}}
-use Rattle.fx_base.proofs.Tests.{and_first, and_second}
+use Rattle.{rule_model.{specs.declared.test.Side.TheVariants.{Lit, Own, Of, Result}, proofs.Naming.{bound_named}}, fx_base.proofs.Tests.{and_first, and_second}}
 
 one_of : (a : Bool) → (a || false) ≡ true → a ≡ true
 one_of true e = refl

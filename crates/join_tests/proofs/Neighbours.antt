@@ -2,8 +2,7 @@
 use Rattle.join_tests.proofs.Common.{◌≡◌, ◌∙◌, sym, ap, refl, subst, arith, ℕ, suc, ◌+◌, ◌*◌, ◌<◌, ◌≤◌, ℤ, pos, negsuc, ◌+ℤ◌, ◌≤ℤ◌, ◌⊎◌, inl, inr, Bool, true}
 use Rattle.join_tests.proofs.Common.{false, cond, ◌||◌, List, [], ◌∷◌, Option, Some, None, ints, Value, same_value, equal_values, TimeKey, given_or_true}
 use Rattle.join_tests.proofs.Common.{as_one, with_slot, kept_under, sought_under, is_value_among, by_lt_z, int_div_euclid, same_itself, number_given, slot_of}
-use Rattle.join_tests.proofs.Common.{in_64_bits}
-use Rattle.std.proofs.{lemmas.Bool.{or_left}, Math.{Bool.{or-true}, Nat.{lt_of_mul-lt-mul_right}}}
+use Rattle.{join_tests.proofs.Common.{in_64_bits}, std.proofs.{lemmas.Bool.{or_left}, Math.{Bool.{or-true}, Nat.{lt_of_mul-lt-mul_right}}}}
 use borrow.Author.Differences.{up, down}
 
 -- q is a divided by k, rounded down

@@ -2,11 +2,9 @@
 use Rattle.join_tests.proofs.Common.{◌≡◌, ◌∙◌, sym, ap, refl, subst, arith, ℕ, ℤ, pos, negsuc, ◌+ℤ◌, ◌-ℤ◌, ◌≤ℤ◌, ◌⊎◌, inl, inr, Bool, true, false, cond, ◌&&◌}
 use Rattle.join_tests.proofs.Common.{List, [], ◌∷◌, Option, Some, None, ints, Fact, times_hold, Bindings, TimeKey, most_between, key_of_times, point_of_times}
 use Rattle.join_tests.proofs.Common.{option_or, time_holds_with, time_holds, candidate_corner, event_corner, same_corner, key_of_span, key_between, key_at}
-use Rattle.join_tests.{proofs.Common.{key_of_edges}, specs.declared.time_key.Point.{Point, TheVariants.{Start, End}}}
-use Rattle.std.specs.Int.Signed.{le_z}
-use Rattle.fx_base.{specs.declared.times.Times.{Times}, proofs.Tests.{and_first, and_second}}
-use Rattle.temporal_ops.specs.{declared.edge.{Corner.{Corner, TheVariants.{AStart, AEnd, BStart, BEnd}}, OpEdge.{OpEdge}}, Edges.{corner, edge_holds}}
-use Rattle.temporal_ops.specs.Edges.{edges_hold}
+use Rattle.{join_tests.{proofs.Common.{key_of_edges}, specs.declared.time_key.Point.{Point, TheVariants.{Start, End}}}, std.specs.Int.Signed.{le_z}}
+use Rattle.{fx_base.{specs.declared.times.Times.{Times}, proofs.Tests.{and_first, and_second}}, temporal_ops.specs.declared.edge.Corner.{Corner}}
+use Rattle.temporal_ops.specs.{declared.edge.{Corner.TheVariants.{AStart, AEnd, BStart, BEnd}, OpEdge.{OpEdge}}, Edges.{corner, edge_holds, edges_hold}}
 use Rattle.rule_model.specs.declared.test.TimeTest.{TimeTest}
 
 corners_are : (x y : Corner) → same_corner x y ≡ true → x ≡ y

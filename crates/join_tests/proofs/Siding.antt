@@ -1,8 +1,7 @@
 -- The value under which a row is kept, by its side of the equalities and of the range of time.
 use Rattle.join_tests.proofs.Common.{◌≡◌, ◌∙◌, ap, refl, arith, ◌≤◌, length, List, [], ◌∷◌, map, Option, Some, None, option_map, cast_signed, FoldHasher, Value}
 use Rattle.join_tests.proofs.Common.{Int, Row, Pattern, JoinKey, TimeKey, Look, join_keys, row_part, fed_with, as_one, time_key, row_moment, with_slot}
-use Rattle.join_tests.proofs.Common.{kept_under, row_side_of, side_part, row_time, row_key, kept_by_time, value_by}
-use Rattle.std.specs.Int.{w64}
+use Rattle.{join_tests.proofs.Common.{kept_under, row_side_of, side_part, row_time, row_key, kept_by_time, value_by}, std.specs.Int.{w64}}
 use Rattle.std.specs.Hash.FoldHasher as hasher
 use Rattle.join_tests.{specs.{declared.key.JoinSide.{JoinSide}, Keys.{number_for}, Kept.{row_value}}, proofs.Counting.{number_behind}}
 

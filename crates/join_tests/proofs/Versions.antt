@@ -1,11 +1,8 @@
 -- Versions that are at hand are the facts of a tuple that the row names.
 use Rattle.join_tests.proofs.Common.{◌≡◌, ◌∙◌, sym, ap, refl, subst, List, [], ◌∷◌, map, Bool, true, false, cond, ◌&&◌, Option, Some, None, option_map, is_some}
 use Rattle.join_tests.proofs.Common.{Fact, Named, Row, Pattern, tuple_of, Look, version_at, versions_at, passes_given, option_and_then, Holds, Tuple, name_of}
-use Rattle.join_tests.{proofs.Common.{row_of, is_named_version, tuple_at}, specs.Joins.{joins}}
-use Rattle.std.proofs.Math.Bool.{and-false, and-true}
-use Rattle.row_delta.specs.NameOrder.{name_cmp, name_exact}
-use Rattle.rule_model.specs.Candidates.{passes}
-use Rattle.fx_base.proofs.Orders.{is_eq-true}
+use Rattle.{join_tests.{proofs.Common.{row_of, is_named_version, tuple_at}, specs.Joins.{joins}}, std.proofs.Math.Bool.{and-false, and-true}}
+use Rattle.{row_delta.specs.NameOrder.{name_cmp, name_exact}, rule_model.specs.Candidates.{passes}, fx_base.proofs.Orders.{is_eq-true}}
 
 same_name : (named : Named) (f : Fact) → is_named_version named f ≡ true → name_of f ≡ named
 same_name named f e = name_exact (name_of f) named (is_eq-true (name_cmp (name_of f) named) e)

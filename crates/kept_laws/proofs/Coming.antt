@@ -4,12 +4,8 @@ use Rattle.kept_laws.proofs.Common.{Condition, LifeTable, Program, Rule, Step, i
 use Rattle.kept_laws.proofs.Common.{name_of, Tuple, empty_tuple, row_of, of_filter, in_filter, World, snapshot, IsKept, Comes, same_fact, operators_of, held}
 use Rattle.kept_laws.proofs.Common.{candidates_of, held_fact, joins_of_tuple, candidate_of, made_facts, is_kept, is_forgotten, IsLawfulStep, behind, RowComes}
 use Rattle.kept_laws.proofs.Common.{of_map, makes_listed, listed_makes, Look, joins, IsMade, tuple_of_row, row_of_tuple, and_parts, false_from_ne_true}
-use Rattle.kept_laws.proofs.Common.{list_any-none}
-use Rattle.row_delta.specs.declared.row.Row.{Row}
-use Rattle.rule_model.specs.Lent.{Holds}
-use Rattle.life_laws.proofs.Keeps.{here, tuple_names_kept, tuple_meets_kept}
-use Rattle.join_memory.specs.Standing.{clean, no_names}
-use Rattle.condition_rows.specs.Looks.{HasAllOf}
+use Rattle.{kept_laws.proofs.Common.{list_any-none}, row_delta.specs.declared.row.Row.{Row}, rule_model.specs.Lent.{Holds}, life_laws.proofs.Keeps.{here}}
+use Rattle.{life_laws.proofs.Keeps.{tuple_names_kept, tuple_meets_kept}, join_memory.specs.Standing.{clean, no_names}, condition_rows.specs.Looks.{HasAllOf}}
 use Rattle.kept_meaning.proofs.{Decided.{is_tested}, Versions.{IsLost, lost, tags_behind}}
 
 first_operators : (cs : List Condition) (q : ℕ) → HaveOperators cs → HaveOperators (take q cs)

@@ -2,12 +2,9 @@
 use Rattle.kept_laws.proofs.Common.{◌≡◌, ◌∙◌, ◌||◌, not, Bool, true, false, inl, inr, ◌∷◌, Option, Some, None, refl, sym, ap, subst, slice_get, In, Fact, Named}
 use Rattle.kept_laws.proofs.Common.{LifeTable, Match, Program, Step, name_of, or_split, of_filter, in_filter, passed, IsOrdered, World, snapshot, pending}
 use Rattle.kept_laws.proofs.Common.{marked, version_at, has_name, held, is_alive, is_pending_named, is_lost, IsLawfulStep, same_fact, step_in_order}
-use Rattle.kept_laws.proofs.Common.{false_from_ne_true, or_left, or_right, list_any-from, list_any-In}
-use Rattle.rule_world.specs.Worlds.{stepped}
+use Rattle.{kept_laws.proofs.Common.{false_from_ne_true, or_left, or_right, list_any-from, list_any-In}, rule_world.specs.Worlds.{stepped}}
 use Rattle.kept_meaning.{specs.Kept.{is_kept, is_forgotten}, proofs.{Decided.{is_so, is_tested}, Versions.{lost, forgotten_fact}}}
-use Rattle.std.specs.Ordering.{eq_by_cmp}
-use Rattle.rule_model.specs.Matches.{matches, match_cmp, has_match}
-use Rattle.life_laws.proofs.Remains.{kept_before}
+use Rattle.{std.specs.Ordering.{eq_by_cmp}, rule_model.specs.Matches.{matches, match_cmp, has_match}, life_laws.proofs.Remains.{kept_before}}
 
 -- what is not kept is forgotten, of a world in order
 not_kept_is_forgotten : (p : Program) (table : LifeTable) (w : World) → IsOrdered p w → (f : Fact) → In f w.facts → is_kept p table w f ≡ false → is_forgotten p table w (name_of f) ≡ true

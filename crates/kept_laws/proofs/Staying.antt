@@ -5,12 +5,10 @@ use Rattle.kept_laws.proofs.Common.{Length, Life, Plain, Explicit, Finite, Infin
 use Rattle.kept_laws.proofs.Common.{pattern_of, binds, Snapshot, tests_hold, unbound, name_of, is_event, expiry_of, is_observed, of_filter, in_filter, IsLawful}
 use Rattle.kept_laws.proofs.Common.{World, snapshot, found, new_fact, has_id, revised, revised_in, was_present, AreSafe, IsLife, finite, infinite, lives_below}
 use Rattle.kept_laws.proofs.Common.{candidates_of, candidate_of, candidate_named, is_alive, is_pending_named, is_forgotten, IsLawfulStep, behind, same_fact}
-use Rattle.kept_laws.proofs.Common.{in_map, in_left, stays, and_parts, eqb-true, false_from_ne_true}
-use Rattle.std.proofs.{lemmas.Int.{ints}, Math.Bool.{or-true}}
+use Rattle.{kept_laws.proofs.Common.{in_map, in_left, stays, and_parts, eqb-true, false_from_ne_true}, std.proofs.{lemmas.Int.{ints}, Math.Bool.{or-true}}}
 use Rattle.rule_model.specs.{Candidates.{is_present}, declared.step.Step.TheVariants.{Insert, Modify, Retract, Advance, At, Promise, Begin}}
-use Rattle.rule_world.{specs.Worlds.{moved, step_fault}, proofs.Fresh.{revise}}
-use Rattle.kept_meaning.{specs.Kept.{is_kept}, proofs.{Decided.{lost_event, not_alive}, Versions.{lost, tags_behind}}}
-use Rattle.fx_base.{specs.declared.value.Value.{Value}, proofs.Tests.{or_first_false, same_test}}
+use Rattle.{rule_world.{specs.Worlds.{moved, step_fault}, proofs.Fresh.{revise}}, kept_meaning.{specs.Kept.{is_kept}, proofs.Decided.{lost_event, not_alive}}}
+use Rattle.{kept_meaning.proofs.Versions.{lost, tags_behind}, fx_base.{specs.declared.value.Value.{Value}, proofs.Tests.{or_first_false, same_test}}}
 use Rattle.life_laws.proofs.{Laws.{observed_of}, Moves.{plain_there, retracted_is_not_observed, clock_on}}
 
 -- ---- no step takes away an observed event

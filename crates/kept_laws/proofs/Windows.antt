@@ -3,8 +3,7 @@ use Rattle.kept_laws.proofs.Common.{◌≡◌, ◌∙◌, ◌&&◌, ◌==◌, �
 use Rattle.kept_laws.proofs.Common.{Fact, Condition, WindowTag, Time, Life, Plain, Explicit, Finite, Infinite, LifeTable, Program, Rule, is_inside}
 use Rattle.kept_laws.proofs.Common.{is_candidate, is_present, pattern_of, Snapshot, tests_hold, unbound, IsLawful, World, was_present, AreSafe, IsLife, finite}
 use Rattle.kept_laws.proofs.{Common.{lives_below, is_alive, is_kept, eqb-true, false_from_ne_true, In-place}, Staying.{after_life, after_less, not_below}}
-use Rattle.kept_laws.proofs.Staying.{too_old, later_too}
-use Rattle.kept_meaning.proofs.Decided.{not_alive}
+use Rattle.{kept_laws.proofs.Staying.{too_old, later_too}, kept_meaning.proofs.Decided.{not_alive}}
 
 -- no candidate, where the facts of the type are not inside
 none_by : (a t r c : Bool) → (t ≡ true → c ≡ false) → ((a && (t && r)) && c) ≡ false

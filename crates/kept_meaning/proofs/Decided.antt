@@ -3,9 +3,8 @@ use Rattle.kept_meaning.proofs.Common.{◌≡◌, ◌↔◌, ◌∙◌, ℤ, ◌
 use Rattle.kept_meaning.proofs.Common.{Explicit, Finite, Infinite, LifeTable, Match, Program, name_of, is_event, expiry_of, or_split, of_filter, in_filter}
 use Rattle.kept_meaning.proofs.Common.{passed, World, pending, AreSafe, IsKept, plain, unexpired, endless, living, named, has_name, is_alive, is_pending_named}
 use Rattle.kept_meaning.{proofs.Common.{kept_facts, in_name, name_in, or_left, or_right, list_any-from, list_any-In}, specs.Kept.{is_kept}}
-use Rattle.rule_model.proofs.RuleOf.{in_has, has_in}
-use Rattle.life_meaning.proofs.Safe.{plain_unlisted}
-use Rattle.fx_base.proofs.{Tests.{or_first_false}, Orders.{int_le-true, le-int_le}}
+use Rattle.{rule_model.proofs.RuleOf.{in_has, has_in}, life_meaning.proofs.Safe.{plain_unlisted}, fx_base.proofs.{Tests.{or_first_false}, Orders.{int_le-true}}}
+use Rattle.fx_base.proofs.Orders.{le-int_le}
 
 -- what is kept is a fact of the world
 pub kept_inside : (p : Program) (table : LifeTable) (w : World) (f : Fact) → IsKept p table w f → In f w.facts

@@ -1,8 +1,7 @@
 -- Versions of the facts of a world, before a step and behind it.
 use Rattle.kept_meaning.proofs.Common.{◌≡◌, not, true, false, Option, Some, None, refl, ap, In, Fact, Named, LifeTable, Program, Step, name_of, IsOrdered}
 use Rattle.kept_meaning.proofs.Common.{World, snapshot, moved, version_at, held, held_fact, version_of, version_in, is_kept, is_lost, numbered, move_numbered}
-use Rattle.kept_meaning.{proofs.Common.{not-true}, specs.Kept.{is_forgotten}}
-use Rattle.rule_model.specs.Distinct.{HaveDistinctTags}
+use Rattle.{kept_meaning.{proofs.Common.{not-true}, specs.Kept.{is_forgotten}}, rule_model.specs.Distinct.{HaveDistinctTags}}
 
 -- ---- what is forgotten
 

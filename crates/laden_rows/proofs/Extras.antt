@@ -3,9 +3,8 @@ use Rattle.laden_rows.proofs.Common.{◌≡◌, ◌∙◌, ◌&&◌, ◌==◌, �
 use Rattle.laden_rows.proofs.Common.{refl, sym, ap, subst, arith, take, find, is_some, tells_apart, In, Fact, Extra, Named, Row, row_exact, same_equiv}
 use Rattle.laden_rows.proofs.Common.{Condition, Negated, Existing, Folded, Plain, Program, Rule, pattern_of, binds, Snapshot, clean, cleaned, rows_of}
 use Rattle.laden_rows.proofs.Common.{lost_partners, values_gathered, AreExtras, IsFirstWith, extra_values_of, count_of, extra_at, AreOwners, is_extra_at}
-use Rattle.laden_rows.proofs.Common.{and_from, and_parts, eq-eqb, eqb-true, is_some-cond}
-use Rattle.std.{specs.{Prelude.{slice_get}, Ordering.{eq_by_cmp}}, proofs.lemmas.Option.{slice_get_within}}
-use Rattle.row_delta.specs.Rows.{row_cmp}
+use Rattle.{laden_rows.proofs.Common.{and_from, and_parts, eq-eqb, eqb-true, is_some-cond}, std.specs.{Prelude.{slice_get}, Ordering.{eq_by_cmp}}}
+use Rattle.{std.proofs.lemmas.Option.{slice_get_within}, row_delta.specs.Rows.{row_cmp}}
 
 -- ---- what is found
 

@@ -3,11 +3,10 @@ use Rattle.laden_rows.proofs.Common.{◌≡◌, ◌∙◌, ◌&&◌, ◌==◌, n
 use Rattle.laden_rows.proofs.Common.{filter, find, In, EachOnce, Fact, Named, Row, Condition, Pattern, Program, Rule, fits, is_inside, is_candidate, candidates}
 use Rattle.laden_rows.proofs.Common.{is_behind, HaveDistinctTags, pattern_of, Snapshot, name_of, of_filter, Same, in_filter, passed, same_length, joins}
 use Rattle.laden_rows.proofs.Common.{cleaned, remembered, NameHeld, HasAllOf, candidates_of, partners_once, held_known, joining_alike, IsKeptOf, and_from}
-use Rattle.laden_rows.proofs.Common.{and_parts, eqb-true, not-true, not_from_false, same_test}
-use Rattle.condition_rows.{specs.Sets.{held, partners}, proofs.{Joined.{candidate_named, candidate_of}, Holding.{held_fact, held_in}}}
-use Rattle.std.specs.Prelude.{slice_get}
-use Rattle.fx_base.specs.declared.ids.Tag.{Tag}
-use Rattle.rule_model.{specs.declared.condition.WindowTag.{WindowTag, TheVariants.{Length, Whole, Time}}, proofs.Once.{once_filter, once_facts}}
+use Rattle.{laden_rows.proofs.Common.{and_parts, eqb-true, not-true, not_from_false, same_test}, condition_rows.specs.Sets.{held, partners}}
+use Rattle.{condition_rows.proofs.{Joined.{candidate_named, candidate_of}, Holding.{held_fact, held_in}}, std.specs.Prelude.{slice_get}}
+use Rattle.{fx_base.specs.declared.ids.Tag.{Tag}, rule_model.specs.declared.condition.WindowTag.{WindowTag, TheVariants.{Length, Whole, Time}}}
+use Rattle.rule_model.proofs.Once.{once_filter, once_facts}
 
 abbrev tag_of : ℕ → Tag
 tag_of n = record { 0 = n }

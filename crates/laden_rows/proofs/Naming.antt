@@ -3,8 +3,7 @@ use Rattle.laden_rows.proofs.Common.{◌≡◌, ◌∙◌, ◌&&◌, ◌||◌, n
 use Rattle.laden_rows.proofs.Common.{Some, None, is_some, option_map, option_and_then, Fact, Extra, Named, Row, Plain, Negated, Existing, Folded, Pattern}
 use Rattle.laden_rows.proofs.Common.{Program, Snapshot, Look, joins, version_at, versions_at, empty_row, is_ripe, NameHeld, held, has_partner}
 use Rattle.laden_rows.proofs.Common.{is_candidate_given, extra_at, laden_gives, laden_line, laden_with, extra_values_of, and_parts, tells_apart, row_exact}
-use Rattle.laden_rows.{proofs.Common.{Condition, joined}, specs.Laden.{laden}}
-use Rattle.condition_rows.specs.Sets.{candidates_of}
+use Rattle.{laden_rows.{proofs.Common.{Condition, joined}, specs.Laden.{laden}}, condition_rows.specs.Sets.{candidates_of}}
 use Rattle.join_memory.proofs.{Joining.{joined_from, joined_with}, Valued.{valued_from}}
 
 there_more : (o : Option Fact) (r s : Option (List Fact)) → (is_some r ≡ true → is_some s ≡ true)

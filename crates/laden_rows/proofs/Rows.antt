@@ -8,13 +8,12 @@ use Rattle.laden_rows.proofs.Common.{joining_alike, row_alike, list_any-In, list
 use Rattle.laden_rows.proofs.Common.{AreOwners, IsKeptOf, laden_line, laden_with, joined, or_left, or_right, is_result, line, is_empty_row, empty_row}
 use Rattle.laden_rows.{proofs.{Common.{same_test}, Extras.{to_extra, of_extra, extra_values, extra_count}}, specs.Laden.{laden_gives, laden}}
 use Rattle.laden_rows.proofs.{Gathered.{parted_values}, Kept.{known, to_kept, from_kept, candidates_kept, joins_same, partners_kept, partners_once_kept}}
-use Rattle.std.{specs.Prelude.{slice_get}, proofs.lemmas.List.Filters.{length-filter_both}}
+use Rattle.{std.{specs.Prelude.{slice_get}, proofs.lemmas.List.Filters.{length-filter_both}}, rule_model.specs.{Rows.{rows}, Tests.{results_hold}}}
+use Rattle.rule_model.{specs.{declared.condition.Accumulate.{Accumulate}, Lent.{bound_in}}, proofs.{Listed.{in_map, of_map}, RuleOf.{in_place}}}
+use Rattle.{rule_model.{proofs.{Firsts.{or_split}, Floors.{same_floor}}, specs.Maturity.{is_mature}}, condition_rows.specs.Sets.{has_partner, partners}}
+use Rattle.{condition_rows.{specs.Lines.{gives, is_ripe}, proofs.{Naming.{rows_named}, Whole.{one_more}}}, fold_fn.proofs.ResultLemmas.{result_same}}
+use Rattle.{fold_fn.specs.Results.{fold_result}, join_memory.proofs.{Moving.{named_alike}, Worlds.{joined_clean}}}
 use mathlib.Core.Path.{fun_ext}
-use Rattle.rule_model.{specs.{Rows.{rows}, Tests.{results_hold}, declared.condition.Accumulate.{Accumulate}, Lent.{bound_in}}, proofs.Listed.{in_map, of_map}}
-use Rattle.rule_model.{proofs.{RuleOf.{in_place}, Firsts.{or_split}, Floors.{same_floor}}, specs.Maturity.{is_mature}}
-use Rattle.condition_rows.{specs.{Sets.{has_partner, partners}, Lines.{gives, is_ripe}}, proofs.{Naming.{rows_named}, Whole.{one_more}}}
-use Rattle.fold_fn.{proofs.ResultLemmas.{result_same}, specs.Results.{fold_result}}
-use Rattle.join_memory.proofs.{Moving.{named_alike}, Worlds.{joined_clean}}
 
 -- ---- the first conditions of a list
 

@@ -1,8 +1,8 @@
 -- Solutions of edges and of networks, each made of the other, and the distances in them.
 use Rattle.life_edges.proofs.Common.{◌≡◌, ℕ, ℤ, ◌-ℤ◌, ◌≤ℤ◌, ◌<ℤ◌, List, [], ◌∷◌, Some, sym, ◌∙◌, ap, subst, arith, slice_get, ints, Times, Condition, Program}
 use Rattle.life_edges.proofs.Common.{Occurrence, SolvesConditions, infinite, Placed, NameEarlier, start_point_of, end_of, edges_of_conditions, IsReach}
-use Rattle.life_edges.proofs.Common.{IsGreatestReach, distance, occurrence_of, limit_of}
-use Rattle.fx_base.specs.declared.bound.Bound.{Bound, TheVariants.{Finite, Infinite}}
+use Rattle.{life_edges.proofs.Common.{IsGreatestReach, distance, occurrence_of, limit_of}, fx_base.specs.declared.bound.Bound.{Bound, TheVariants.{Finite}}}
+use Rattle.fx_base.specs.declared.bound.Bound.TheVariants.{Infinite}
 use Rattle.temporal_net.specs.Networks as net
 use Rattle.life_edges.proofs.{Solutions.{Agree}, Solved.{points_solve, times_solve, times_of, times_agree, points_of, points_agree}}
 

@@ -4,8 +4,7 @@ use Rattle.life_edges.proofs.Common.{slice_get, All, flat_map, ints, All-nil, Al
 use Rattle.life_edges.proofs.Common.{BStart, BEnd, OpEdge, NetEdge, Condition, Program, TimeTest, pattern_of, HaveOperators, is_point, NameEarlier}
 use Rattle.life_edges.proofs.Common.{start_point_of, end_of, point_of, place_of, net_edge, test_edges, event_edges, pattern_edges, stands_in_network}
 use Rattle.life_edges.proofs.{Common.{edges_of_conditions, All-map, slice_get_within, IsOpEdge, IsWithin}, Places.{the_same, place_below, named_here}}
-use Rattle.life_edges.proofs.{Solutions.{Named}, Solved.{held, each_from}}
-use Rattle.temporal_net.specs.Networks.{HasItsPoints, IsSmallEdge}
+use Rattle.{life_edges.proofs.{Solutions.{Named}, Solved.{held, each_from}}, temporal_net.specs.Networks.{HasItsPoints, IsSmallEdge}}
 use Rattle.rule_model.specs.Maturity.{AreOperators}
 
 record Fits (e : NetEdge) : Type 0 where

@@ -3,12 +3,10 @@ use Rattle.life_edges.proofs.Common.{◌≡◌, inl, inr, ◌&&◌, ◌||◌, �
 use Rattle.life_edges.proofs.Common.{if◌then◌else◌, refl, subst, sym, arith, slice_get, All, list_all, ints, All-head, All-tail, In, Condition, Pattern}
 use Rattle.life_edges.proofs.Common.{Program, pattern_of, HaveOperators, NameEarlier, infinite, HaveLives, int_le, IfSome, clamps, expiry_in, lateness_in}
 use Rattle.life_edges.proofs.Common.{is_event, has_conditions, has_lateness, has_expiry, is_window, has_window, has_windows, UseOperators, IsRunnable, tail_by}
-use Rattle.life_edges.proofs.Common.{RulesHaveNetworks, IsShortSpan, IsShortLimit, HasShortWindow}
-use Rattle.std.{proofs.lemmas.Bool.{and_parts, Decides.{nat_tests}}, specs.Int.{int_max}}
-use Rattle.rule_model.specs.declared.{condition.WindowTag.{WindowTag, TheVariants.{Whole, Time, Length}}, program.{EntryInfo.{EntryInfo}, Rule.{Rule}}}
-use Rattle.rule_model.{specs.{declared.program.TypeInfo.{TypeInfo}, Simple.{is_whole}, Types.{expiry_of, lateness_of}}, proofs.RuleOf.{in_place}}
-use Rattle.rule_world.{specs.Events.{most_millis}, proofs.Acting.{all_of}}
-use Rattle.life_meaning.specs.Lifetimes.{tail}
+use Rattle.{life_edges.proofs.Common.{RulesHaveNetworks, IsShortSpan, IsShortLimit, HasShortWindow}, std.proofs.lemmas.Bool.{and_parts, Decides.{nat_tests}}}
+use Rattle.{std.specs.Int.{int_max}, rule_model.specs.declared.condition.WindowTag.{WindowTag, TheVariants.{Whole, Time, Length}}}
+use Rattle.rule_model.specs.{declared.program.{EntryInfo.{EntryInfo}, Rule.{Rule}, TypeInfo.{TypeInfo}}, Simple.{is_whole}, Types.{expiry_of, lateness_of}}
+use Rattle.{rule_model.proofs.RuleOf.{in_place}, rule_world.{specs.Events.{most_millis}, proofs.Acting.{all_of}}, life_meaning.specs.Lifetimes.{tail}}
 use Rattle.fx_base.proofs.Orders.{int_le-true}
 
 few : (rule : Rule) → has_conditions rule ≡ true → length rule.conditions ≤ 8

@@ -3,9 +3,8 @@ use Rattle.life_edges.proofs.Common.{◌≡◌, ◌++◌, ◌<◌, ℕ, ℤ, pos
 use Rattle.life_edges.proofs.Common.{slice_get, All, list_all, flat_map, ints, All-nil, All-cons, All-head, All-tail, All-append, Times, Corner, AStart, AEnd}
 use Rattle.life_edges.proofs.Common.{BStart, BEnd, OpEdge, NetEdge, Condition, Plain, Pattern, Program, TimeTest, is_point, Occurrence, bound, bindings}
 use Rattle.life_edges.proofs.Common.{occurrence, MeetsTests, start_point_of, end_of, point_of, place_of, net_edge, test_edges, event_edges, pattern_edges}
-use Rattle.life_edges.proofs.{Common.{corner, is_test_met}, Places.{false_is, binder}}
-use Rattle.std.{proofs.lemmas.Bool.{and_from, and_parts}, specs.Int.Signed.{le_z}}
-use Rattle.temporal_ops.specs.{Edges.{edge_holds, edges_hold}, Possible.{IsEvent}}
+use Rattle.{life_edges.proofs.{Common.{corner, is_test_met}, Places.{false_is, binder}}, std.proofs.lemmas.Bool.{and_from, and_parts}}
+use Rattle.{std.specs.Int.Signed.{le_z}, temporal_ops.specs.{Edges.{edge_holds, edges_hold}, Possible.{IsEvent}}}
 
 abbrev pub Holds : (ℕ → ℤ) → NetEdge → Type 0
 Holds v e = (v e.x -ℤ v e.y) ≤ℤ e.most

@@ -4,8 +4,7 @@ use Rattle.life_edges.proofs.Common.{None, if◌then◌else◌, refl, sym, ◌�
 use Rattle.life_edges.proofs.Common.{Plain, Negated, Existing, Folded, Program, pattern_of, Occurrence, bound, occurrence, MeetsTests, SolvesConditions}
 use Rattle.life_edges.proofs.Common.{NameEarlier, start_point_of, end_of, place_of, pattern_edges, stands_in_network, edges_of_conditions, list_any, aside}
 use Rattle.life_edges.proofs.{Common.{IsMember, condition_edges}, Places.{the_same, false_is, own_place, named_here}, Solutions.{Holds, Agree, times_at}}
-use Rattle.life_edges.proofs.Solutions.{all_first, all_second, pattern_from, pattern_to}
-use Rattle.std.proofs.lemmas.Bool.{eq-eqb, eqb-true, or_left, or_right}
+use Rattle.{life_edges.proofs.Solutions.{all_first, all_second, pattern_from, pattern_to}, std.proofs.lemmas.Bool.{eq-eqb, eqb-true, or_left, or_right}}
 use Rattle.fx_base.proofs.Orders.{zero_add}
 
 -- ---- members

@@ -3,9 +3,7 @@ use Rattle.life_laws.proofs.Common.{◌≡◌, ◌==◌, ℕ, suc, ◌+◌, ℤ,
 use Rattle.life_laws.proofs.Common.{arith, inl, inr, slice_get, take, ints, Fact, Times, Condition, Plain, Negated, Existing, Folded, Pattern, Program}
 use Rattle.life_laws.proofs.Common.{IsPossible, pattern_of, Tuple, bound_by, is_event, is_reference, is_observed, bindings, binds, Placed, SolvesWith}
 use Rattle.life_laws.proofs.{Common.{occurrence_of}, Flagged.{Steady}, Still.{Settled, Still, old, steady}, Shifts.{Aged, Calm, aged, fixed}}
-use Rattle.life_laws.proofs.Transfers.{AllAged}
-use Rattle.std.proofs.lemmas.Bool.{eq-eqb, ne_eqb}
-use Rattle.life_meaning.proofs.Limits.{Limits, times_of, HasBound, solves_of}
+use Rattle.{life_laws.proofs.Transfers.{AllAged}, std.proofs.lemmas.Bool.{eq-eqb, ne_eqb}, life_meaning.proofs.Limits.{Limits, times_of, HasBound, solves_of}}
 
 -- condition i has an event with the times z that is past its life of n at c
 pub record Anchor (p : Program) (c n : ℤ) (cs : List Condition) (i : Placed) (t : Tuple) (z : Times) : Type 0 where

@@ -1,7 +1,6 @@
 -- Tests, places in lists, and temporal tests that go on holding as a tuple grows.
 use Rattle.life_laws.proofs.Common.{◌≡◌, Bool, true, false, ◌&&◌, cond, List, [], ◌∷◌, ◌++◌, Option, Some, None, refl, ◌∙◌, ap, slice_get, filter, Fact, Times}
-use Rattle.life_laws.proofs.Common.{TimeTest, time_holds_with, time_holds, times_hold, Tuple, bound_by}
-use Rattle.std.proofs.lemmas.Bool.{and_from, and_parts}
+use Rattle.{life_laws.proofs.Common.{TimeTest, time_holds_with, time_holds, times_hold, Tuple, bound_by}, std.proofs.lemmas.Bool.{and_from, and_parts}}
 use Rattle.fx_base.proofs.Sequences.{get-append_left}
 
 -- ---- places

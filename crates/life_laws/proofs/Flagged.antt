@@ -3,9 +3,8 @@ use Rattle.life_laws.proofs.Common.{◌≡◌, ◌⊎◌, ◌&&◌, ◌||◌, �
 use Rattle.life_laws.proofs.Common.{inr, slice_get, In, Fact, Value, Condition, Pattern, WindowTag, Whole, Time, Length, Program, Rule, Step, Insert, Modify}
 use Rattle.life_laws.proofs.Common.{Retract, Advance, At, Promise, Begin, pattern_of, is_event, is_reference, is_observed, in_place, EventObserved}
 use Rattle.life_laws.proofs.Common.{ReferenceFixed, Absent, IsLawful, World, insert_fault, modify_fault, retract_fault, is_of_type, new_fact, IsFlagged}
-use Rattle.life_laws.proofs.Common.{is_whole, EventFixed, is_window, has_window, has_windows, IsRunnable, inserted}
-use Rattle.rule_world.{specs.Worlds.{moved, step_fault}, proofs.Acting.{all_of}}
-use Rattle.fx_base.proofs.Sequences.{In-append}
+use Rattle.{life_laws.proofs.Common.{is_whole, EventFixed, is_window, has_window, has_windows, IsRunnable, inserted}, rule_world.specs.Worlds.{moved}}
+use Rattle.{rule_world.{specs.Worlds.{step_fault}, proofs.Acting.{all_of}}, fx_base.proofs.Sequences.{In-append}}
 
 -- ---- programs
 

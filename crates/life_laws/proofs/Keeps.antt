@@ -3,13 +3,10 @@ use Rattle.life_laws.proofs.Common.{◌≡◌, ◌==◌, ◌&&◌, ◌⊎◌, no
 use Rattle.life_laws.proofs.Common.{inl, inr, slice_get, take, ints, In, Fact, Condition, Plain, Negated, Existing, Folded, Life, Explicit, Finite, Infinite}
 use Rattle.life_laws.proofs.Common.{LifeTable, Program, Step, Insert, Modify, Retract, Advance, At, Promise, Begin, is_present, Makes, pattern_of, Snapshot}
 use Rattle.life_laws.proofs.Common.{Tuple, empty_tuple, passed, World, snapshot, has_id, was_present, stays, finite, IsLife, Made, KeepsTuple, AreSafe, IsKept}
-use Rattle.life_laws.proofs.Common.{plain, unexpired, endless, living, TupleNamesKept, TupleMeetsKept}
-use Rattle.std.proofs.lemmas.Bool.{and_from, eq-eqb}
+use Rattle.{life_laws.proofs.Common.{plain, unexpired, endless, living, TupleNamesKept, TupleMeetsKept}, std.proofs.lemmas.Bool.{and_from, eq-eqb}}
 use Rattle.rule_model.specs.declared.life.Life.TheVariants as lives
-use Rattle.rule_world.specs.Worlds.{moved}
-use Rattle.life_meaning.proofs.Safe.{plain_unlisted}
-use Rattle.life_laws.proofs.{Shifts.{of_counted}, Moves.{clock_on}, Laws.{of_rule, of_prefix}}
-use Rattle.fx_base.proofs.Sequences.{In-append}
+use Rattle.{rule_world.specs.Worlds.{moved}, life_meaning.proofs.Safe.{plain_unlisted}, life_laws.proofs.{Shifts.{of_counted}, Moves.{clock_on}}}
+use Rattle.{life_laws.proofs.Laws.{of_rule, of_prefix}, fx_base.proofs.Sequences.{In-append}}
 
 -- ---- the facts of a tuple
 

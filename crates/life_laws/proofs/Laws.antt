@@ -5,10 +5,8 @@ use Rattle.life_laws.proofs.Common.{Negated, Existing, Folded, Pattern, WindowTa
 use Rattle.life_laws.proofs.Common.{pattern_of, Snapshot, Tuple, empty_tuple, bound_by, is_event, is_point, is_observed, in_place, snapshot, moved, bindings}
 use Rattle.life_laws.proofs.Common.{binds, finite, infinite, Placed, scope, IsLife, Made, IsFlagged, list_any, observes, observes_type, occurrence, OfRule}
 use Rattle.life_laws.proofs.{Common.{OfPrefix}, Shifts.{of_counted, Timed, timed_in}, Transfers.{Turns, turned, transfer}, Anchors.{Anchor, aged_at, all_aged}}
-use Rattle.life_laws.proofs.{Places.{Stands, stands_at, standing}, Flagged.{steady_of, quiet_of}, Moves.{turns_of}}
-use Rattle.std.proofs.lemmas.Bool.{and_from, eq-eqb}
-use Rattle.life_meaning.proofs.Limits.{Limits, limits_of, lives_below, times_or, times_of, HasBound}
-use Rattle.fx_base.proofs.Orders.{int_lt-true}
+use Rattle.{life_laws.proofs.{Places.{Stands, stands_at, standing}, Flagged.{steady_of, quiet_of}, Moves.{turns_of}}, std.proofs.lemmas.Bool.{and_from, eq-eqb}}
+use Rattle.{life_meaning.proofs.Limits.{Limits, limits_of, lives_below, times_or, times_of, HasBound}, fx_base.proofs.Orders.{int_lt-true}}
 
 -- ---- observed types
 

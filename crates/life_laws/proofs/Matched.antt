@@ -2,10 +2,8 @@
 use Rattle.life_laws.proofs.Common.{◌≡◌, ℕ, zero, suc, ◌+◌, ◌<◌, true, List, [], ◌∷◌, map, Some, refl, sym, ◌∙◌, ap, subst, arith, inl, inr, slice_get, In}
 use Rattle.life_laws.proofs.Common.{Fact, Match, Program, Rule, Step, matches, has_match, Snapshot, Tuple, in_place, IsLawful, World, snapshot, moved, Made}
 use Rattle.life_laws.proofs.Common.{match_of, rows_by_rule, rows, HaveOperators, name_of, row_of, in_map, of_map, in_left, in_right, row_listed, listed_row}
-use Rattle.life_laws.proofs.{Common.{has_in, rule_of, IsOrdered, UseOperators}, Keeps.{here}}
-use Rattle.fx_base.specs.declared.ids.Tag.{Tag}
-use Rattle.rule_model.{specs.Matches.{matches_from}, proofs.Once.{one_fact}}
-use Rattle.rule_world.{specs.Worlds.{stepped}, proofs.{Fresh.{below_of}, Vain.{next_tag}}}
+use Rattle.{life_laws.proofs.{Common.{has_in, rule_of, IsOrdered, UseOperators}, Keeps.{here}}, fx_base.specs.declared.ids.Tag.{Tag}}
+use Rattle.{rule_model.{specs.Matches.{matches_from}, proofs.Once.{one_fact}}, rule_world.{specs.Worlds.{stepped}, proofs.{Fresh.{below_of}, Vain.{next_tag}}}}
 
 pub operators_of : (rules : List Rule) (rule : Rule) → UseOperators rules → In rule rules → HaveOperators rule.conditions
 operators_of [] rule ops i = absurd i

@@ -5,10 +5,9 @@ use Rattle.life_laws.proofs.Common.{Retract, Advance, At, Promise, Begin, is_pre
 use Rattle.life_laws.proofs.Common.{EventObserved, ReferenceFixed, Absent, IsLawful, World, snapshot, insert_fault, modify_fault, retract_fault, is_of_type}
 use Rattle.life_laws.proofs.Common.{new_fact, has_id, stays, KeepsTuple, found, revised, revised_in, event_by, point_by, IsStarted, started, modified_plain}
 use Rattle.life_laws.proofs.{Common.{moved_forward, fact_with, found_there}, Flagged.{modified_open, retracted_open, Quiet}, Shifts.{Loose, a_fact, gone}}
-use Rattle.life_laws.proofs.{Shifts.{fresh, Timed, Shift, at_end, same, less, more}, Transfers.{Turns}}
-use Rattle.std.{specs.Int.Signed.{≤ℤ_refl}, proofs.lemmas.Bool.{and_parts, eqb-true, not-false}}
-use Rattle.rule_model.specs.Snapshots.{floor}
-use Rattle.rule_world.{specs.Worlds.{moved, step_fault}, proofs.Faultless.{inserted as no_fault}}
+use Rattle.{life_laws.proofs.{Shifts.{fresh, Timed, Shift, at_end, same, less, more}, Transfers.{Turns}}, std.specs.Int.Signed.{≤ℤ_refl}}
+use Rattle.{std.proofs.lemmas.Bool.{and_parts, eqb-true, not-false}, rule_model.specs.Snapshots.{floor}, rule_world.specs.Worlds.{moved, step_fault}}
+use Rattle.rule_world.proofs.Faultless.{inserted as no_fault}
 
 abbrev AllTimed : Program → List Fact → Type 0
 AllTimed p xs = (f : Fact) → In f xs → Timed p f

@@ -2,8 +2,7 @@
 use Rattle.life_laws.proofs.Common.{◌≡◌, ◌⊎◌, ℕ, zero, suc, ◌+◌, true, List, [], ◌∷◌, ◌++◌, length, Option, Some, refl, sym, ◌∙◌, ap, subst, arith, inl, inr}
 use Rattle.life_laws.proofs.Common.{slice_get, take, In, Fact, Condition, Plain, Negated, Existing, Folded, Pattern, Program, is_inside, Makes, Snapshot}
 use Rattle.life_laws.proofs.{Common.{times_hold, Tuple, empty_tuple, bound_by, bindings, Made, append_assoc}, Basics.{Front, times_grow}, Shifts.{of_counted}}
-use Rattle.life_laws.proofs.Transfers.{front_of, longer, next_place}
-use Rattle.fx_base.proofs.Sequences.{In-append}
+use Rattle.{life_laws.proofs.Transfers.{front_of, longer, next_place}, fx_base.proofs.Sequences.{In-append}}
 
 -- what a tuple says of the fact that a pattern bound
 pub record Stands (p : Program) (s : Snapshot) (tuple : Tuple) (q : Pattern) (x : Fact) : Type 0 where

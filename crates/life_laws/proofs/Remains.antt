@@ -2,10 +2,8 @@
 use Rattle.life_laws.proofs.Common.{◌≡◌, not, ◌+ℤ◌, ◌≤ℤ◌, Bool, true, false, refl, sym, ◌∙◌, ap, Match, Program, Step, Insert, Modify, Retract, Advance, At}
 use Rattle.life_laws.proofs.Common.{Promise, Begin, matches, has_match, World, snapshot, was_present, IsKept, plain, unexpired, endless, living, pending}
 use Rattle.life_laws.proofs.{Common.{settled, still_fired, named, MatchNamesKept, KeptBefore}, Keeps.{tuple_names_kept}, Matched.{names_of, is_match, own_fact}}
-use Rattle.life_laws.proofs.Moves.{clock_on}
-use Rattle.std.proofs.lemmas.Bool.{and_from, and_parts, false_from_ne_true, not-true}
-use Rattle.rule_world.{specs.Worlds.{moved, stepped}, proofs.Pending.{has_pending, has_still}}
-use Rattle.fx_base.proofs.Orders.{≤ℤ_trans}
+use Rattle.{life_laws.proofs.Moves.{clock_on}, std.proofs.lemmas.Bool.{and_from, and_parts, false_from_ne_true, not-true}, rule_world.specs.Worlds.{moved}}
+use Rattle.{rule_world.{specs.Worlds.{stepped}, proofs.Pending.{has_pending, has_still}}, fx_base.proofs.Orders.{≤ℤ_trans}}
 
 pub match_names_kept : MatchNamesKept
 match_names_kept p table w step flagged ops are law none m is was_not f own inside =

@@ -2,10 +2,8 @@
 use Rattle.life_laws.proofs.Common.{◌≡◌, ◌⊎◌, ℕ, ℤ, ◌+ℤ◌, ◌≤ℤ◌, true, false, cond, List, [], ◌∷◌, refl, sym, ◌∙◌, subst, ap, arith, inl, inr, filter, ints, In}
 use Rattle.life_laws.proofs.Common.{Fact, Times, IsEvent, Pattern, Program, is_candidate, passes, passing, IsPossible, Snapshot, Tuple, bound_by, is_event}
 use Rattle.life_laws.proofs.{Common.{is_point, is_reference, is_observed, lateness_of, passed, candidates, in_filter}, Basics.{two_filters}, Flagged.{Steady}}
-use Rattle.life_laws.proofs.Still.{Settled, Still, old, steady, counts, Counts, counts_parts, counts_join, stays, tail_of}
-use Rattle.std.proofs.lemmas.Bool.{and_from, false_from_ne_true}
-use Rattle.rule_model.proofs.Named.{of_filter}
-use Rattle.fx_base.proofs.Tests.{same_test}
+use Rattle.{life_laws.proofs.Still.{Settled, Still, old, steady, counts, Counts, counts_parts, counts_join, stays, tail_of}, std.proofs.lemmas.Bool.{and_from}}
+use Rattle.{std.proofs.lemmas.Bool.{false_from_ne_true}, rule_model.proofs.Named.{of_filter}, fx_base.proofs.Tests.{same_test}}
 
 -- ---- members
 

@@ -2,11 +2,9 @@
 use Rattle.life_laws.proofs.Common.{◌≡◌, ◌==◌, ℕ, ℤ, ◌+ℤ◌, ◌-ℤ◌, ◌≤ℤ◌, ◌<ℤ◌, Bool, true, false, not, ◌&&◌, ◌||◌, List, Option, Some, None, if◌then◌else◌, refl}
 use Rattle.life_laws.proofs.Common.{subst, ap, ◌∙◌, arith, ints, clamps, Fact, Times, Pattern, WindowTag, Whole, Time, Length, Program, is_inside, is_candidate}
 use Rattle.life_laws.proofs.Common.{passes, Snapshot, times_hold, Tuple, bound_by, is_event, lateness_of, finite, infinite, is_within, fits, tests_hold}
-use Rattle.life_laws.proofs.{Common.{unbound, expiry_of, plain_present, tail_by}, Flagged.{Steady}}
-use Rattle.std.{proofs.{lemmas.Bool.{and_from, and_parts, eq-eqb, eqb-true}, Math.Bool.{or-true}}, specs.Int.{int_max}}
-use Rattle.rule_model.specs.Candidates.{is_present}
-use Rattle.life_meaning.specs.Lifetimes.{tail}
-use Rattle.fx_base.proofs.Orders.{int_lt-true}
+use Rattle.{life_laws.proofs.{Common.{unbound, expiry_of, plain_present, tail_by}, Flagged.{Steady}}, std.proofs.lemmas.Bool.{and_from, and_parts, eq-eqb}}
+use Rattle.{std.{proofs.{lemmas.Bool.{eqb-true}, Math.Bool.{or-true}}, specs.Int.{int_max}}, rule_model.specs.Candidates.{is_present}}
+use Rattle.{life_meaning.specs.Lifetimes.{tail}, fx_base.proofs.Orders.{int_lt-true}}
 
 -- ---- tails
 

@@ -3,8 +3,7 @@ use Rattle.life_laws.proofs.Common.{◌≡◌, ℕ, suc, ℤ, ◌-ℤ◌, ◌≤
 use Rattle.life_laws.proofs.Common.{Condition, Plain, Negated, Existing, Folded, Pattern, Program, Times, passing, IsPossible, Makes, Snapshot, Tuple, bound_by}
 use Rattle.life_laws.proofs.Common.{lateness_of, in_place, length-append, IsMature, of_plain, of_none, of_unbounded, of_past, result_of, floor}
 use Rattle.life_laws.proofs.{Basics.{Front, times_grow}, Still.{Still, tail_of}, Shifts.{Calm, aged, fixed, Shift, back, passing_same, own_stays}}
-use Rattle.rule_model.proofs.{Grown.{makes_grow, begins}, Floors.{clock_below_floor}}
-use Rattle.fx_base.proofs.Sequences.{get-append_left, get-last}
+use Rattle.{rule_model.proofs.{Grown.{makes_grow, begins}, Floors.{clock_below_floor}}, fx_base.proofs.Sequences.{get-append_left, get-last}}
 
 pub front_of : (p : Program) (s : Snapshot) (cs : List Condition) (t made : Tuple) → Makes p s cs t made → Front t made
 front_of p s cs t made h = begins p s cs t made (makes_grow p s cs t made h)

@@ -4,8 +4,7 @@ use Rattle.life_meaning.proofs.Common.{inr, slice_get, take, ints, by_lt_z, In, 
 use Rattle.life_meaning.proofs.Common.{Whole, Program, Rule, TimeTest, IsPossible, pattern_of, time_holds_with, time_holds, times_hold, Tuple, bound_by}
 use Rattle.life_meaning.proofs.Common.{is_event, is_reference, bindings, binds, finite, infinite, Placed, SolvesWith, scope, IsLife, list_all, Occurrence}
 use Rattle.life_meaning.proofs.Common.{bound, aside, is_test_met, MeetsTests, SolvesConditions, Limit, Below, distance, tail, Adds, of_fact, of_event, LivesFor}
-use Rattle.std.proofs.lemmas.Bool.{and_from, and_parts}
-use Rattle.temporal_ops.specs.Edges.{edges_hold}
+use Rattle.{std.proofs.lemmas.Bool.{and_from, and_parts}, temporal_ops.specs.Edges.{edges_hold}}
 
 -- ---- lives
 

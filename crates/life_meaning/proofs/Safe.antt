@@ -1,10 +1,8 @@
 -- Tables that are safe to forget by.
 use Rattle.life_meaning.proofs.Common.{◌≡◌, ℕ, zero, suc, ℤ, ◌≤ℤ◌, Bool, true, false, List, [], ◌∷◌, map, length, Option, Some, None, refl, ap, subst}
 use Rattle.life_meaning.proofs.Common.{slice_get, Life, Explicit, Finite, Infinite, LifeTable, Program, AreSafe, is_event_type, expiry_in, IsLifeOf, IsSafeLife}
-use Rattle.life_meaning.proofs.Common.{LivesAreSafe, EndlessAreSafe}
-use Rattle.std.specs.Int.Signed.{≤ℤ_refl}
-use Rattle.rule_model.specs.{declared.{life.Life.TheVariants.{Plain}, program.TypeInfo.{TypeInfo}}, Lives.{IsShortLife, life_by, endless_life}}
-use Rattle.rule_model.specs.Types.{is_event, expiry_of}
+use Rattle.{life_meaning.proofs.Common.{LivesAreSafe, EndlessAreSafe}, std.specs.Int.Signed.{≤ℤ_refl}, rule_model.specs.declared.life.Life.TheVariants.{Plain}}
+use Rattle.rule_model.specs.{declared.program.TypeInfo.{TypeInfo}, Lives.{IsShortLife, life_by, endless_life}, Types.{is_event, expiry_of}}
 
 -- the life of a type is safe
 pub safe_life : (p : Program) (ty : ℕ) (life : Life) → IsLifeOf p ty life → IsSafeLife p ty life

@@ -3,8 +3,7 @@ use Rattle.life_proof.proofs.Common.{◌≡◌, ◌⊎◌, inl, inr, ◌++◌, �
 use Rattle.life_proof.proofs.Common.{if◌then◌else◌, refl, sym, ap, subst, ◌∙◌, arith, slice_get, In, Condition, WindowTag, Whole, Time, Length, Life, LifeTable}
 use Rattle.life_proof.proofs.Common.{Program, pattern_of, in_place, IsRunnable, scope, HaveNetwork, placed, rules_have_networks, scope_network, Asked}
 use Rattle.life_proof.proofs.Common.{HasPlaces, IsReachAsked, each_from, asked_at, asked_to, asked_from, asked_in, asked, scope_of, All, is_reference}
-use Rattle.life_proof.proofs.Common.{life_under, asked_within, scope_in, scope_with}
-use Rattle.std.proofs.lemmas.Option.{slice_get_within}
+use Rattle.{life_proof.proofs.Common.{life_under, asked_within, scope_in, scope_with}, std.proofs.lemmas.Option.{slice_get_within}}
 use Rattle.fx_base.proofs.{Orders.{zero_add}, Sequences.{All-from_In}}
 use Rattle.rule_model.specs.declared.life.Life.TheVariants as life
 

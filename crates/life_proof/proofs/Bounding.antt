@@ -6,12 +6,9 @@ use Rattle.life_proof.proofs.Common.{Adds, of_fact, of_event, LivesFor, IsLife, 
 use Rattle.life_proof.proofs.Common.{scope_at, Asked, Part, Proof, IsReachAsked, asked, asked_at, edges_for, tail_at, is_event_at, IsBounding, IsRound, IsShown}
 use Rattle.life_proof.proofs.Common.{IsGoodPart, AreGoodParts, IsGood, IsLawfulLife, Spans, IsSafeLife, PatternLife, SolvesWith, distance, IsGreatestReach}
 use Rattle.life_proof.{proofs.{Common.{of_times, same_distance}, Asked.{is_asked, scope_is}}, specs.Laws.{BoundsHold, LivesSuffice, GoodIsSafe}}
-use Rattle.life_proof.proofs.{Certified.{first_of, second_of, among, network_of, stands_at}, Tests.{false_is}}
-use Rattle.fx_base.specs.declared.times.Times.{Times}
-use Rattle.temporal_net.proofs.Sums.{adds_up}
-use Rattle.rule_model.specs.declared.condition.Pattern.{Pattern}
-use Rattle.life_meaning.specs.{Lifetimes.{tail}, Networks.{Occurrence}}
-use Rattle.life_edges.proofs.Solved.{points_of, points_agree}
+use Rattle.{life_proof.proofs.{Certified.{first_of, second_of, among, network_of, stands_at}, Tests.{false_is}}, fx_base.specs.declared.times.Times.{Times}}
+use Rattle.{temporal_net.proofs.Sums.{adds_up}, rule_model.specs.declared.condition.Pattern.{Pattern}, life_meaning.specs.Lifetimes.{tail}}
+use Rattle.{life_meaning.specs.Networks.{Occurrence}, life_edges.proofs.Solved.{points_of, points_agree}}
 
 -- ---- what a part shows
 

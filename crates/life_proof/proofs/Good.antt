@@ -4,8 +4,8 @@ use Rattle.life_proof.proofs.Common.{slice_get, Decides, AllByRecursion, Contain
 use Rattle.life_proof.proofs.Common.{Program, Limit, finite, infinite, Below, plus, start_point_of, end_of, Asked, Part, Proof, asked, edges_for, scope_of}
 use Rattle.life_proof.proofs.Common.{tail_at, is_event_at, IsBounding, IsRound, IsShown, IsGoodPart, AreGoodParts, IsGood, leads, are_good_parts}
 use Rattle.life_proof.{proofs.Common.{is_lawful_table, int_lt, LeadsWay, same_edge, has_edge, returns, is_within_limit}, specs.Good.{is_bounding, is_round}}
-use Rattle.life_proof.{specs.Good.{is_shown, is_good_part}, proofs.{Lawful.{lawful_from, lawful_to}, Tests.{false_is}}}
-use Rattle.std.{specs.Ordering.{int_eq}, proofs.lemmas.{Bool.{eqb-true, eq-eqb, and_from, and_parts}, List.Folds.{list_any_at}, Map.Views.{Contains-from_any}}}
+use Rattle.{life_proof.{specs.Good.{is_shown, is_good_part}, proofs.{Lawful.{lawful_from, lawful_to}, Tests.{false_is}}}, std.specs.Ordering.{int_eq}}
+use Rattle.std.proofs.lemmas.{Bool.{eqb-true, eq-eqb, and_from, and_parts}, List.Folds.{list_any_at}, Map.Views.{Contains-from_any}}
 use Rattle.fx_base.proofs.Orders.{int_lt-true, lt-int_lt}
 
 -- ---- edges

@@ -3,10 +3,8 @@ use Rattle.life_proof.proofs.Common.{◌≡◌, ◌&&◌, ℕ, zero, suc, ℤ, p
 use Rattle.life_proof.proofs.Common.{◌∙◌, arith, slice_get, list_all, int_le, Decides-int_eq, WindowTag, Whole, Time, Length, Life, Plain, Explicit, Finite}
 use Rattle.life_proof.proofs.Common.{Infinite, LifeTable, Program, TypeInfo, pattern_of, IsLawfulLife, Spans, IsLawfulTable, is_life_of, are_lives_of}
 use Rattle.life_proof.proofs.Common.{is_lawful_table, is_event_type, expiry_in, is_expiry, is_unexpired, spans, spans_by, is_spanned, are_spanned}
-use Rattle.life_proof.proofs.Tests.{false_is}
-use Rattle.std.proofs.lemmas.Bool.{and_from, and_parts, not-true, not_from_false}
-use Rattle.rule_model.specs.Types.{is_event, expiry_of}
-use Rattle.fx_base.proofs.{Orders.{int_le-true, le-int_le}, Sequences.{list_all-In, list_all-from}}
+use Rattle.{life_proof.proofs.Tests.{false_is}, std.proofs.lemmas.Bool.{and_from, and_parts, not-true, not_from_false}, rule_model.specs.Types.{is_event}}
+use Rattle.{rule_model.specs.Types.{expiry_of}, fx_base.proofs.{Orders.{int_le-true, le-int_le}, Sequences.{list_all-In, list_all-from}}}
 
 -- ---- lists
 

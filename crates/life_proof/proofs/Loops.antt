@@ -1,7 +1,6 @@
 -- The turns of loops over two lists side by side.
 use Rattle.life_proof.proofs.Common.{◌≡◌, suc, false, List, [], ◌∷◌, length, refl, ap, Life, Program, TypeInfo, Asked, Part, are_good_parts, is_life_of}
-use Rattle.life_proof.proofs.Common.{are_lives_of, is_good_part}
-use Rattle.std.proofs.lemmas.Bool.{and_right}
+use Rattle.{life_proof.proofs.Common.{are_lives_of, is_good_part}, std.proofs.lemmas.Bool.{and_right}}
 
 -- lists of different length do not agree
 pub unlike_lives : (types : List TypeInfo) (lives : List Life) → (length types ≡ length lives → ⊥) → are_lives_of types lives ≡ false

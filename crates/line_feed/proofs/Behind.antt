@@ -1,7 +1,7 @@
 -- What goes on behind a line is ready for the others.
 use Rattle.line_feed.{proofs.Common.{◌≡◌, ◌<◌, ◌+◌, ◌^◌, ℕ, Bool, Option, Some, None, sym, ap, subst, arith, IfSome}, specs.Fed.{IsBehind, IsReady}}
-use Rattle.line_feed.specs.declared.fed.Fed.{Fed}
-use Rattle.line_run.specs.{Run.{progress_after}, Turns.{StaysReady}, declared.turn.{Progress.{Progress}, Turn.{Turn, TheVariants.{Goes, Saves, Stops}}}}
+use Rattle.{line_feed.specs.declared.fed.Fed.{Fed}, line_run.specs.{Run.{progress_after}, Turns.{StaysReady}, declared.turn.{Progress.{Progress}, Turn.{Turn}}}}
+use Rattle.line_run.specs.declared.turn.Turn.TheVariants.{Goes, Saves, Stops}
 
 module _ {T : Type 0} (ready : T → Progress → ℕ → Type 0) where
   -- a line was taken

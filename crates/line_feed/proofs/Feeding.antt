@@ -2,14 +2,12 @@
 use Rattle.line_feed.proofs.Common.{◌≡◌, ◌++◌, ◌+◌, ℕ, Bool, List, [], ◌∷◌, take, drop, Option, Some, None, refl, sym, ap, subst, ◌∙◌, append_assoc, append-nil}
 use Rattle.line_feed.{proofs.Common.{arith, take-append-drop}, specs.Fed.{front_most, HasFed, IsAt, IsBehind, Feeds, front_kept, last_piece}}
 use Rattle.line_feed.{specs.declared.fed.Fed.{Fed}, proofs.Pieces.{first_whole, none_whole, last_has_none, last_of_none, last_behind_end, lines_of_both}}
-use Rattle.line_feed.proofs.Pieces.{last_of_both}
-use Rattle.std.proofs.{lemmas.Option.{same_Some}, Math.Seq.{take-add, take-nil}}
-use Rattle.fx_io.{specs.{Answers.{Answers, IsAnswer}, Lines.{HasNoEnd, IsFirstEnd, with_line}, declared.line.Line.{Line}}, proofs.Ends.{HasNoEnd-append}}
-use Rattle.fx_io.specs.declared.line.Line.TheVariants.{Whole, Long, End}
-use Rattle.rule_world.specs.Worlds.{World}
-use Rattle.line_run.specs.{Prompt.{whole_lines}, Run.{Done, LineEffect, Outcome, RunState, Steps, goes_on, saves, stops, then_run, at_limit, run, state_after}}
-use Rattle.line_run.specs.{Run.{state_in, progress_after, at_end}, Turns.{Does, Turns}, declared.turn.Turn.{Turn, TheVariants.{Goes, Saves, Stops}}}
-use Rattle.line_run.{specs.declared.turn.Progress.{Progress}, proofs.Ahead.{first_is, run_ended, run_goes, run_saves, run_stops, then_run-then_run}}
+use Rattle.{line_feed.proofs.Pieces.{last_of_both}, std.proofs.{lemmas.Option.{same_Some}, Math.Seq.{take-add, take-nil}}, fx_io.specs.Answers.{Answers}}
+use Rattle.fx_io.{specs.{Answers.{IsAnswer}, Lines.{HasNoEnd, IsFirstEnd, with_line}, declared.line.Line.{Line}}, proofs.Ends.{HasNoEnd-append}}
+use Rattle.{fx_io.specs.declared.line.Line.TheVariants.{Whole, Long, End}, rule_world.specs.Worlds.{World}, line_run.specs.{Prompt.{whole_lines}, Run.{Done}}}
+use Rattle.line_run.specs.Run.{LineEffect, Outcome, RunState, Steps, goes_on, saves, stops, then_run, at_limit, run, state_after, state_in, progress_after}
+use Rattle.line_run.specs.{Run.{at_end}, Turns.{Does, Turns}, declared.turn.{Turn.{Turn, TheVariants.{Goes, Saves, Stops}}, Progress.{Progress}}}
+use Rattle.line_run.proofs.Ahead.{first_is, run_ended, run_goes, run_saves, run_stops, then_run-then_run}
 
 abbrev comes_of : Outcome → Option RunState
 comes_of o = o.comes_to

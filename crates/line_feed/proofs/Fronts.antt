@@ -1,7 +1,6 @@
 -- What is kept of the front of a line.
 use Rattle.line_feed.proofs.Common.{◌≡◌, ◌<◌, ◌≤◌, ◌-◌, ◌++◌, ℕ, zero, suc, List, [], ◌∷◌, length, take, refl, ap, subst, ◌∙◌, arith, min, take_min, take_all}
-use Rattle.line_feed.specs.Fed.{front_most, front_kept}
-use Rattle.std.proofs.Math.Nat.{min_comm}
+use Rattle.{line_feed.specs.Fed.{front_most, front_kept}, std.proofs.Math.Nat.{min_comm}}
 
 -- the first of two lists, and what of the second there is room for
 pub take_both : (most : ℕ) (line bytes : List ℕ) → take most line ++ take (most - length (take most line)) bytes ≡ take most (line ++ bytes)

@@ -1,9 +1,7 @@
 -- The lines of bytes that came in pieces, and what stands behind the last line end.
 use Rattle.line_feed.proofs.Common.{◌≡◌, ◌++◌, ◌==◌, ◌||◌, ℕ, Bool, true, false, List, [], ◌∷◌, refl, sym, ap, ◌∙◌, list_any-append, if◌then◌else◌}
-use Rattle.line_feed.specs.Fed.{last_piece}
-use Rattle.std.proofs.lemmas.Bool.{or_parts}
-use Rattle.fx_io.specs.Lines.{has_end, HasNoEnd}
-use Rattle.line_run.specs.Prompt.{onto_whole, whole_lines}
+use Rattle.{line_feed.specs.Fed.{last_piece}, std.proofs.lemmas.Bool.{or_parts}, fx_io.specs.Lines.{has_end, HasNoEnd}, line_run.specs.Prompt.{onto_whole}}
+use Rattle.line_run.specs.Prompt.{whole_lines}
 
 -- a line that has its end
 pub first_whole : (line rest : List ℕ) → HasNoEnd line → whole_lines (line ++ 10 ∷ rest) ≡ line ∷ whole_lines rest

@@ -6,9 +6,8 @@ use Rattle.line_run.proofs.Common.{TakesLine, ReadsBytes, Line, Whole, End, Worl
 use Rattle.line_run.proofs.Common.{goes_on, stops, then_run, at_limit, at_end, state_in, state_after, progress_after, Does, Flushes, Saves, saves, ArePut}
 use Rattle.line_run.{proofs.Common.{Files, Puts}, specs.{declared.turn.Ended.TheVariants.{Script, Limit}, Prompt.{said, heard}, Run.{run, saved_states}}}
 use Rattle.line_run.specs.{declared.fault.ImageFault.{ImageFault}, Unfinished.{LongOver, KeptFront, StoppedKept, RefusedAt, ended_lines, StoppedAtRead}}
-use Rattle.std.proofs.{Common.{zero, suc}, lemmas.{List.{drop_all, take_all}, Option.{same_Some}}}
-use Rattle.fx_io.{specs.{Lines.{lines_of}, Answers.{TakesFromBytes}, declared.line.Line.TheVariants.{Long as LongLine}}, proofs.Told.{append-append}}
-use Rattle.fx_io.proofs.{Told.{prepend-prepend, prepend-nil}, Ahead.{answers_ahead}}
+use Rattle.{std.proofs.{Common.{zero, suc}, lemmas.{List.{drop_all, take_all}, Option.{same_Some}}}, fx_io.specs.{Lines.{lines_of}, Answers.{TakesFromBytes}}}
+use Rattle.fx_io.{specs.declared.line.Line.TheVariants.{Long as LongLine}, proofs.{Told.{append-append, prepend-prepend, prepend-nil}, Ahead.{answers_ahead}}}
 
 -- what the lines ahead come to: their outcome, and the states whose images are put
 pub record Rest : Type 0 where

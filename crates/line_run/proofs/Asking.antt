@@ -3,8 +3,7 @@ use Rattle.line_run.proofs.Common.{◌≡◌, inl, inr, ◌++◌, ◌==◌, ℕ,
 use Rattle.line_run.proofs.Common.{if◌then◌else◌, append_assoc, take-append-drop, list_any-append, append, HasNoEnd, has_end, AppendsFront, with_line, Line}
 use Rattle.line_run.proofs.Common.{Whole, Long, End, World, Progress, Steps, RunState, Outcome, Answers, run, state_in, saved_states, Flushes, ArePut, Files}
 use Rattle.line_run.{proofs.{Common.{Puts}, Ahead.{TurnsOn, append_nothing, first_is, run_ended, none_saved, put_both}}, specs.Parts.{EndsLine}}
-use Rattle.line_run.specs.Prompt.{onto_whole, said, whole_lines, IsPromptRun}
-use Rattle.std.proofs.{lemmas.Bool.{or_parts}, Math.Seq.{take-nil, drop-nil}}
+use Rattle.{line_run.specs.Prompt.{onto_whole, said, whole_lines, IsPromptRun}, std.proofs.{lemmas.Bool.{or_parts}, Math.Seq.{take-nil, drop-nil}}}
 use Rattle.fx_io.{specs.{Asking.{Follows, MayAskMidLine, EndsOrMay}, Lines.{lines_of, onto_first}}, proofs.Told.{append-append}}
 
 -- ---- the lines that end in bytes

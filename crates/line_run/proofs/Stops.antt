@@ -2,9 +2,8 @@
 use Rattle.line_run.proofs.Common.{◌≡◌, ◌≢◌, ◌==◌, ◌++◌, false, ◌<◌, ◌≤◌, ◌+◌, ◌-◌, ℕ, List, [], Option, Result, Ok, Err, refl, sym, ap, ◌∙◌, arith, IsErr}
 use Rattle.line_run.proofs.Common.{IsErrAnd, list_any-append, prepend, count_after, IsExhausted, has_end, HasNoEnd, Answers, LeavesNoEnd, GivesLine, Line}
 use Rattle.line_run.{proofs.Common.{Whole, Long, End, TakesUpTo, HasAtMost, to_come}, specs.Faults.{run_fault, unkept_fault}}
-use Rattle.line_run.specs.declared.fault.{ImageFault.{ImageFault}, KeepFault.{KeepFault}}
-use Rattle.std.proofs.lemmas.Bool.{or_parts}
-use Rattle.fx_io.specs.{Answers.{Stops, UsesBytesUp}, declared.line.LineFault.{LineFault, TheVariants.{ReadFault, ScriptLong, NoMemory}}}
+use Rattle.{line_run.specs.declared.fault.{ImageFault.{ImageFault}, KeepFault.{KeepFault}}, std.proofs.lemmas.Bool.{or_parts}, fx_io.specs.Answers.{Stops}}
+use Rattle.fx_io.specs.{Answers.{UsesBytesUp}, declared.line.LineFault.{LineFault, TheVariants.{ReadFault, ScriptLong, NoMemory}}}
 use Rattle.line_run.specs.declared.fault.KeepFault.TheVariants as keep
 use Rattle.line_run.specs.declared.fault.StopFault.{StopFault, TheVariants.{ScriptLong as TooLong, ReadFault as StopReadFault, NoMemory as StopNoMemory}}
 use Rattle.line_run.specs.declared.fault.StopFault.TheVariants.{WriteFault, Refused}

@@ -1,12 +1,8 @@
 -- The rule file of a load is accepted: its reading is computed.
-use Rattle.std.proofs.Common.{◌≡◌, Option, Some, None, Result, Ok, Err, refl}
-use Rattle.gen_load.specs.Rules.{rules_text}
-use Rattle.drl_grammar.specs.declared.{file.File.{File}, written.Written.{Written}}
-use Rattle.subrules.specs.{declared.fault.Obstacle.{Obstacle}, Expanded.{expanded}, Faults.{obstacle}}
-use Rattle.drl_parse.specs.Parsed.{Parsed, is_file, outside, too_long, lexical, parsed}
-use Rattle.drl_check.specs.{Checks.{Failure}, Outcomes.{checked}}
-use Rattle.rule_model.specs.declared.program.Program.{Program}
-use Rattle.load_laws.proofs.Computing.{reading}
+use Rattle.{std.proofs.Common.{◌≡◌, Option, Some, None, Result, Ok, Err, refl}, gen_load.specs.Rules.{rules_text}, drl_grammar.specs.declared.file.File.{File}}
+use Rattle.{drl_grammar.specs.declared.written.Written.{Written}, subrules.specs.{declared.fault.Obstacle.{Obstacle}, Expanded.{expanded}, Faults.{obstacle}}}
+use Rattle.{drl_parse.specs.Parsed.{Parsed, is_file, outside, too_long, lexical, parsed}, drl_check.specs.{Checks.{Failure}, Outcomes.{checked}}}
+use Rattle.{rule_model.specs.declared.program.Program.{Program}, load_laws.proofs.Computing.{reading}}
 
 abbrev Passes : Result Program Failure → Type 0
 Passes (Ok program) = Unit {0}

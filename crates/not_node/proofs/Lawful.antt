@@ -2,12 +2,11 @@
 use Rattle.not_node.proofs.Common.{◌≡◌, ◌∙◌, sym, ap, refl, int_lt, cond, Bool, true, false, not, ◌&&◌, List, Option, Some, None, ℤ, fun_ext, Row, has}
 use Rattle.not_node.proofs.Common.{IsDifference, Pattern, Look, left_at, moment_at, unblocked, not_rows, is_that_moment, mature, later, AwaitsMoments, cleaned}
 use Rattle.not_node.proofs.{Common.{not_line, NotLaw, NotStepLaw, NotDropLaw, NotMoveLaw, and_parts, and-true, and_where, not_not}, Maturing.{row_mature}}
-use Rattle.not_node.{proofs.Maturing.{moment_alike}, specs.Doors.{blocking_pattern}}
-use mathlib.Core.Path.{subst}
-use Rattle.std.specs.{Option.{is_some}, List.{list_any}}
+use Rattle.{not_node.{proofs.Maturing.{moment_alike}, specs.Doors.{blocking_pattern}}, std.specs.{Option.{is_some}, List.{list_any}}}
 use Rattle.join_memory.{specs.{declared.memories.Memories.{Memories}, Joined.{has_name}}, proofs.Moving.{move_law as memories_move}}
 use Rattle.counting_node.specs.{declared.count.Blockers.{Blockers}, Counts.{counts_blockers, where_unblocked}, Origins.{shows_any}, Tallies.{offers}}
 use Rattle.counting_node.{specs.Tallies.{output_some}, proofs.Lawful.{blockers_shown, tally_law}}
+use mathlib.Core.Path.{subst}
 
 pub not_law : NotLaw
 not_law p node look world pass rows names forgotten was row =

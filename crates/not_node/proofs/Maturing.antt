@@ -2,12 +2,10 @@
 use Rattle.not_node.proofs.Common.{◌≡◌, ◌∙◌, ◌||◌, not, cond, ℕ, ℤ, zero, suc, Bool, true, false, List, [], ◌∷◌, Option, Some, None, slice_get, refl, sym, ap}
 use Rattle.not_node.proofs.Common.{fun_ext, Row, Pattern, Program, bound_in, named_at, bounds_of, AreOperators, window_by_lists, start_window_at, is_past}
 use Rattle.not_node.proofs.Common.{is_event, is_point, Look, mature, Bounds, bounds_join, AlikeOn, MaturityLaw, latest_of, latest_start}
-use Rattle.not_node.specs.Moments.{moment_at}
-use Rattle.rule_model.{specs.{Maturity.{is_mature}, Tuples.{Bindings, row_of}}, proofs.Naming.{bound_named}}
-use Rattle.fx_base.specs.declared.fact.Fact.{Fact}
-use Rattle.temporal_ops.specs.{declared.window.Window.{Window, TheVariants.{Never, UpTo, Unbounded}}, Possible.{ArePossibleTimes, IsStartWindow}}
-use Rattle.temporal_ops.{specs.Starts.{starts_window}, proofs.{WindowOfEdges.{window_is_of_edges}, Windows.{one_window}}}
-use Rattle.row_delta.specs.declared.row.Named.{Named}
+use Rattle.{not_node.specs.Moments.{moment_at}, rule_model.{specs.{Maturity.{is_mature}, Tuples.{Bindings, row_of}}, proofs.Naming.{bound_named}}}
+use Rattle.{fx_base.specs.declared.fact.Fact.{Fact}, temporal_ops.specs.declared.window.Window.{Window, TheVariants.{Never, UpTo, Unbounded}}}
+use Rattle.temporal_ops.{specs.{Possible.{ArePossibleTimes, IsStartWindow}, Starts.{starts_window}}, proofs.WindowOfEdges.{window_is_of_edges}}
+use Rattle.{temporal_ops.proofs.Windows.{one_window}, row_delta.specs.declared.row.Named.{Named}}
 
 -- ---- the moment
 module _ (p : Program) (q : Pattern) (look : Look) (row : Row) where

@@ -9,9 +9,7 @@ use Rattle.std.specs.{Cmp.{nat_cmp_total, unsigned_tied}, List.Sorted.{IsStrictl
 use Rattle.std.specs.FinMap.{get-from_entries, get-from_sorted, get-insert, get-remove, entries-from_sorted, same_map, nat_cmp-IsAntisymmetric}
 use Rattle.std.specs.FinMap.Entries.{below_all}
 use Rattle.std.specs.FinMap as map
-use Rattle.std.proofs.lemmas.Cmp.{ranked}
-use Rattle.page_map.specs.Pages.{numbers_of}
-use Rattle.fx_base.proofs.Tests.{T_both}
+use Rattle.{std.proofs.lemmas.Cmp.{ranked}, page_map.specs.Pages.{numbers_of}, fx_base.proofs.Tests.{T_both}}
 
 -- ---- numbers that tie
 

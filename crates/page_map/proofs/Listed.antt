@@ -2,8 +2,7 @@
 use Rattle.page_map.proofs.Common.{◌≡◌, ◌∙◌, sym, ap, refl, ℕ, ◌+◌, ◌<◌, ◌≤◌, ◌*◌, List, [], ◌∷◌, ◌++◌, Bool, true, false, cond, arith, append_assoc, map}
 use Rattle.page_map.proofs.Common.{nat_lt, Included, Excluded, Unbounded, nat_cmp, range_contains, keys_of, All, AllByRecursion, ltb-true, ltb-false}
 use Rattle.page_map.proofs.Common.{append-nil, All-tail, Directory, entries_of, entries_by, numbered, among, entries_between, filter, All-cons, All-head}
-use Rattle.page_map.proofs.Kept.{beyond, joined_pages}
-use Rattle.std.specs.List.Sorted.{IsStrictlySortedBy}
+use Rattle.{page_map.proofs.Kept.{beyond, joined_pages}, std.specs.List.Sorted.{IsStrictlySortedBy}}
 
 entries_joined : (xs ys : List (ℕ × Directory)) → entries_of (xs ++ ys) ≡ entries_of xs ++ entries_of ys
 entries_joined [] ys = refl

@@ -1,8 +1,7 @@
 -- A directory after a write to one of its pages.
 use Rattle.page_map.proofs.Common.{◌≡◌, ◌∙◌, sym, ap, refl, ℕ, zero, suc, ◌/◌, ◌%◌, ◌<◌, ◌≤◌, List, [], ◌∷◌, ◌++◌, Bool, true, false, cond, Option, length}
 use Rattle.page_map.proofs.Common.{get_or, set, arith, eq-eqb, length-append, option_to_list, nat_eq, All-push, All-pop, exact_unsigned_eq, Page, free}
-use Rattle.page_map.proofs.Common.{ArePagesApart, number_in, number_in_pages, get_or_past}
-use Rattle.std.proofs.lemmas.Bool.{eqb-false}
+use Rattle.{page_map.proofs.Common.{ArePagesApart, number_in, number_in_pages, get_or_past}, std.proofs.lemmas.Bool.{eqb-false}}
 
 -- what stands in one of the pages
 pub in_page : (pages : List Page) (i k : ℕ) (page : Page) → i < length pages → page ≡ get_or pages i page → number_in pages i k ≡ get_or page.items k free

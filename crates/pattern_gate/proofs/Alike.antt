@@ -1,9 +1,8 @@
 -- Of a pattern its type, entry point, constant tests and window alone decide which facts are its candidates.
 use Rattle.pattern_gate.proofs.Common.{◌≡◌, ◌∙◌, ◌&&◌, ap, sym, refl, subst, List, Option, Some, None, ℤ, Fact, Named, fits, is_inside, Program, Pattern}
 use Rattle.pattern_gate.{proofs.Common.{WindowTag, Whole, Time, Length, Snapshot, PatternGate, GateStands, has_good_window, is_meant}, specs.Alike.{TakesAlike}}
-use Rattle.pattern_gate.specs.Alike.{SameCandidatesLaw, SameGateLaw, SameMeantLaw, SameWindowLaw}
-use Rattle.rule_model.specs.declared.test.{Test.{Test}, TimeTest.{TimeTest}}
-use Rattle.condition_rows.specs.Sets.{candidates_of, is_candidate_given}
+use Rattle.{pattern_gate.specs.Alike.{SameCandidatesLaw, SameGateLaw, SameMeantLaw, SameWindowLaw}, rule_model.specs.declared.test.Test.{Test}}
+use Rattle.{rule_model.specs.declared.test.TimeTest.{TimeTest}, condition_rows.specs.Sets.{candidates_of, is_candidate_given}}
 
 -- the same pattern with other tests of rows
 abbrev asking : List Test → List TimeTest → Pattern → Pattern

@@ -6,10 +6,8 @@ use Rattle.pattern_gate.proofs.Common.{MayGo, Arrival, named_of, after, has_tag,
 use Rattle.pattern_gate.proofs.Common.{less_facts, more_fact, more_facts, LetsAllGo, LetsCome, LetsAllCome, append_assoc, append-nil, map-append, shares_tag}
 use Rattle.pattern_gate.proofs.Common.{Tag, AllOf, of_filter, in_filter, passed, distinct_filtered}
 use Rattle.window_gate.specs.declared.change.{WindowKind.TheVariants.{Whole, Time, Length}, GateChange.TheVariants.{Come, Gone}}
-use Rattle.std.{specs.List.Sorted.{IsStrictlySortedBy}, proofs.lemmas.List.Elements.{filter-append}}
-use Rattle.rule_model.proofs.Once.{one_fact}
-use Rattle.condition_rows.proofs.Ends.{in_name}
-use Rattle.fx_base.proofs.Sequences.{filter-all}
+use Rattle.{std.{specs.List.Sorted.{IsStrictlySortedBy}, proofs.lemmas.List.Elements.{filter-append}}, rule_model.proofs.Once.{one_fact}}
+use Rattle.{condition_rows.proofs.Ends.{in_name}, fx_base.proofs.Sequences.{filter-all}}
 
 -- ---- filters
 

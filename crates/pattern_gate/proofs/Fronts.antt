@@ -4,10 +4,8 @@ use Rattle.pattern_gate.proofs.Common.{false, cond, filter, list_any, AllByRecur
 use Rattle.pattern_gate.proofs.Common.{Snapshot, nat_cmp, Less, Tag, WindowTag, fits, is_inside, of_filter, in_filter, passed, distinct_filtered, HoldsArrivals}
 use Rattle.pattern_gate.proofs.Common.{KeepsTime, KeepsLength, KeepsWindow, TagsDiffer, window_kept, with_tag, Arrival, named_of, has_tag, inside, WindowKind}
 use Rattle.pattern_gate.proofs.{Common.{PatternGate, GateStands, arrival_of, arrivals, window_kind_of}, Arriving.{rising}, Inside.{inside_are}}
-use Rattle.pattern_gate.specs.Fronts.{IsLetBe, HasInFront}
-use Rattle.std.specs.List.Sorted.{IsStrictlySortedBy}
-use Rattle.window_gate.specs.declared.{gate.Kept.{Kept}, time_window.TimeWindow.{TimeWindow}}
-use Rattle.rule_model.proofs.Sorted.{tag_total, sorted_same}
+use Rattle.{pattern_gate.specs.Fronts.{IsLetBe, HasInFront}, std.specs.List.Sorted.{IsStrictlySortedBy}, window_gate.specs.declared.gate.Kept.{Kept}}
+use Rattle.{window_gate.specs.declared.time_window.TimeWindow.{TimeWindow}, rule_model.proofs.Sorted.{tag_total, sorted_same}}
 use Rattle.rule_model.specs.declared.condition.WindowTag.TheVariants as tag
 use Rattle.window_gate.specs.declared.change.WindowKind.TheVariants as kind
 use Rattle.window_gate.specs.declared.gate.Kept.TheVariants as kept

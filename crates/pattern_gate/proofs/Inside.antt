@@ -3,9 +3,7 @@ use Rattle.pattern_gate.proofs.Common.{◌≡◌, ◌∙◌, sym, ap, refl, ℕ,
 use Rattle.pattern_gate.proofs.Common.{Less, nat_tests, In, Fact, has, Named, fits, candidates, is_inside, Snapshot, name_of, Pattern, WindowTag, Program}
 use Rattle.pattern_gate.proofs.Common.{filter_same, row_naming, candidates_of, named_of, inside, rows_inside, arrival_of, arrivals, window_kind_of, length-map}
 use Rattle.pattern_gate.proofs.{Common.{IsStrictlySortedBy, Whole, Time, Length}, Arriving.{map_if, filter_made, filter_both, filter_among, number, rises}}
-use Rattle.pattern_gate.proofs.Arriving.{rising_rest, rising}
-use Rattle.join_memory.specs.Joined.{has_name}
-use Rattle.condition_rows.proofs.Joined.{candidates_named}
+use Rattle.{pattern_gate.proofs.Arriving.{rising_rest, rising}, join_memory.specs.Joined.{has_name}, condition_rows.proofs.Joined.{candidates_named}}
 use Rattle.window_gate.proofs.{Insides.{inside_whole, inside_time, is_recent}, Singles.{has-single}}
 use Rattle.window_gate.specs.declared.change.WindowKind.TheVariants as kind
 

@@ -7,10 +7,8 @@ use Rattle.pattern_gate.proofs.Common.{Arrival, inside, rows_inside, WindowKind,
 use Rattle.pattern_gate.proofs.Common.{LeavesBy, at_clock, IsOrderly, MovesSnapshot, is_meant, is_one_meant, less_facts, more_fact, more_facts, LetsAllGo}
 use Rattle.pattern_gate.proofs.{Common.{LetsCome, LetsAllCome, TakesStep, ints, IsDifference, unbound, and_parts, Whole, Time, Length}, Arriving.{filter_among}}
 use Rattle.pattern_gate.proofs.Arriving.{rising, left, meant, less_all, lets_all, more_one, more_all, lets_come, lets_all_come, none_meant}
-use Rattle.pattern_gate.proofs.Inside.{inside_are, rows_named}
-use Rattle.rule_model.specs.{Simple.{is_whole}, Tests.{tests_hold}, Types.{is_event}}
-use Rattle.rule_world.specs.{Events.{most_millis}, Programs.{is_window}}
-use Rattle.fx_base.proofs.Orders.{int_le-true}
+use Rattle.{pattern_gate.proofs.Inside.{inside_are, rows_named}, rule_model.specs.{Simple.{is_whole}, Tests.{tests_hold}, Types.{is_event}}}
+use Rattle.{rule_world.specs.{Events.{most_millis}, Programs.{is_window}}, fx_base.proofs.Orders.{int_le-true}}
 
 -- ---- windows
 

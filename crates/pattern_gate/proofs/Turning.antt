@@ -3,8 +3,7 @@ use Rattle.pattern_gate.proofs.Common.{◌≡◌, ◌∙◌, sym, ap, refl, subs
 use Rattle.pattern_gate.proofs.Common.{◌&&◌, ◌||◌, Bor, list_any, Fact, IsBetween, has, Delta, Row, lent, Pattern, no_rows, StandsForArrivals, window_of}
 use Rattle.pattern_gate.proofs.Common.{Arrival, rows_inside, WindowKind, PatternGate, is_meant, less_fact, less_facts, more_fact, more_facts, LetsAllGo}
 use Rattle.pattern_gate.proofs.Common.{LetsCome, LetsAllCome, ReachesArrivals, LetsGo, at_drop_more, at_drop_all, LeadsRows, without, along}
-use Rattle.window_gate.specs.declared.change.WindowKind.TheVariants.{Whole, Time, Length}
-use Rattle.row_delta.specs.DifferenceLaws.{between_applicable}
+use Rattle.{window_gate.specs.declared.change.WindowKind.TheVariants.{Whole, Time, Length}, row_delta.specs.DifferenceLaws.{between_applicable}}
 use Rattle.row_change.{specs.declared.change.Change.{Change}, proofs.Alike.{leads_alike}}
 
 -- without what is in the first alone, and with what is in the second alone, it is the second

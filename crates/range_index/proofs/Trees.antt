@@ -1,9 +1,8 @@
 -- Lists of nodes: what stands in them, what a search passes over, and trees of two halves.
 use Rattle.std.proofs.Common.{◌≡◌, ◌∙◌, sym, ap, refl, subst, ◌<◌, ◌+◌, ◌*◌, ◌≤ℤ◌, ℕ, zero, suc, ℤ, cond, Bool, true, false, List, [], ◌∷◌, ◌++◌, length, take}
 use Rattle.std.proofs.{Common.{drop, arith, length-append, append_assoc, get_or}, lemmas.{Int.{ints}, List.{take-append-drop, take-append-le, take_all}}}
-use Rattle.std.proofs.lemmas.List.{take_more}
-use Rattle.range_index.specs.{Nodes.{block_has, leaves, AreBlocks, Bounds, IsTreeOf}, Ranges.{has_number, places_with}, declared.node.Block.{Block}}
-use Rattle.range_index.specs.declared.{node.Node.{Node, TheVariants.{Range, Block as BlockNode}}, placed.PlacedRange.{PlacedRange}}
+use Rattle.{std.proofs.lemmas.List.{take_more}, range_index.specs.{Nodes.{block_has, leaves, AreBlocks, Bounds, IsTreeOf}, Ranges.{has_number, places_with}}}
+use Rattle.range_index.specs.declared.{node.{Block.{Block}, Node.{Node, TheVariants.{Range, Block as BlockNode}}}, placed.PlacedRange.{PlacedRange}}
 
 pub leaves_append : (xs ys : List Node) → leaves (xs ++ ys) ≡ leaves xs ++ leaves ys
 leaves_append [] ys = refl

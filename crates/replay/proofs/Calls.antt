@@ -8,9 +8,8 @@ use Rattle.replay.proofs.Common.{reading, refusal_text, Report, Reports, IsRepor
 use Rattle.replay.proofs.Common.{usage_line, refuses, refuses_checkpoint, runs, resumes, saves, saves_on, accepts, tells_lives, proves, sums_up, wanted_at}
 use Rattle.replay.proofs.Common.{wanted_by, wanted_from, wanted_rules, wanted_by_file, wanted_by_reading, IfRefuses, ReadsFile, RunsScript, IsUnfit, ReadFails}
 use Rattle.replay.{proofs.{Common.{MayRefuse}, Reports.{front_by, front_none}}, specs.Wanted.{wanted, wanted_by_name, wanted_by_number}}
-use Rattle.command_words.specs.Asked.{asked_by}
-use Rattle.script_run.specs.Run.{run as run_lines, step_in}
-use Rattle.line_run.proofs.{Ahead.{append_nothing, stopped_at_once}, Stops.{none_given}}
+use Rattle.{command_words.specs.Asked.{asked_by}, script_run.specs.Run.{run as run_lines, step_in}, line_run.proofs.Ahead.{append_nothing, stopped_at_once}}
+use Rattle.line_run.proofs.Stops.{none_given}
 
 pub some_is : {A : Type 0} {x y : A} → Some x ≡ Some y → x ≡ y
 some_is e = cc

@@ -1,9 +1,8 @@
 -- The lines of a text, one after the other, and how many of them begin with some bytes.
 use Rattle.replay.proofs.Common.{◌≡◌, ◌≢◌, inl, inr, ◌<◌, ◌≤◌, ◌+◌, ◌++◌, ◌==◌, ℕ, List, [], ◌∷◌, length, take, drop, true, cond, Some, None, refl, sym, ap}
 use Rattle.replay.proofs.Common.{◌∙◌, arith, fold, starts_with, append-nil, take-append-drop, IsExhausted, IsFirstEnd, lines_with}
-use Rattle.std.proofs.lemmas.{Option.{same_Some}, Bool.{eqb-true}}
-use Rattle.memchr.specs.Find.{IsFirstByte, is_byte}
-use Rattle.fx_io.{specs.{Lines.{lines_of}, Answers.{ReadsBytes, TakesLine, Answers}, declared.line.Line.TheVariants.{Whole}}, proofs.Ahead.{answers_ahead}}
+use Rattle.{std.proofs.lemmas.{Option.{same_Some}, Bool.{eqb-true}}, memchr.specs.Find.{IsFirstByte, is_byte}, fx_io.specs.Lines.{lines_of}}
+use Rattle.fx_io.{specs.{Answers.{ReadsBytes, TakesLine, Answers}, declared.line.Line.TheVariants.{Whole}}, proofs.Ahead.{answers_ahead}}
 use Rattle.fx_io.proofs.Ends.{first_end_found}
 
 -- nothing of a source that is empty was read

@@ -2,15 +2,11 @@
 use Rattle.replay.proofs.Common.{◌≡◌, ◌≤◌, ◌<◌, ◌+◌, ◌-◌, ◌⊎◌, ◌++◌, ℕ, List, [], length, get_or, take, inl, inr, Result, Ok, Err, Some, sym, ap, ◌∙◌, refl}
 use Rattle.replay.proofs.Common.{arith, ◌||◌, ◌∷◌, append-nil, take_all, take-append-drop, flat_map, Written, Failure, failure_of, checked_by, Program}
 use Rattle.replay.{proofs.Common.{obstacle, Refusal, Accepted, Refused, plain_file, of_checked, of_obstacle, with_titles}, specs.Refusals.{of_checked_with}}
-use Rattle.replay.{specs.declared.refusal.RefusalCode.TheVariants.{Checked}, proofs.Fronts.{Both, first_alike}}
-use Rattle.std.{specs.Prelude.{drop}, proofs.lemmas.{List.{get_or_append_left}, Grind.{flat_map-append}}}
-use Rattle.drl_check.specs.{Outcomes.{checked}, Answers.{within_32_bits}}
-use Rattle.fx_base.proofs.Sequences.{drop_past}
-use Rattle.drl_expr.specs.Words.{is_among}
-use Rattle.drl_grammar.specs.declared.{file.{File.{File}, Item.{Item}}, written.{WrittenItem.{WrittenItem}, WrittenType.{WrittenType}}}
-use Rattle.drl_names.specs.Names.{names_of}
-use Rattle.drl_compile.specs.Programs.{program_of}
-use Rattle.drl_scope.specs.{Declarations.{types_of, rules_of}, Observed.{watched_names}}
+use Rattle.{replay.{specs.declared.refusal.RefusalCode.TheVariants.{Checked}, proofs.Fronts.{Both, first_alike}}, std.specs.Prelude.{drop}}
+use Rattle.{std.proofs.lemmas.{List.{get_or_append_left}, Grind.{flat_map-append}}, drl_check.specs.{Outcomes.{checked}, Answers.{within_32_bits}}}
+use Rattle.{fx_base.proofs.Sequences.{drop_past}, drl_expr.specs.Words.{is_among}, drl_grammar.specs.declared.file.{File.{File}, Item.{Item}}}
+use Rattle.{drl_grammar.specs.declared.written.{WrittenItem.{WrittenItem}, WrittenType.{WrittenType}}, drl_names.specs.Names.{names_of}}
+use Rattle.{drl_compile.specs.Programs.{program_of}, drl_scope.specs.{Declarations.{types_of, rules_of}, Observed.{watched_names}}}
 use Rattle.subrules.specs.{Hierarchy.{written_types_of}, Expanded.{expanded, plain_items, titles, titles_in, origins, origins_from}, Front.{short_items}}
 use Rattle.subrules.{specs.{declared.expanding.Expanded.{Expanded}, Outcomes.{IsExpanded}}, proofs.FrontLaws.{as_many_origins, as_many_titles, origins_append}}
 use Rattle.subrules.proofs.FrontLaws.{same_types, same_watched, watched_append}

@@ -1,19 +1,15 @@
 -- Of a file with more rules than a file may have an item of its front fails a check first, one up to the 257th rule: what stands behind tells nothing but
 -- the types that are declared and those that are watched.
 use Rattle.replay.proofs.Common.{◌≡◌, ◌≤◌, ◌<◌, ◌+◌, ◌++◌, ◌∷◌, ◌&&◌, ◌||◌, ℕ, Bool, true, false, List, [], length, Option, Some, None, refl, sym, ap, ◌∙◌}
-use Rattle.replay.proofs.Common.{arith, length-append, list_any, Failure, Program, nat_lt, if◌then◌else◌}
-use Rattle.std.{specs.Prelude.{drop, not}, proofs.lemmas.Bool.Decides.{nat_tests}}
-use Rattle.drl_expr.specs.Words.{is_among}
-use Rattle.drl_grammar.specs.declared.action.ActTree.{ActTree}
+use Rattle.{replay.proofs.Common.{arith, length-append, list_any, Failure, Program, nat_lt, if◌then◌else◌}, std.specs.Prelude.{drop, not}}
+use Rattle.{std.proofs.lemmas.Bool.Decides.{nat_tests}, drl_expr.specs.Words.{is_among}, drl_grammar.specs.declared.action.ActTree.{ActTree}}
 use Rattle.drl_grammar.specs.declared.action.ActTree.TheVariants as action
 use Rattle.drl_grammar.specs.declared.file.Body.{Body}
 use Rattle.drl_grammar.specs.declared.file.Body.TheVariants as body
-use Rattle.drl_grammar.specs.declared.file.{Item.{Item}, TypeTree.{TypeTree}}
-use Rattle.drl_scope.specs.{Annotations.{is_tree_of_events}, Declarations.{types_of, rules_of, type_names, rule_names, rule_in}, EntryPoints.{declared_entries}}
-use Rattle.drl_scope.specs.{EntryPoints.{entry_names}, Observed.{is_event_among, watched_names}, Sight.{Sight, Meaning, of_fact, of_field, of_result}}
-use Rattle.drl_scope.specs.Sight.{meaning_of, sight_of_actions}
-use Rattle.drl_compile.specs.Programs.{types_alone}
-use Rattle.drl_limits.specs.Limits.{has_few_entries, rule_within}
+use Rattle.{drl_grammar.specs.declared.file.{Item.{Item}, TypeTree.{TypeTree}}, drl_scope.specs.{Annotations.{is_tree_of_events}, Declarations.{types_of}}}
+use Rattle.drl_scope.specs.{Declarations.{rules_of, type_names, rule_names, rule_in}, EntryPoints.{declared_entries, entry_names}, Observed.{is_event_among}}
+use Rattle.drl_scope.specs.{Observed.{watched_names}, Sight.{Sight, Meaning, of_fact, of_field, of_result, meaning_of, sight_of_actions}}
+use Rattle.{drl_compile.specs.Programs.{types_alone}, drl_limits.specs.Limits.{has_few_entries, rule_within}}
 use Rattle.drl_check.specs.{declared.fault.CheckCode.{CheckCode, TheVariants.{TwiceDeclared, LimitPassed}}, Checks.{codes_in_order, drops_observed, fails}}
 use Rattle.drl_check.specs.{Checks.{failure_at, failure_from, first_code}, Events.{is_observed_meant, retracts_observed}, Failing.{first_failing}}
 use Rattle.drl_check.proofs.Failures.{failing_is, rules_next}

@@ -5,9 +5,8 @@ use Rattle.replay.proofs.Common.{setting_of, then_run, whole_run, first_state, s
 use Rattle.replay.proofs.Common.{IsToldBehind, IsReport, IsRunBehind, IsRunStatus, IsSaved, IsSavedBehind, IsSaveStatus, outcome_report, run_status, Wanted}
 use Rattle.replay.proofs.Common.{usage_line, refuses, refuses_checkpoint, runs, resumes, saves, saves_on, accepts, tells_lives, proves, sums_up}
 use Rattle.replay.{specs.Behind.{IsSoundWorld, KeepWorlds, IsRefusedOn}, proofs.{Programs.{WantsRunnable}, Tables.{by_table}}}
-use Rattle.image_laws.specs.Fitting.{Fits}
-use Rattle.rule_world.{specs.Programs.{IsRunnable}, proofs.Lawfuls.{empty_lawful}}
-use Rattle.script_run.proofs.{Joined.{part_joined}, Kept.{run_keeps}}
+use Rattle.{image_laws.specs.Fitting.{Fits}, rule_world.{specs.Programs.{IsRunnable}, proofs.Lawfuls.{empty_lawful}}, script_run.proofs.Joined.{part_joined}}
+use Rattle.script_run.proofs.Kept.{run_keeps}
 
 empty_sound : (p : Program) → IsSoundWorld p empty_world
 empty_sound p = record { lawful = empty_lawful p; ids = omega arith; tags = omega arith }

@@ -3,8 +3,7 @@ use Rattle.replay.proofs.Common.{◌≡◌, ◌<◌, ◌≤◌, ℕ, Bool, true,
 use Rattle.replay.proofs.Common.{if◌then◌else◌, bytes_eq, nat_tests, Image, image_bytes, IsImage, Mode, Run, Check, Lives, Proof, Save, AreLives, LifeTable}
 use Rattle.replay.proofs.Common.{Program, First, Behind, Beginning, CheckpointCode, TooLong, BadImage, OtherRules, CanBegin, RunsIn, IsUnread, Checkpoint}
 use Rattle.replay.{proofs.Common.{has_image, is_refused, of_decoded, wanted_at, wanted_behind, refuses_checkpoint}, specs.Checkpoints.{checkpoint_of}}
-use Rattle.replay.specs.Checkpoints.{image_limit}
-use Rattle.checkpoint.{specs.Reading.{decoded}, proofs.{Exact.{AreOctets}, Whole.{decoded_takes, decoded_again}}}
+use Rattle.{replay.specs.Checkpoints.{image_limit}, checkpoint.{specs.Reading.{decoded}, proofs.{Exact.{AreOctets}, Whole.{decoded_takes, decoded_again}}}}
 
 -- ---- the image of bytes
 

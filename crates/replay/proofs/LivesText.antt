@@ -1,7 +1,6 @@
 -- The lines of lives, type by type.
 use Rattle.replay.proofs.Common.{◌≡◌, ◌⊎◌, inl, inr, ◌<◌, ◌++◌, ℕ, zero, suc, List, [], ◌∷◌, length, drop, get_or, refl, sym, ap, ◌∙◌, arith, append_assoc}
-use Rattle.replay.proofs.Common.{append-nil, length-append, Life, life_text, lives_text}
-use Rattle.rule_model.specs.declared.program.TypeInfo.{TypeInfo}
+use Rattle.{replay.proofs.Common.{append-nil, length-append, Life, life_text, lives_text}, rule_model.specs.declared.program.TypeInfo.{TypeInfo}}
 
 -- the first of the rest
 from_place : {A : Type 0} (xs : List A) (n : ℕ) (x : A) → n < length xs → ((d : A) → x ≡ get_or xs n d) → drop n xs ≡ x ∷ drop (suc n) xs

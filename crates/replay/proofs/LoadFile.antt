@@ -1,7 +1,6 @@
 -- What the rule file of a load reads as.
 use Rattle.replay.proofs.Common.{◌≡◌, ap, ◌∙◌, rules_text, Program, Accepted, of_checked, of_obstacle, of_parsed, reading, with_titles}
-use Rattle.subrules.specs.Expanded.{titles}
-use Rattle.load_laws.proofs.Accepted.{accepted}
+use Rattle.{subrules.specs.Expanded.{titles}, load_laws.proofs.Accepted.{accepted}}
 
 pub load_file_accepted : (program : Program) × (reading rules_text ≡ Accepted program)
 load_file_accepted =

@@ -4,11 +4,8 @@ use Rattle.replay.proofs.Common.{lexical, outside, parsed, too_long, rules_text,
 use Rattle.replay.proofs.Common.{Checkpoint, checkpoint_in, has_image, is_refused, of_checked, of_obstacle, of_parsed, plain_file, reading, Reading, Accepted}
 use Rattle.replay.proofs.Common.{Refused, obstacle, Wanted, Files, saves, saves_on, resumes, wanted_behind, wanted_by, wanted_by_file, wanted_by_reading}
 use Rattle.replay.{proofs.Common.{wanted_from, wanted_rules, sums_up}, specs.{Refusals.{IsSoundReading}, Wanted.{wanted_by_name, wanted_by_number}}}
-use Rattle.replay.proofs.Titles.{is_runnable}
-use Rattle.drl_check.{specs.Outcomes.{checked}, proofs.{Exact.{exact_none}, Runnable.{accepted_runnable}}}
-use Rattle.drl_grammar.specs.declared.file.File.{File}
-use Rattle.drl_compile.specs.Programs.{program_of}
-use Rattle.rule_world.specs.Programs.{IsRunnable}
+use Rattle.{replay.proofs.Titles.{is_runnable}, drl_check.{specs.Outcomes.{checked}, proofs.{Exact.{exact_none}, Runnable.{accepted_runnable}}}}
+use Rattle.{drl_grammar.specs.declared.file.File.{File}, drl_compile.specs.Programs.{program_of}, rule_world.specs.Programs.{IsRunnable}}
 use Rattle.subrules.specs.{declared.fault.Obstacle.{Obstacle}, Expanded.{titles}}
 
 by_ok : (o : Option Failure) (p q : Program) → checked_by o p ≡ Ok q → (o ≡ None) × (q ≡ p)

@@ -1,9 +1,7 @@
 -- What is written when a run asks for more of its script is what is wanted then.
 use Rattle.replay.proofs.Common.{◌≡◌, ℕ, List, Option, refl, sym, subst, append, Run, Save, LifeTable, Program, AreLives, World, empty_world, Gives, Fires}
 use Rattle.replay.proofs.Common.{Counts, run_on, RunState, setting_of, whole_run, first_behind, Beginning, First, Behind, BeginsIn, part_of, wanted_at}
-use Rattle.replay.{specs.Report.{IsPrompt}, proofs.Tables.{by_table}}
-use Rattle.line_run.specs.Prompt.{whole_lines}
-use Rattle.script_run.specs.Run.{run as run_lines}
+use Rattle.{replay.{specs.Report.{IsPrompt}, proofs.Tables.{by_table}}, line_run.specs.Prompt.{whole_lines}, script_run.specs.Run.{run as run_lines}}
 
 -- a run, from each world of its beginning
 pub prompt_run : (gives : Gives) (fires : Fires) (counts : Counts) (limit : ℕ) (p : Program) (table : LifeTable) → AreLives p table → (b : Beginning) (bytes : List ℕ) (before now : Option (List ℕ))

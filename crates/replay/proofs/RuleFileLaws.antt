@@ -2,12 +2,8 @@
 use Rattle.replay.proofs.Common.{◌≡◌, ◌↔◌, ℕ, List, length, Option, Some, None, refl, ap, ◌∙◌, subst, Written, Parsed, IsLexical, file_limit, is_file, outside}
 use Rattle.replay.proofs.Common.{too_long, lexical, parsed, obstacle, Failure, failure_of, checked_by, Reading, plain_file, of_checked, of_obstacle, of_parsed}
 use Rattle.replay.{proofs.Common.{reading}, specs.RuleFiles.{IsReading, IsReading.{is_too_long, is_no_tokens, has_no_item, is_not_expanded, fails_a_check}}}
-use Rattle.replay.specs.RuleFiles.IsReading.{is_accepted}
-use Rattle.std.specs.Prelude.{◌≤◌, ◌<◌}
-use Rattle.drl_lex.specs.declared.fault.LexCode.{LexCode}
-use Rattle.drl_grammar.specs.Files.{IsFile, IsOutside}
-use Rattle.drl_compile.specs.Programs.{program_of}
-use Rattle.subrules.specs.declared.fault.Obstacle.{Obstacle}
+use Rattle.{replay.specs.RuleFiles.IsReading.{is_accepted}, std.specs.Prelude.{◌≤◌, ◌<◌}, drl_lex.specs.declared.fault.LexCode.{LexCode}}
+use Rattle.{drl_grammar.specs.Files.{IsFile, IsOutside}, drl_compile.specs.Programs.{program_of}, subrules.specs.declared.fault.Obstacle.{Obstacle}}
 use Rattle.drl_check.{specs.Outcomes.{checked}, proofs.Exact.{exact_none, is_first_failure, first_failure_is}}
 
 -- what the law of `parsed_is_exact` says of these bytes

@@ -7,9 +7,8 @@ use Rattle.replay.proofs.Common.{Behind, TooLong, Unfit, BeginsIn, CanBegin, IsB
 use Rattle.replay.proofs.Common.{TellsScript, MayEnd, RunOf, Says, Report, IsReport, IsWritten, IsFront, IsLong, IsRunStatus, IsBehindSome, IsRunBehind}
 use Rattle.replay.proofs.Common.{IsSaved, IsSaveStatus, IsStopped, TakesFor, checkpoint_report, fault_status, image_report, outcome_report, run_status, Wanted}
 use Rattle.replay.proofs.{Common.{wanted_at, MayRefuse, IsImage}, Calls.{some_is, written_as, none_written}, Reports.{front_none}, Tables.{by_table}}
-use Rattle.image_laws.specs.Images.{IsImageOf}
-use Rattle.script_run.specs.{declared.run_fault.RunFault.{RunFault, TheVariants.{ReadFault, WriteFault, NoMemory, ScriptLong}}, Run.{run as run_lines}}
-use Rattle.script_run.specs.Turns.{TakesScript}
+use Rattle.{image_laws.specs.Images.{IsImageOf}, script_run.specs.declared.run_fault.RunFault.{RunFault, TheVariants.{ReadFault, WriteFault, NoMemory}}}
+use Rattle.script_run.specs.{declared.run_fault.RunFault.TheVariants.{ScriptLong}, Run.{run as run_lines}, Turns.{TakesScript}}
 use Rattle.line_run.specs.{declared.turn.{Ended.{Ended}, Progress.{Progress}}, Turns.{AtEnd, ReachesWorld}}
 
 -- ---- statuses

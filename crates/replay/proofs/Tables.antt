@@ -3,12 +3,9 @@ use Rattle.replay.proofs.Common.{◌≡◌, ◌⊎◌, inl, inr, ℕ, zero, suc,
 use Rattle.replay.proofs.Common.{slice_get, lines_of, Life, LifeTable, Program, IsLifeOf, AreLives, Gives, Fires, Counts, RunState, setting_of, whole_run}
 use Rattle.replay.proofs.Common.{Image, RunPart, World, first_part, Report, IsToldBehind, IsBehindSome, IsDefinite, IsReport, IsSaved, image_report}
 use Rattle.replay.proofs.Common.{outcome_report, summary_report, lives_text, Wanted, usage_line, refuses, refuses_checkpoint, runs, resumes, saves, saves_on}
-use Rattle.replay.proofs.Common.{accepts, tells_lives, proves, sums_up}
-use Rattle.std.proofs.lemmas.Bool.{both_ways}
-use Rattle.gen_load.specs.Script.{script_text}
+use Rattle.{replay.proofs.Common.{accepts, tells_lives, proves, sums_up}, std.proofs.lemmas.Bool.{both_ways}, gen_load.specs.Script.{script_text}}
 use Rattle.rule_model.specs.{declared.life.Life.TheVariants.{Plain, Explicit, Finite, Infinite}, Types.{is_event, expiry_of}}
-use Rattle.life_meaning.specs.{Lifetimes.{IsLife, PatternLife}, Reach.{Limit, finite, infinite, Below}}
-use Rattle.image_laws.proofs.One.{one_image}
+use Rattle.{life_meaning.specs.{Lifetimes.{IsLife, PatternLife}, Reach.{Limit, finite, infinite, Below}}, image_laws.proofs.One.{one_image}}
 use Rattle.fx_base.proofs.Orders.{≤ℤ_antisym}
 
 same_limit : (l m : Limit) → Below l m → Below m l → l ≡ m

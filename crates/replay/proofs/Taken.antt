@@ -5,12 +5,10 @@ use Rattle.replay.proofs.Common.{Program, AreLives, Gives, Fires, Counts, first_
 use Rattle.replay.proofs.Common.{has_image, Unfit, TooLong, Report, Reports, IsReport, IsSaved, checkpoint_report, image_report, run_status, Wanted, usage_line}
 use Rattle.replay.proofs.Common.{refuses, refuses_checkpoint, runs, resumes, saves, saves_on, accepts, tells_lives, proves, sums_up}
 use Rattle.replay.{specs.{Behind.{IsSoundWorld, KeepWorlds, AreTaken, IsTakenAgain}, Checkpoints.{checkpoint_of, image_limit}}, proofs.GoingOn.{whole_sound}}
-use Rattle.replay.proofs.{GoingOn.{saved_so}, ImagesRead.{image_is}, Programs.{WantsRunnable}, Tables.{by_table}}
-use Rattle.std.{specs.Prelude.{nat_le}, proofs.lemmas.{Bool.{and_parts}, Slice.Eq.{bytes_eq-Decides}}}
-use Rattle.checkpoint.{specs.{Bytes.{field_bytes, image_bytes, IsImage}, Reading.{fields_at}}, proofs.Structs.{fields_exact}}
-use Rattle.image_laws.{specs.{Fitting.{Fits}, Images.{IsImageOf}}, proofs.Fit.{image_fits}}
-use Rattle.life_meaning.{specs.Tables.{AreSafe}, proofs.Safe.{safe_life}}
-use Rattle.rule_world.specs.Programs.{IsRunnable}
+use Rattle.{replay.proofs.{GoingOn.{saved_so}, ImagesRead.{image_is}, Programs.{WantsRunnable}, Tables.{by_table}}, std.specs.Prelude.{nat_le}}
+use Rattle.{std.proofs.lemmas.{Bool.{and_parts}, Slice.Eq.{bytes_eq-Decides}}, checkpoint.specs.Bytes.{field_bytes, image_bytes, IsImage}}
+use Rattle.{checkpoint.{specs.Reading.{fields_at}, proofs.Structs.{fields_exact}}, image_laws.specs.{Fitting.{Fits}, Images.{IsImageOf}}}
+use Rattle.{image_laws.proofs.Fit.{image_fits}, life_meaning.{specs.Tables.{AreSafe}, proofs.Safe.{safe_life}}, rule_world.specs.Programs.{IsRunnable}}
 use Rattle.line_run.specs.Parts.{EndsLine}
 
 -- ---- an image that was written

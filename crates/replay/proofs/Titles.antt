@@ -1,7 +1,6 @@
 -- Under other names of rules a program is one that engines run.
 use Rattle.replay.proofs.Common.{◌≡◌, ◌≤◌, ◌&&◌, ◌||◌, ℕ, suc, Bool, List, [], ◌∷◌, length, drop, refl, sym, ap, ◌∙◌, subst, All, list_all, list_any, Program}
-use Rattle.replay.{proofs.Common.{first_or, with_titles}, specs.Titles.{renamed}}
-use Rattle.std.proofs.lemmas.List.Elements.{All-cons, All-head, All-tail}
+use Rattle.{replay.{proofs.Common.{first_or, with_titles}, specs.Titles.{renamed}}, std.proofs.lemmas.List.Elements.{All-cons, All-head, All-tail}}
 use Rattle.rule_model.specs.{declared.program.Rule.{Rule}, Simple.{observes_type}, Types.{is_event, is_observed, is_reference}}
 use Rattle.rule_world.specs.{Programs.{IsRunnable, UseOperators, NameEarlier, has_conditions, has_few_actions, has_windows}, Typed.{is_typed, rule_fits}}
 

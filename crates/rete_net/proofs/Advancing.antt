@@ -5,11 +5,8 @@ use Rattle.rete_net.proofs.Common.{Snapshot, Look, cleaned, rows_of, empty_row, 
 use Rattle.rete_net.proofs.Common.{IsIndexOf, AreNodeOwners, NodesStand, clean_rows, change_of, IsChange, AreBetween, AreScheduled, before, IsNetOf, no_change}
 use Rattle.rete_net.proofs.{Common.{delta_at, changes_from, NetStep, Moment, AreSources}, Answering.{is_change, found_change, past_change, in_order}}
 use Rattle.rete_net.proofs.{Chaining.{AreMade, IsGiven, AreStanding, StaysBeside, standing_now, answer_at}, Cleaning.{has_clean}, Frames.{net_again}}
-use Rattle.rete_net.proofs.{Frames.{stepped_nodes}, Turning.{rising}}
-use Rattle.candidate_source.specs.Sources.{source_at}
-use Rattle.rule_model.specs.Rows.{rows}
-use Rattle.condition_rows.proofs.Whole.{one_more}
-use Rattle.fx_base.proofs.{Sequences.{get-below}, Tests.{and_not_self}}
+use Rattle.{rete_net.proofs.{Frames.{stepped_nodes}, Turning.{rising}}, candidate_source.specs.Sources.{source_at}, rule_model.specs.Rows.{rows}}
+use Rattle.{condition_rows.proofs.Whole.{one_more}, fx_base.proofs.{Sequences.{get-below}, Tests.{and_not_self}}}
 
 -- the rows of conditions are what the lines make of them
 pub rows_made : (p : Program) (s : Snapshot) → HaveDistinctTags s.facts → AreMade p s (rows_of p s)

@@ -5,9 +5,7 @@ use Rattle.rete_net.proofs.Common.{Fan, Seat, member_of, showing, IsHalf, IsOfSe
 use Rattle.rete_net.{proofs.Common.{floor, snapshot_at, has, row_naming, Row, has_name, NodeForgets, TurnForgets}, specs.Lending.{IsSameFor, IsSameIn}}
 use Rattle.rete_net.{specs.Lending.{MayForget, MayForgetIn, MayTurn, MayTurnIn, TurnsAt}, proofs.{Idle.{idle_steps}, Lone.{alone_stays, IsAlone}}}
 use Rattle.rete_net.proofs.{Passing.{passed_over}, Showing.{alone_shown, condition_shown, still_shown}, Siblings.{nothing_is}}
-use Rattle.join_memory.specs.{Apart.{has_candidate}, Shared.{KeepsNames}}
-use Rattle.join_tests.specs.NameKeys.{name_key}
-use Rattle.pattern_gate.specs.Alike.{TakesAlike}
+use Rattle.{join_memory.specs.{Apart.{has_candidate}, Shared.{KeepsNames}}, join_tests.specs.NameKeys.{name_key}, pattern_gate.specs.Alike.{TakesAlike}}
 use Rattle.candidate_source.specs.{declared.source.Source.{Source}, Doors.{source_candidates, source_gate, source_pattern}}
 use Rattle.beta_node.specs.Lending.{with_candidates}
 

@@ -2,9 +2,7 @@
 use Rattle.rete_net.proofs.Common.{◌≡◌, ◌∙◌, sym, ap, refl, ℕ, zero, suc, ◌+◌, ◌<◌, ◌^◌, ◌==◌, length, arith, ◌&&◌, not, Bool, true, false, cond, List, [], ◌∷◌}
 use Rattle.rete_net.proofs.Common.{◌++◌, map, Option, Some, None, slice_get, Less, nat_cmp_is, AllByRecursion, nat_cmp, nat_tests, Delta, Row, has}
 use Rattle.rete_net.proofs.Common.{IsDifference, are_none, changes_nothing, Program, IsRunnable, RuleChange, change_of, IsChange, delta_at, change_at}
-use Rattle.rete_net.proofs.Common.{changes_from}
-use Rattle.std.specs.List.Sorted.{IsStrictlySortedBy}
-use Rattle.row_delta.specs.Differences.{IsBetween}
+use Rattle.{rete_net.proofs.Common.{changes_from}, std.specs.List.Sorted.{IsStrictlySortedBy}, row_delta.specs.Differences.{IsBetween}}
 
 -- a program has fewer rules than numbers of rules can name
 pub few_ends : (p : Program) (ends : List ℕ) → length ends ≡ length p.rules → IsRunnable p → length ends < 2 ^ 16

@@ -4,10 +4,8 @@ use Rattle.rete_net.proofs.Common.{take, Option, Some, None, slice_get, option_t
 use Rattle.rete_net.proofs.Common.{LeadsRows, Condition, Plain, Negated, Existing, Folded, Pattern, Program, HaveDistinctTags, pattern_of, Snapshot, name_of}
 use Rattle.rete_net.proofs.Common.{in_left, of_filter, one_fact, in_filter, in_place, Look, joins, clean, cleaned, no_names, ForgottenStay, HasAllOf, NameHeld}
 use Rattle.rete_net.proofs.Common.{candidates_of, rows_of, MovesSnapshot, shares_tag, CountedStay, held_known, joining_alike, clean_of_none, CountsNone}
-use Rattle.rete_net.proofs.{Common.{AreNotNeeded, IsRuleFront}, Chaining.{StaysBeside}, Turning.{rising}}
-use Rattle.std.proofs.lemmas.Bool.{and_parts, eqb-true, not-true}
-use Rattle.condition_rows.specs.Sets.{held}
-use Rattle.fx_base.proofs.{Sequences.{In-append}, Tests.{and_where}}
+use Rattle.{rete_net.proofs.{Common.{AreNotNeeded, IsRuleFront}, Chaining.{StaysBeside}, Turning.{rising}}, std.proofs.lemmas.Bool.{and_parts, eqb-true}}
+use Rattle.{std.proofs.lemmas.Bool.{not-true}, condition_rows.specs.Sets.{held}, fx_base.proofs.{Sequences.{In-append}, Tests.{and_where}}}
 
 -- ---- what a snapshot holds
 

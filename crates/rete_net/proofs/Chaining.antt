@@ -4,8 +4,7 @@ use Rattle.rete_net.proofs.Common.{◌≡◌, ◌∙◌, sym, refl, subst, ℕ, 
 use Rattle.rete_net.proofs.Common.{None, slice_get, get_or-take, slice_get_within, slice_get-get_or, Fact, Delta, Named, Row, LeadsRows, IsDifference}
 use Rattle.rete_net.proofs.Common.{Condition, Program, Rule, pattern_of, Snapshot, Look, cleaned, no_names, line, HasAllOf, NameHeld, candidates_of}
 use Rattle.rete_net.proofs.Common.{has_good_window, MovesSnapshot, condition_of, CountedStay, NetNode, StandsIn, before, IsShaped, EndsRule, delta_at}
-use Rattle.rete_net.proofs.Common.{left_delta, IsNodeTurn, TurnStep, SteppedBelow, Moment, IsAt}
-use Rattle.candidate_source.specs.declared.source.Source.{Source}
+use Rattle.{rete_net.proofs.Common.{left_delta, IsNodeTurn, TurnStep, SteppedBelow, Moment, IsAt}, candidate_source.specs.declared.source.Source.{Source}}
 
 -- the rows of conditions in a snapshot, as the lines make them, name versions of the snapshot alone
 pub record AreMade (p : Program) (s : Snapshot) (sets : List Condition → Row → Bool) : Type 0 where

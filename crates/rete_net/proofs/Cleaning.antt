@@ -2,10 +2,8 @@
 use Rattle.rete_net.proofs.Common.{◌≡◌, ◌∙◌, sym, ap, refl, ℤ, ◌&&◌, not, Bool, true, false, List, [], ◌∷◌, Option, Some, None, fun_ext, and-false, and_assoc}
 use Rattle.rete_net.proofs.Common.{filter, list_any, Named, Row, same_equiv, has, Condition, Plain, Negated, Existing, Folded, Program, rows, Snapshot, joins}
 use Rattle.rete_net.proofs.Common.{joined, clean, cleaned, either, remembered, no_names, unvalued, splits_value, row_decides, from_unvalued, joined_clean}
-use Rattle.rete_net.proofs.Common.{clean_either, gives, is_ripe, line, held, candidates_of, has_partner}
-use Rattle.std.proofs.lemmas.Map.Made.{is_member-filter}
-use Rattle.join_memory.specs.Valued.{valued}
-use Rattle.fx_base.proofs.Sequences.{filter-all}
+use Rattle.{rete_net.proofs.Common.{clean_either, gives, is_ripe, line, held, candidates_of, has_partner}, std.proofs.lemmas.Map.Made.{is_member-filter}}
+use Rattle.{join_memory.specs.Valued.{valued}, fx_base.proofs.Sequences.{filter-all}}
 
 -- ---- where nothing is forgotten
 

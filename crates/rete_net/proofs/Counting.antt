@@ -6,11 +6,8 @@ use Rattle.rete_net.proofs.Common.{Negated, Existing, Folded, Program, Rule, is_
 use Rattle.rete_net.proofs.Common.{clean, cleaned, rows_of_extras, candidates_of, rows_of, candidate_named, joins, at_clock, filter_among, AreExtrasBeside}
 use Rattle.rete_net.proofs.Common.{IsAside, IsExtraBeside, lost_partners, values_gathered, condition_of, AreExtras, IsExtraIn, IsFirstWith, extra_cmp, Owner}
 use Rattle.rete_net.proofs.{Common.{NetNode, AreNodeOwners, IsOwned, owner_cmp, before, IsNetOf, HaveSameFronts}, Advancing.{same_first}}
-use Rattle.rete_net.proofs.{Counted.{fronts_within}, Growing.{parted}}
-use Rattle.std.{proofs.lemmas.Bool.{and_parts}, specs.List.Sorted.{IsStrictlySortedBy}}
-use Rattle.rule_model.specs.Rows.{binds}
-use Rattle.condition_rows.specs.Sets.{held, partners}
-use Rattle.fx_base.proofs.Sequences.{In-append, get-below, one_value}
+use Rattle.{rete_net.proofs.{Counted.{fronts_within}, Growing.{parted}}, std.{proofs.lemmas.Bool.{and_parts}, specs.List.Sorted.{IsStrictlySortedBy}}}
+use Rattle.{rule_model.specs.Rows.{binds}, condition_rows.specs.Sets.{held, partners}, fx_base.proofs.Sequences.{In-append, get-below, one_value}}
 
 -- ---- lists in order
 

@@ -6,10 +6,8 @@ use Rattle.rete_net.proofs.Common.{has_good_window, at_clock, condition_of, IsBe
 use Rattle.rete_net.proofs.Common.{TurnForgets, dropped_at, dropped_before, ForgotBelow, rows_for, AreDropped, Answered, some_answer, answer_in, IsIndexOf}
 use Rattle.rete_net.proofs.Common.{AreNodeOwners, AreSources, HaveSameFronts, NodesStand, NetStands, StandsIn, AreScheduled, before}
 use Rattle.rete_net.{specs.Answers.{given as kept}, proofs.{Advancing.{first_row, rows_made}, Chaining.{AreMade, AreStanding}, Cleaning.{cleaned_either}}}
-use Rattle.rete_net.proofs.{Frames.{forgetting_nodes, net_again, wired_of}, Seen.{at_hand_at}, Turning.{rising}}
-use Rattle.std.specs.List.Sorted.{IsStrictlySortedBy}
-use Rattle.candidate_source.specs.{declared.source.Source.{Source}, Sources.{source_at}}
-use Rattle.fx_base.proofs.Sequences.{get-below}
+use Rattle.{rete_net.proofs.{Frames.{forgetting_nodes, net_again, wired_of}, Seen.{at_hand_at}, Turning.{rising}}, std.specs.List.Sorted.{IsStrictlySortedBy}}
+use Rattle.{candidate_source.specs.{declared.source.Source.{Source}, Sources.{source_at}}, fx_base.proofs.Sequences.{get-below}}
 
 module _ (p : Program) (look : Look) (s : Snapshot) (sets : List Condition → Row → Bool) (forgotten old : Named → Bool) (of of_now : ℕ → Option Source) (nodes nodes_now : List NetNode) (conditions : ℕ → List Condition) (dropped : List (List Row))
     (tags : HaveDistinctTags s.facts) (at_hand : HasAllOf look s forgotten) (made : AreMade p s sets) (none : AreOld (cleaned (sets []) forgotten) old [])

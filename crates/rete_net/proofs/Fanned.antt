@@ -1,14 +1,13 @@
 -- One fan of others turns: its rows, or the candidates of one member.
-use Rattle.join_tests.specs.declared.row_key.RowKey.{RowKey}
-use Rattle.rete_net.proofs.Common.{◌≡◌, ◌∙◌, sym, ap, refl, subst, ℕ, ◌+◌, ◌<◌, ◌≤◌, arith, List, [], ◌∷◌, length, Option, Some, None, slice_get, inl, inr}
-use Rattle.rete_net.proofs.Common.{true, false, zero, suc, set, slice_get_within, get, is_at, Updates, nat_tests, are_none, IsDifference, Vec, option_map}
-use Rattle.rete_net.proofs.Common.{nat_cmp, Delta, Named, Row, Look, Pattern, row_key, Candidates, beside, made, AreBeside, IsMemberTurned, AreNamesTurned, Fan}
-use Rattle.rete_net.proofs.Common.{Fans, Seat, Span, NetNode, given_span, half_at, half_in, in_fan, member_of, AreFans, AreNamesTurnedAt, AreFanRowsTurned}
-use Rattle.rete_net.proofs.Common.{IsFanLike, IsHalf, IsInSpan, IsLaidAs, IsLeft, Member, Bool, BTreeMap, member_delta, IsReached, has_place, no_change, is_in}
-use Rattle.rete_net.proofs.{Common.{is_some, nat_eq, cond, or-true, ◌||◌}, Fanning.{laid_same, laid_then}, Siblings.{half_none}, Walking.{equal_or_not}}
-use Rattle.fan_join.specs.{Doors.{shared_key}, declared.fan.FanJoin.{FanJoin}, Fans.{given_delta, AreRowsTurned as JoinTurned}}
-use Rattle.std.{proofs.lemmas.Bool.{false_from_ne_true}, specs.Map.{keys_of, lookup}}
-use Rattle.fx_base.proofs.{Orders.{below_or_last}, Sequences.{get-below, get-set_other, get-set_same, one_value}}
+use Rattle.{join_tests.specs.declared.row_key.RowKey.{RowKey}, rete_net.proofs.Common.{◌≡◌, ◌∙◌, sym, ap, refl, subst, ℕ, ◌+◌, ◌<◌, ◌≤◌, arith, List, [], ◌∷◌}}
+use Rattle.rete_net.proofs.Common.{length, Option, Some, None, slice_get, inl, inr, true, false, zero, suc, set, slice_get_within, get, is_at, Updates}
+use Rattle.rete_net.proofs.Common.{nat_tests, are_none, IsDifference, Vec, option_map, nat_cmp, Delta, Named, Row, Look, Pattern, row_key, Candidates, beside}
+use Rattle.rete_net.proofs.Common.{made, AreBeside, IsMemberTurned, AreNamesTurned, Fan, Fans, Seat, Span, NetNode, given_span, half_at, half_in, in_fan}
+use Rattle.rete_net.proofs.Common.{member_of, AreFans, AreNamesTurnedAt, AreFanRowsTurned, IsFanLike, IsHalf, IsInSpan, IsLaidAs, IsLeft, Member, Bool}
+use Rattle.rete_net.proofs.{Common.{BTreeMap, member_delta, IsReached, has_place, no_change, is_in, is_some, nat_eq, cond, or-true, ◌||◌}, Fanning.{laid_same}}
+use Rattle.{rete_net.proofs.{Fanning.{laid_then}, Siblings.{half_none}, Walking.{equal_or_not}}, fan_join.specs.Doors.{shared_key}}
+use Rattle.{fan_join.specs.{declared.fan.FanJoin.{FanJoin}, Fans.{given_delta, AreRowsTurned as JoinTurned}}, std.proofs.lemmas.Bool.{false_from_ne_true}}
+use Rattle.{std.specs.Map.{keys_of, lookup}, fx_base.proofs.{Orders.{below_or_last}, Sequences.{get-below, get-set_other, get-set_same, one_value}}}
 
 module _ (list : List Fan) (f : ℕ) (old new : Fan) (at : slice_get list f ≡ Some old) where
   pub member_other : (seat : Seat) → (seat.fan ≡ f → ⊥) → member_of (set list f new) (Some seat) ≡ member_of list (Some seat)

@@ -5,8 +5,8 @@ use Rattle.rete_net.proofs.Common.{slice_get_within, option_map, Row, Plain, Pat
 use Rattle.rete_net.proofs.Common.{NetNode, answer_in, left_given, some_answer, IsAnswerPut, half_at, half_of, in_fan, member_at, member_of, seat_at, showing}
 use Rattle.rete_net.proofs.Common.{with_fans, AreFans, AreFanRowsTurned, IsFanLike, IsHalf, IsLaidAs, IsLeft, IsOfSeat, Member, no_change, IsReplaced, true}
 use Rattle.rete_net.proofs.{Common.{false, are_none, Lists, is_listed, has_place, AreWoken}, Showing.{same_lists, shown_at, shown_none}}
-use Rattle.rete_net.{specs.Answers.{given as kept}, proofs.{Siblings.{half_none}, Walking.{equal_or_not}}}
-use Rattle.fx_base.proofs.{Orders.{below_or_last}, Sequences.{get-below, get-set_other, get-set_same, one_value}}
+use Rattle.{rete_net.{specs.Answers.{given as kept}, proofs.{Siblings.{half_none}, Walking.{equal_or_not}}}, fx_base.proofs.Orders.{below_or_last}}
+use Rattle.fx_base.proofs.Sequences.{get-below, get-set_other, get-set_same, one_value}
 
 -- ---- where members stand
 

@@ -7,8 +7,7 @@ use Rattle.rete_net.{proofs.Common.{◌∷◌, true, inl, inr, are_none, Fan, me
 use Rattle.candidate_source.specs.declared.sources.Sources.{Sources}
 use Rattle.rete_net.proofs.Fanning as fanning
 use Rattle.rete_net.proofs.{Fanned.{none_turned}, Fanning.{fans_again, laid_same, member_fits}, Frames.{index_again, net_again, wired_of}}
-use Rattle.rete_net.proofs.Showing.{parent_shown, replaced_back, replaced_shown, shown_at, shown_length}
-use Rattle.fx_base.proofs.Sequences.{get-below}
+use Rattle.{rete_net.proofs.Showing.{parent_shown, replaced_back, replaced_shown, shown_at, shown_length}, fx_base.proofs.Sequences.{get-below}}
 use Rattle.std.proofs.lemmas.Bool.{false_from_ne_true}
 use Rattle.rete_net.proofs.Walking as walking
 

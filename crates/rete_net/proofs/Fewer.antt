@@ -9,12 +9,11 @@ use Rattle.rete_net.proofs.Common.{Bindings, name_of, unbound, of_map, of_filter
 use Rattle.rete_net.proofs.Common.{joined, clean, cleaned, remembered, AlikeOn, unvalued, splits_value, name_decides, from_unvalued, joined_clean, is_result}
 use Rattle.rete_net.proofs.Common.{line, HasAllOf, NameHeld, held, candidates_of, candidate_names, rows_of, held_fact, candidate_of, candidates_named}
 use Rattle.rete_net.proofs.{Common.{filter_among, filter_both, is_other, facts_alike, held_known, joining_alike, snapshot_without}, Advancing.{rows_made}}
-use Rattle.rete_net.proofs.{Advancing.{same_first}, Beside.{held_at}, Chaining.{AreMade}, Cleaning.{line_cleaned}}
-use Rattle.std.proofs.lemmas.Bool.{and_parts, eqb-true, false_from_ne_true, or_parts}
-use Rattle.rule_model.specs.{declared.condition.Accumulate.{Accumulate}, Maturity.{is_mature}, Snapshots.{floor}}
-use Rattle.join_memory.{specs.Valued.{valued}, proofs.Moving.{joins_alike, named_alike}}
-use Rattle.condition_rows.specs.{Lines.{gives, is_ripe}, Sets.{has_partner, partners}}
-use Rattle.fx_base.proofs.Tests.{and_implied, both_ways_absurd, or_and_excluded, or_and_implied}
+use Rattle.{rete_net.proofs.{Advancing.{same_first}, Beside.{held_at}, Chaining.{AreMade}, Cleaning.{line_cleaned}}, std.proofs.lemmas.Bool.{and_parts}}
+use Rattle.{std.proofs.lemmas.Bool.{eqb-true, false_from_ne_true, or_parts}, rule_model.specs.declared.condition.Accumulate.{Accumulate}}
+use Rattle.{rule_model.specs.{Maturity.{is_mature}, Snapshots.{floor}}, join_memory.{specs.Valued.{valued}, proofs.Moving.{joins_alike, named_alike}}}
+use Rattle.{condition_rows.specs.{Lines.{gives, is_ripe}, Sets.{has_partner, partners}}, fx_base.proofs.Tests.{and_implied, both_ways_absurd, or_and_excluded}}
+use Rattle.fx_base.proofs.Tests.{or_and_implied}
 
 -- ---- Booleans and lists
 

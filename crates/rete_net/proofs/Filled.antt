@@ -6,9 +6,7 @@ use Rattle.rete_net.proofs.Common.{Look, IsNameDifference, row_naming, has_name,
 use Rattle.rete_net.proofs.Common.{candidates_of, StandsForArrivals, Arrival, rows_inside, PatternGate, arrival_of, arrivals, GateStands, has_good_window}
 use Rattle.rete_net.proofs.Common.{window_kind_of, IsOrderly, rising, Node, IsLoad, Laden, node_rows, condition_of, NodeStands, held_known, node_moves}
 use Rattle.rete_net.proofs.{Common.{laden_line, found_in, NetNode, is_fact_of_type, IsNodeLoad, NodeLoad, IsFresh}, Starting.{none_made}}
-use Rattle.std.specs.List.Sorted.{IsStrictlySortedBy}
-use Rattle.condition_rows.specs.Sets.{held}
-use Rattle.pattern_gate.proofs.Inside.{rows_named}
+use Rattle.{std.specs.List.Sorted.{IsStrictlySortedBy}, condition_rows.specs.Sets.{held}, pattern_gate.proofs.Inside.{rows_named}}
 use Rattle.beta_node.proofs.Lines.{node_laden, node_shown}
 
 -- ---- facts of one type

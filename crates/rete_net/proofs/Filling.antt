@@ -3,10 +3,9 @@ use Rattle.rete_net.proofs.Common.{◌≡◌, ◌∙◌, sym, ap, refl, subst, i
 use Rattle.rete_net.proofs.Common.{slice_get, IsErrAnd, IsErrOf, filter, set, length-set, In, Fact, Delta, Extra, Row, has, InOrder, Moment, Program, of_filter}
 use Rattle.rete_net.proofs.Common.{in_filter, passed, Look, Answered, Owner, Index, NetNode, answer_in, left_given, some_answer, AreRuled, IsAnswerPut}
 use Rattle.rete_net.{proofs.Common.{is_listed, is_extra_under, AreLoaded, HasRowsOf, IsStuck, has_place, no_change, IsWired}, specs.Answers.{given as kept_or}}
-use Rattle.rete_net.{specs.Loads.{TurnLoads}, proofs.Walking.{equal_or_not}}
-use Rattle.std.proofs.lemmas.Bool.{false_from_ne_true}
-use Rattle.candidate_source.specs.{declared.sources.Sources.{Sources}, Sources.{source_at}}
-use Rattle.fx_base.proofs.{Orders.{below_or_last}, Sequences.{get-set_other, get-set_same, one_value}}
+use Rattle.{rete_net.{specs.Loads.{TurnLoads}, proofs.Walking.{equal_or_not}}, std.proofs.lemmas.Bool.{false_from_ne_true}}
+use Rattle.{candidate_source.specs.{declared.sources.Sources.{Sources}, Sources.{source_at}}, fx_base.proofs.Orders.{below_or_last}}
+use Rattle.fx_base.proofs.Sequences.{get-set_other, get-set_same, one_value}
 
 -- a fault that is passed on is the one that there was
 pub same_fault : {T E : Type 0} (r : Result T E) (e x : E) → IsErrOf r x → IsErrAnd r (λ y. y ≡ e) → e ≡ x

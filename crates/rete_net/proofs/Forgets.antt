@@ -1,8 +1,7 @@
 -- A node of the network forgets, out of what the node of its condition answers.
 use Rattle.rete_net.proofs.Common.{◌≡◌, ◌∙◌, sym, ap, refl, subst, ◌&&◌, not, Bool, true, false, List, Named, Row, has, InOrder, Condition, Program, pattern_of}
 use Rattle.rete_net.proofs.Common.{Snapshot, name_of, Look, clean, cleaned, either, line, HasAllOf, held, GateStands, condition_of, NodeStands, NetNode}
-use Rattle.rete_net.proofs.{Common.{IsForgetting, NodeForgets, NetNodeStands}, Turning.{MoveLaw, held_has}}
-use Rattle.beta_node.specs.Forgetting.{ForgetsIn}
+use Rattle.{rete_net.proofs.{Common.{IsForgetting, NodeForgets, NetNodeStands}, Turning.{MoveLaw, held_has}}, beta_node.specs.Forgetting.{ForgetsIn}}
 use Rattle.fx_base.proofs.Tests.{or_first_false}
 
 pub exactly : (a g o : Bool) → (a ≡ true → g ≡ o) → (g ≡ true → a ≡ true) → g ≡ (a && o)

@@ -2,15 +2,13 @@
 use Rattle.rete_net.proofs.Common.{gathered_tallies, ◌≡◌, ◌∙◌, sym, ap, refl, subst, ℕ, ◌&&◌, not, Bool, true, false, List, [], Some, Named, Row, has, InOrder}
 use Rattle.rete_net.proofs.Common.{Condition, Program, pattern_of, Snapshot, Look, Candidates, Memories, clean, cleaned, either, line, has_left, has_right}
 use Rattle.rete_net.proofs.Common.{has_name, made, joins, held, GateStands, PatternGate, Node, condition_of, NodeStands, node_moves, NetNode, IsForgetting}
-use Rattle.rete_net.proofs.Common.{StandsIn, TurnForgets, AreOld, Value, blocker_tallies}
-use Rattle.std.specs.List.Sorted.{IsStrictlySortedBy}
-use Rattle.fx_base.proofs.Tests.{and_not_self}
-use Rattle.join_tests.specs.{Kept.{row_value}, NameKeys.{name_key}}
-use Rattle.join_memory.{proofs.{Handed.{forgone_handed, handed_joined, keeps_shared, moved_none}, Joining.{joined_alike}}, specs.Handed.{moved}}
-use Rattle.join_memory.specs.{Memories.{KeepsMemories}, Shared.{sharing, ForgoesOld}}
-use Rattle.candidate_source.specs.{declared.source.Source.{Source}, Doors.{source_candidates, source_gate, source_pattern, is_reached}, Sources.{HaveLeftAt}}
-use Rattle.beta_node.{proofs.Lending.{ForgetsFrom, exists_forgets_from, fold_forgets_from, join_forgets_from, not_forgets_from}, specs.Forgetting.{ForgetsIn}}
-use Rattle.beta_node.specs.Lending.{with_candidates, NodeForgoes}
+use Rattle.{rete_net.proofs.Common.{StandsIn, TurnForgets, AreOld, Value, blocker_tallies}, std.specs.List.Sorted.{IsStrictlySortedBy}}
+use Rattle.{fx_base.proofs.Tests.{and_not_self}, join_tests.specs.{Kept.{row_value}, NameKeys.{name_key}}, join_memory.proofs.Handed.{forgone_handed}}
+use Rattle.join_memory.{proofs.{Handed.{handed_joined, keeps_shared, moved_none}, Joining.{joined_alike}}, specs.{Handed.{moved}, Memories.{KeepsMemories}}}
+use Rattle.{join_memory.specs.Shared.{sharing, ForgoesOld}, candidate_source.specs.{declared.source.Source.{Source}, Doors.{source_candidates, source_gate}}}
+use Rattle.{candidate_source.specs.{Doors.{source_pattern, is_reached}, Sources.{HaveLeftAt}}, beta_node.proofs.Lending.{ForgetsFrom, exists_forgets_from}}
+use Rattle.beta_node.{proofs.Lending.{fold_forgets_from, join_forgets_from, not_forgets_from}, specs.{Forgetting.{ForgetsIn}, Lending.{with_candidates}}}
+use Rattle.beta_node.specs.Lending.{NodeForgoes}
 use Rattle.beta_node.specs.declared.node.Node.TheVariants as node
 use Rattle.rete_net.{specs.Lending.{ForgetsAt, IsFoundAnew}, proofs.{Cleaning.{cleaned_either}, Forgets.{exactly, known_still}, Lent.{condition_lent}}}
 use Rattle.rete_net.proofs.{Lent.{lent_alike, lent_kept, lent_last, node_forgoes, value_before}, Reached.{found_still}, Turning.{held_has}}

@@ -2,9 +2,8 @@
 use Rattle.rete_net.proofs.Common.{◌≡◌, ◌∙◌, sym, ap, subst, ℕ, ◌<◌, arith, Bool, true, List, ◌∷◌, ◌++◌, [], length, Option, Some, slice_get, slice_get_within}
 use Rattle.rete_net.proofs.Common.{Fact, Delta, Named, Row, Condition, Program, pattern_of, Look, has_good_window, condition_of, RuleChange, NetNode}
 use Rattle.rete_net.proofs.Common.{ForgotBelow, before, EndsRule, IsNetOf, NetStep, is_listed, IsAskedWhereMeant, IsNodeFound, IsIndexOf, IsReplaced, IsWired}
-use Rattle.rete_net.proofs.Common.{Index, Moment}
-use Rattle.candidate_source.specs.{declared.{source.Source.{Source}, sources.Sources.{Sources}}, Sources.{is_follower}}
-use Rattle.fx_base.proofs.Sequences.{get-below, one_value}
+use Rattle.{rete_net.proofs.Common.{Index, Moment}, candidate_source.specs.declared.{source.Source.{Source}, sources.Sources.{Sources}}}
+use Rattle.{candidate_source.specs.Sources.{is_follower}, fx_base.proofs.Sequences.{get-below, one_value}}
 
 pub stepped_nodes : (p : Program) (look : Look) (gone : List Fact) (come : Option Fact) (moment : Moment) (first : Delta) (was is : ℕ → Option Source) (old new : List NetNode) (ends : List ℕ) (answers : List RuleChange)
     → NetStep p look gone come moment first was is old new ends answers → IsReplaced old new

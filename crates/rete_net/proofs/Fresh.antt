@@ -1,16 +1,12 @@
 -- New nodes stand for no facts with what they take of new sources.
 use Rattle.rete_net.proofs.Common.{◌≡◌, ◌∙◌, sym, ap, refl, subst, ℕ, ◌&&◌, not, Bool, true, false, List, Option, Some, None, slice_get, Named, Row, Condition}
 use Rattle.rete_net.proofs.Common.{Pattern, Program, pattern_of, Look, no_rows, empty_snapshot, GateStands, condition_of, NodeStands, Node, NetNode, IsFresh}
-use Rattle.rete_net.proofs.Common.{StandsIn, Member, showing, shown, taking, Fans, is_some, member_at, shown_nodes, Rete}
-use Rattle.std.proofs.lemmas.Bool.{false≢true}
-use Rattle.join_tests.specs.NameKeys.{name_key}
-use Rattle.condition_rows.specs.Sets.{candidates_of, held}
+use Rattle.{rete_net.proofs.Common.{StandsIn, Member, showing, shown, taking, Fans, is_some, member_at, shown_nodes, Rete}, std.proofs.lemmas.Bool.{false≢true}}
+use Rattle.{join_tests.specs.NameKeys.{name_key}, condition_rows.specs.Sets.{candidates_of, held}}
 use Rattle.join_memory.specs.{declared.{candidates.Candidates.{Candidates}, memories.Memories.{Memories}}, Shared.{sharing}, Standing.{StandsFor}}
-use Rattle.counting_node.specs.Laws.{StandsCounted}
-use Rattle.pattern_gate.{specs.Alike.{TakesAlike}, proofs.Alike.{same_gate}}
+use Rattle.{counting_node.specs.Laws.{StandsCounted}, pattern_gate.{specs.Alike.{TakesAlike}, proofs.Alike.{same_gate}}}
 use Rattle.candidate_source.specs.{declared.{source.Source.{Source}, sources.Sources.{Sources}}, Doors.{source_candidates, source_gate, source_pattern}}
-use Rattle.candidate_source.specs.Sources.{source_at, IsNewSource}
-use Rattle.beta_node.specs.Lending.{with_candidates}
+use Rattle.{candidate_source.specs.Sources.{source_at, IsNewSource}, beta_node.specs.Lending.{with_candidates}}
 use Rattle.beta_node.specs.declared.node.Node.TheVariants as node
 use Rattle.rete_net.{specs.Sources.{AreSources, IsSourced}, proofs.{Lent.{condition_lent}, Showing.{condition_shown, shown_from}}}
 

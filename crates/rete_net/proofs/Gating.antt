@@ -3,8 +3,7 @@ use Rattle.rete_net.proofs.Common.{◌≡◌, ◌∙◌, sym, ap, refl, subst, �
 use Rattle.rete_net.proofs.Common.{IsStrictlySortedBy, nat_cmp, Fact, has, Named, fits, is_within, Snapshot, expiry_of, Pattern, Program, row_naming}
 use Rattle.rete_net.proofs.Common.{candidates_of, StandsForArrivals, Arrival, rows_inside, GateStands, arrival_of, arrivals, window_kind_of, IsOrderly}
 use Rattle.rete_net.proofs.Common.{MovesSnapshot, at_clock, is_meant, is_one_meant, PatternGate, filter_among, meant, same_arrivals, stands_still, IsGateStill}
-use Rattle.rule_model.specs.{Candidates.{is_present}, Types.{is_event}}
-use Rattle.pattern_gate.proofs.Inside.{rows_named}
+use Rattle.{rule_model.specs.{Candidates.{is_present}, Types.{is_event}}, pattern_gate.proofs.Inside.{rows_named}}
 
 -- in a program without types each fact is a plain one, and present at any clock
 abbrev plain : Program

@@ -1,9 +1,7 @@
 -- Facts by their types.
 use Rattle.rete_net.proofs.Common.{◌≡◌, ◌∙◌, sym, ap, refl, inl, inr, ℕ, zero, suc, ◌==◌, arith, append-nil, cond, Bool, true, false, Bor, List, [], ◌∷◌, ◌++◌}
 use Rattle.rete_net.proofs.{Common.{Some, slice_get, Vec, set, nat_tests, Fact, lent, grouped_facts_at, given_facts, is_fact_of_type}, Searched.{lent_more}}
-use Rattle.rete_net.proofs.Walking.{equal_or_not}
-use Rattle.std.proofs.lemmas.Bool.{eq-eqb}
-use Rattle.fx_base.proofs.Sequences.{get-set_other, get-set_same}
+use Rattle.{rete_net.proofs.Walking.{equal_or_not}, std.proofs.lemmas.Bool.{eq-eqb}, fx_base.proofs.Sequences.{get-set_other, get-set_same}}
 
 -- an empty list more is none
 pub one_empty : (groups : List (Vec (Bor Fact))) (list : Vec (Bor Fact)) (ty : ℕ) → list.items ≡ [] → grouped_facts_at (groups ++ list ∷ []) ty ≡ grouped_facts_at groups ty

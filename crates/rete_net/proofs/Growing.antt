@@ -3,8 +3,7 @@ use Rattle.rete_net.proofs.Common.{◌≡◌, ◌∙◌, sym, ap, refl, subst, �
 use Rattle.rete_net.proofs.Common.{get_or, length-append, Option, Some, None, slice_get, ◌⊎◌, inl, inr, take-append_seam, nat_tests, take-append-le, take_more}
 use Rattle.rete_net.proofs.Common.{slice_get_within, slice_get-get_or, list_all, unwrap_or, In, Condition, Program, Rule, pattern_of, has_good_window}
 use Rattle.rete_net.proofs.Common.{condition_of, Origin, NetNode, IsFresh, IsRuleFront, has_window, IsParentNode, IsBehindParent, AreBuilt, HaveEnds}
-use Rattle.rete_net.{proofs.Common.{AreDistinctFronts, AreGrown}, specs.Building.{IsOfOrigin}}
-use Rattle.std.proofs.lemmas.Bool.{and_parts}
+use Rattle.{rete_net.{proofs.Common.{AreDistinctFronts, AreGrown}, specs.Building.{IsOfOrigin}}, std.proofs.lemmas.Bool.{and_parts}}
 use Rattle.fx_base.proofs.{Orders.{below_or_last}, Sequences.{get-append_left, get-below, get-last, one_value}}
 
 -- ---- lists with one element more

@@ -2,15 +2,11 @@
 use Rattle.rete_net.proofs.Common.{◌≡◌, ◌∙◌, sym, ap, refl, subst, ◌&&◌, not, Bool, true, false, List, [], Option, Some, Fact, Delta, Named, Row, has, Plain}
 use Rattle.rete_net.proofs.Common.{Pattern, Moment, Program, pattern_of, Snapshot, Look, Candidates, beside, has_left, has_right, candidates_of, NetNode}
 use Rattle.rete_net.proofs.Common.{HasNoOld, NodeForgets, Fan, Seat, member_of, showing, IsHalf, IsHalfTurned, IsOfSeat, Member, no_change, NodeStep}
-use Rattle.rete_net.proofs.Common.{condition_of, is_negated, node_moves}
-use Rattle.std.proofs.Math.Bool.{or-false}
-use Rattle.join_memory.specs.{declared.left_rows.LeftRows.{LeftRows}, Memories.{KeepsMemories}}
-use Rattle.beta_node.specs.Forgetting.{ForgetsIn}
+use Rattle.{rete_net.proofs.Common.{condition_of, is_negated, node_moves}, std.proofs.Math.Bool.{or-false}}
+use Rattle.{join_memory.specs.{declared.left_rows.LeftRows.{LeftRows}, Memories.{KeepsMemories}}, beta_node.specs.Forgetting.{ForgetsIn}}
 use Rattle.beta_node.specs.declared.node.Node.TheVariants as node
-use Rattle.beta_node.proofs.Forgetting.{join_forgot}
-use Rattle.rete_net.proofs.{Forgets.{node_forgets}, Lone.{alone_gate, IsAlone}, Siblings.{as_node, own_join, shown_is, still_steps, whole_half}}
-use Rattle.rete_net.proofs.Sparing.{none_old}
-use Rattle.fx_base.proofs.Tests.{and_not_excluded}
+use Rattle.{beta_node.proofs.Forgetting.{join_forgot}, rete_net.proofs.{Forgets.{node_forgets}, Lone.{alone_gate, IsAlone}, Siblings.{as_node, own_join}}}
+use Rattle.{rete_net.proofs.{Siblings.{shown_is, still_steps, whole_half}, Sparing.{none_old}}, fx_base.proofs.Tests.{and_not_excluded}}
 
 -- in a step
 pub idle_steps : (p : Program) (look : Look) (gone : List Fact) (come : Option Fact) (moment : Moment) (first : Delta) (n : NetNode) (was : Option Member) (fans : List Fan) (seat : Seat) (left : Delta)

@@ -4,8 +4,7 @@ use Rattle.rete_net.proofs.Common.{Condition, Plain, Pattern, NetNode, condition
 use Rattle.rete_net.specs.{declared.alike.SourceKey.{SourceKey}, Sources.{AreSources}, Sourcing.{bare, AreAlike, AreSourcesBelow, IsKeyOf, IsNodePut}}
 use Rattle.candidate_source.specs.{declared.{source.Source.{Source}, sources.Sources.{Sources}}, Doors.{listed_source, node_count, source_pattern}}
 use Rattle.candidate_source.{specs.Sources.{source_at, AreApart, IsNewSource}, proofs.{Growing.{lead_at, of_listed, one_more, put_at}, Moving.{place_within}}}
-use Rattle.fx_base.proofs.Sequences.{one_value}
-use Rattle.join_tests.specs.NameKeys.{name_key}
+use Rattle.{fx_base.proofs.Sequences.{one_value}, join_tests.specs.NameKeys.{name_key}}
 
 plain_of : (p q : Pattern) → Plain p ≡ Plain q → p ≡ q
 plain_of p q e = cc

@@ -3,8 +3,7 @@ use Rattle.rete_net.proofs.Common.{◌≡◌, ◌∙◌, sym, ap, refl, subst, �
 use Rattle.rete_net.proofs.Common.{Fact, Delta, Extra, Row, has, InOrder, Moment, Program, Look, condition_of, Answered, Owner, Fans, Seat, Index, NetNode}
 use Rattle.rete_net.proofs.Common.{left_given, some_answer, IsAnswerPut, half_at, half_of, member_at, seat_at, showing, with_fans, AreFans, AreFanRowsTurned}
 use Rattle.rete_net.proofs.Common.{IsHalf, IsLaidAs, IsLeft, IsOfSeat, Member, is_extra_under, AreLoaded, IsStuck, no_change, IsReplaced, IsWired}
-use Rattle.rete_net.specs.{Lending.{IsSameFor}, Loads.{TurnLoads}}
-use Rattle.candidate_source.specs.{declared.sources.Sources.{Sources}, Sources.{source_at}}
+use Rattle.{rete_net.specs.{Lending.{IsSameFor}, Loads.{TurnLoads}}, candidate_source.specs.{declared.sources.Sources.{Sources}, Sources.{source_at}}}
 use Rattle.rete_net.proofs.Fanning as fanning
 use Rattle.rete_net.proofs.{Fanning.{member_fits}, Fanwise.{wired_again}}
 use Rattle.rete_net.proofs.Filling as filling

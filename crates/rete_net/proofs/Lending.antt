@@ -3,14 +3,12 @@ use Rattle.rete_net.proofs.Common.{◌≡◌, ◌∙◌, sym, ap, refl, subst, �
 use Rattle.rete_net.proofs.Common.{Condition, Pattern, Moment, Program, IsAt, pattern_of, Snapshot, Look, Candidates, IsNameDifference, cleaned, held}
 use Rattle.rete_net.proofs.Common.{candidates_of, line, GateStands, PatternGate, condition_of, NodeStands, IsConditionTurn, node_moves, NetNode, IsNodeTurn}
 use Rattle.rete_net.proofs.{Common.{StandsIn, TurnStep}, Lent.{condition_lent, lent_alike, lent_kept, lent_value, node_takes, value_before}}
-use Rattle.rete_net.specs.Lending.{IsFoundAnew, TurnsAt}
-use Rattle.join_tests.specs.{Kept.{row_value}, NameKeys.{name_key}}
-use Rattle.pattern_gate.{specs.Alike.{TakesAlike}, proofs.Alike.{same_candidates, same_gate, same_window}}
-use Rattle.candidate_source.specs.{declared.source.Source.{Source}, Doors.{source_candidates, source_gate, source_pattern, is_reached}, Sources.{HasTurnedAt}}
+use Rattle.{rete_net.specs.Lending.{IsFoundAnew, TurnsAt}, join_tests.specs.{Kept.{row_value}, NameKeys.{name_key}}, pattern_gate.specs.Alike.{TakesAlike}}
+use Rattle.{pattern_gate.proofs.Alike.{same_candidates, same_gate, same_window}, candidate_source.specs.declared.source.Source.{Source}}
+use Rattle.candidate_source.specs.{Doors.{source_candidates, source_gate, source_pattern, is_reached}, Sources.{HasTurnedAt}}
 use Rattle.beta_node.specs.Lending.{with_candidates, NodeTakes}
 use Rattle.rete_net.proofs.Turning as turning
-use Rattle.rete_net.proofs.Turning.{held_has}
-use Rattle.fx_base.specs.declared.value.Value.{Value}
+use Rattle.{rete_net.proofs.Turning.{held_has}, fx_base.specs.declared.value.Value.{Value}}
 
 -- a row that is behind a step was there before it, or came
 came_or_was : (is was came : Bool) → came ≡ (is && not was) → is ≡ true → was ≡ false → came ≡ true

@@ -1,14 +1,11 @@
 -- A node stands by the rows and the candidates that it keeps, each where it is looked up; so a source knows where to find it.
 use Rattle.rete_net.proofs.Common.{gathered_tallies, ◌≡◌, ◌∙◌, sym, ap, refl, subst, ℕ, true, Bool, List, Named, Row, Look, Program, Snapshot, Memories}
 use Rattle.rete_net.proofs.Common.{Candidates, Pattern, StandsFor, has_left, cleaned, Node, condition_of, pattern_of, NodeStands, has_name, blocker_tallies}
-use Rattle.rete_net.proofs.Common.{Value}
-use Rattle.fx_base.specs.SameValues.{equal_values}
-use Rattle.join_tests.specs.{Kept.{row_value}, NameKeys.{name_key}}
-use Rattle.not_node.specs.Doors.{with_tallies}
-use Rattle.join_memory.specs.Shared.{sharing, TakesOver, ForgoesOld}
+use Rattle.{rete_net.proofs.Common.{Value}, fx_base.specs.SameValues.{equal_values}, join_tests.specs.{Kept.{row_value}, NameKeys.{name_key}}}
+use Rattle.{not_node.specs.Doors.{with_tallies}, join_memory.specs.Shared.{sharing, TakesOver, ForgoesOld}}
 use Rattle.candidate_source.specs.{declared.source.Source.{Source}, Doors.{source_candidates, source_pattern, is_reached}, Sources.{HasTurnedAt, HaveLeftAt}}
-use Rattle.candidate_source.proofs.Sharing.{turn_at_law, forget_at_law}
-use Rattle.beta_node.specs.Lending.{candidates_in, with_candidates, stands_under, node_keeps_under, node_value, NodeTakes, NodeForgoes}
+use Rattle.{candidate_source.proofs.Sharing.{turn_at_law, forget_at_law}, beta_node.specs.Lending.{candidates_in, with_candidates, stands_under}}
+use Rattle.beta_node.specs.Lending.{node_keeps_under, node_value, NodeTakes, NodeForgoes}
 use Rattle.beta_node.specs.declared.node.Node.TheVariants as node
 
 -- the value under which a row before the node is kept

@@ -1,8 +1,6 @@
 -- Lists of places by number: what they have stays where more is put.
 use Rattle.rete_net.proofs.Common.{◌≡◌, ◌∙◌, sym, ap, ℕ, zero, suc, arith, ◌||◌, Bool, true, false, List, [], ◌∷◌, ◌++◌, Some, None, slice_get, nat_eq, set}
-use Rattle.rete_net.proofs.Common.{Vec, list_any, items_of}
-use Rattle.std.proofs.lemmas.Bool.{or_right}
-use Rattle.fx_base.proofs.Tests.{or_weaker}
+use Rattle.{rete_net.proofs.Common.{Vec, list_any, items_of}, std.proofs.lemmas.Bool.{or_right}, fx_base.proofs.Tests.{or_weaker}}
 
 any_left : {A : Type 0} (p : A → Bool) (xs ys : List A) → list_any p xs ≡ true → list_any p (xs ++ ys) ≡ true
 any_left p [] ys h = absurd (let no : false ≡ true = h in cc)

@@ -1,9 +1,7 @@
 -- The rules of which rows are dropped are listed, one after the other.
 use Rattle.rete_net.proofs.Common.{◌≡◌, ◌∙◌, sym, ap, refl, ℕ, suc, ◌+◌, ◌<◌, ◌≤◌, ◌==◌, false, cond, arith, List, [], ◌∷◌, ◌++◌, length, Some, slice_get, ◌⊎◌}
 use Rattle.rete_net.proofs.Common.{inl, inr, slice_get_within, Row, RuleRows, rows_for, with_rows, AreListed, Answered, given, answer_in, AreRuled, has_place}
-use Rattle.rete_net.proofs.Growing.{each_more}
-use Rattle.std.proofs.lemmas.Bool.{eq-eqb, ne_eqb}
-use Rattle.fx_base.proofs.{Orders.{below_or_last}, Sequences.{one_value}}
+use Rattle.{rete_net.proofs.Growing.{each_more}, std.proofs.lemmas.Bool.{eq-eqb, ne_eqb}, fx_base.proofs.{Orders.{below_or_last}, Sequences.{one_value}}}
 
 below_or_from : (k i : ℕ) → (k < i) ⊎ (i ≤ k)
 below_or_from k i = grind arith

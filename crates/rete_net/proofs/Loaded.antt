@@ -5,10 +5,8 @@ use Rattle.rete_net.proofs.Common.{row_cmp, InOrder, Condition, Moment, Program,
 use Rattle.rete_net.proofs.Common.{condition_of, IsFirstWith, extra_at, laden_line, laden_with, Answered, Owner, NetNode, answer_in, left_given, IsLoadable}
 use Rattle.rete_net.proofs.Common.{is_extra_under, AreLoaded, IsNodeLoad, IsOwned, before, IsNetOf, IsFresh, empty_row_comes, taking, has_good_window}
 use Rattle.rete_net.proofs.{Common.{pattern_of}, Counting.{longer}, Growing.{parted}, Searched.{extra_of_owner, rows_in_order}}
-use Rattle.rete_net.{specs.Owners.{AreNodeOwners as HaveOwners}, proofs.Stillness.{condition_taking}}
-use Rattle.candidate_source.specs.declared.source.Source.{Source}
-use Rattle.std.specs.List.Sorted.{IsStrictlySortedBy}
-use Rattle.laden_rows.{specs.Laden.{AreOwners, laden}, proofs.Naming.{laden_named}}
+use Rattle.{rete_net.{specs.Owners.{AreNodeOwners as HaveOwners}, proofs.Stillness.{condition_taking}}, candidate_source.specs.declared.source.Source.{Source}}
+use Rattle.{std.specs.List.Sorted.{IsStrictlySortedBy}, laden_rows.{specs.Laden.{AreOwners, laden}, proofs.Naming.{laden_named}}}
 use Rattle.fx_base.proofs.Sequences.{get-below}
 
 -- rules that are the first ones with the same first conditions are the same

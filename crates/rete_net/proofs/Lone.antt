@@ -5,14 +5,11 @@ use Rattle.rete_net.proofs.Common.{Length, Look, KeepsWindow, window_kept, windo
 use Rattle.rete_net.proofs.Common.{window_kind_of, is_one_meant, PatternGate, same_arrivals, stands_still, same_candidates, Node, condition_of, is_negated}
 use Rattle.rete_net.proofs.Common.{Stays, TellsNothing, join_still, join_tells_nothing, exists_still, exists_tells_nothing, fold_still, fold_tells_nothing}
 use Rattle.rete_net.proofs.Common.{not_still, not_tells_nothing, NetNode, is_changed_by_clock, IsGateStill, IsStillAt, no_change, NodeStep, blocking_pattern}
-use Rattle.rete_net.proofs.Common.{Gate}
-use Rattle.not_node.specs.{Doors.{awaited_entry}, declared.node.NotNode.{NotNode}}
+use Rattle.{rete_net.proofs.Common.{Gate}, not_node.specs.{Doors.{awaited_entry}, declared.node.NotNode.{NotNode}}}
 use Rattle.window_gate.specs.declared.change.WindowKind.{WindowKind}
 use Rattle.window_gate.specs.declared.gate.Kept.TheVariants as kept
 use Rattle.beta_node.specs.declared.node.Node.TheVariants as node
-use Rattle.beta_node.proofs.Turning.{floor_told}
-use Rattle.rete_net.proofs.Skipping.{GateStays, skipped}
-use Rattle.fx_base.proofs.Tests.{or_first_false}
+use Rattle.{beta_node.proofs.Turning.{floor_told}, rete_net.proofs.Skipping.{GateStays, skipped}, fx_base.proofs.Tests.{or_first_false}}
 
 pub neither_right : (a b : Bool) → (a || not b) ≡ false → b ≡ true
 neither_right true b e = absurd (let no : true ≡ false = e in cc)

@@ -2,8 +2,8 @@
 use Rattle.rete_net.proofs.Common.{◌≡◌, ◌∙◌, ◌⊎◌, inl, inr, sym, ap, refl, subst, ℕ, zero, suc, ◌+◌, ◌<◌, ◌≤◌, arith, List, [], ◌∷◌, ◌++◌, length, take}
 use Rattle.rete_net.proofs.Common.{length-append, Some, None, slice_get, Ordering, Less, AllByRecursion, nat_cmp, ordering_then, nat_tests, slice_get_within}
 use Rattle.rete_net.proofs.{Common.{Vec, In, Condition, Program, Rule, Owner, IsOwned, AreNodeOwners, owner_cmp, AreOwnedSoFar, PutsOwner}, Growing.{each_more}}
-use Rattle.std.{specs.List.Sorted.{IsStrictlySortedBy}, proofs.lemmas.List.{append-nil}}
-use Rattle.fx_base.proofs.{Orders.{below_or_last, lt-nat_cmp}, Sequences.{In-append, get-append_left, get-last}}
+use Rattle.{std.{specs.List.Sorted.{IsStrictlySortedBy}, proofs.lemmas.List.{append-nil}}, fx_base.proofs.Orders.{below_or_last, lt-nat_cmp}}
+use Rattle.fx_base.proofs.Sequences.{In-append, get-append_left, get-last}
 
 -- ---- lists
 

@@ -2,13 +2,11 @@
 use Rattle.rete_net.proofs.Common.{◌≡◌, sym, refl, subst, ℕ, ℤ, Bool, true, false, List, [], Option, Some, Fact, Delta, Row, IsDifference, changes_nothing}
 use Rattle.rete_net.proofs.Common.{fun_ext, Condition, Moment, Program, IsAt, pattern_of, Snapshot, snapshot_at, floor, Look, Candidates, cleaned, line, Node}
 use Rattle.rete_net.proofs.Common.{condition_of, NodeStands, IsConditionTurn, NetNode, IsStillAt, no_change, Value, blocking_pattern, TurnStep}
-use Rattle.join_tests.specs.NameKeys.{name_key}
-use Rattle.not_node.specs.{Doors.{awaited_entry}, declared.node.NotNode.{NotNode}}
-use Rattle.pattern_gate.specs.Alike.{TakesAlike}
-use Rattle.candidate_source.specs.{declared.source.Source.{Source}, Doors.{source_candidates, source_pattern, is_reached}}
-use Rattle.beta_node.proofs.{Lending.{exists_with, fold_with, join_with, not_with}, Turning.{floor_told}, Untouched.{StaysUntouched, TellsUntouched}}
-use Rattle.beta_node.proofs.Untouched.{exists_tells_untouched, exists_untouched, fold_tells_untouched, fold_untouched, join_tells_untouched, join_untouched}
-use Rattle.beta_node.{proofs.Untouched.{not_tells_untouched, not_untouched}, specs.Lending.{with_candidates}}
+use Rattle.{join_tests.specs.NameKeys.{name_key}, not_node.specs.{Doors.{awaited_entry}, declared.node.NotNode.{NotNode}}}
+use Rattle.{pattern_gate.specs.Alike.{TakesAlike}, candidate_source.specs.{declared.source.Source.{Source}, Doors.{source_candidates, source_pattern}}}
+use Rattle.{candidate_source.specs.Doors.{is_reached}, beta_node.proofs.{Lending.{exists_with, fold_with, join_with, not_with}, Turning.{floor_told}}}
+use Rattle.beta_node.proofs.Untouched.{StaysUntouched, TellsUntouched, exists_tells_untouched, exists_untouched, fold_tells_untouched, fold_untouched}
+use Rattle.beta_node.{proofs.Untouched.{join_tells_untouched, join_untouched, not_tells_untouched, not_untouched}, specs.Lending.{with_candidates}}
 use Rattle.beta_node.specs.declared.node.Node.TheVariants as node
 use Rattle.rete_net.{specs.Lending.{IsFoundAnew, TurnsAt}, proofs.{Fanned.{none_of}, Lending.{turn_step}, Lent.{condition_lent, lent_last}}}
 use Rattle.rete_net.proofs.Skipping.{no_difference}

@@ -1,9 +1,8 @@
 -- Sets of places: what is put, and which comes first.
 use Rattle.rete_net.proofs.Common.{◌≡◌, ◌∙◌, sym, ap, refl, subst, ℕ, ◌+◌, ◌<◌, ◌≤◌, ◌==◌, ◌||◌, Bool, true, false, cond, List, [], ◌∷◌, take, length, get_or}
 use Rattle.rete_net.proofs.Common.{arith, nat_eq, slice_get, list_any, nat_cmp, eq_by_cmp, is_gt, or-true, nat_tests, Decides-eqb, Index, AreDue, is_in}
-use Rattle.rete_net.proofs.Common.{is_listed, items_of, has_place}
-use Rattle.std.{proofs.Math.Bool.{or_assoc}, specs.{Prelude.{IfSome}, declared.ops.Bound.TheVariants.{Included, Unbounded}, BTreeSet.{BTreeSet, IsKeyRangeOf}}}
-use Rattle.std.proofs.lemmas.List.Folds.{list_any_more}
+use Rattle.{rete_net.proofs.Common.{is_listed, items_of, has_place}, std.{proofs.Math.Bool.{or_assoc}, specs.Prelude.{IfSome}}}
+use Rattle.std.{specs.{declared.ops.Bound.TheVariants.{Included, Unbounded}, BTreeSet.{BTreeSet, IsKeyRangeOf}}, proofs.lemmas.List.Folds.{list_any_more}}
 use Rattle.fx_base.proofs.{Orders.{eq_by_nat_cmp-turned}, Tests.{cond_true_first}}
 
 pub put_more : (k : ℕ) (places : List ℕ) (i : ℕ) (old mid now : Bool) → i < length places → mid ≡ (old || list_any (nat_eq k) (take i places))

@@ -3,8 +3,7 @@ use Rattle.rete_net.proofs.Common.{◌≡◌, ◌∙◌, sym, ap, refl, subst, �
 use Rattle.rete_net.proofs.Common.{None, slice_get, fun_ext, ≤ℤ_refl, slice_get_within, slice_get-get_or, Named, Row, Condition, Program, pattern_of, Snapshot}
 use Rattle.rete_net.proofs.Common.{cleaned, line, rows_of, IsOrderly, at_clock, condition_of, IsBefore, shown_nodes, Rete, NetNode, HaveSameFronts, NodesStand}
 use Rattle.rete_net.proofs.{Common.{NetStands, StaysAt, AreQuiet, before}, Advancing.{same_first, rows_made}, Chaining.{AreMade}, Cleaning.{line_cleaned}}
-use Rattle.rete_net.proofs.{Stillness.{stays_taking}, Turning.{rising}}
-use Rattle.candidate_source.specs.Sources.{source_at}
+use Rattle.{rete_net.proofs.{Stillness.{stays_taking}, Turning.{rising}}, candidate_source.specs.Sources.{source_at}}
 
 -- ---- all nodes
 

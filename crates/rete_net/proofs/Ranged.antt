@@ -3,11 +3,10 @@ use Rattle.rete_net.proofs.Common.{◌≡◌, ◌∙◌, sym, ap, subst, refl, �
 use Rattle.rete_net.proofs.Common.{FitsSigned, w64, arith, ints, nat_tests, nat_eq, slice_get, set, Fact, is_in, is_listed, take, get_or, unbound, length}
 use Rattle.rete_net.proofs.Common.{tests_hold, Lists, Pattern, is_meant, inl, inr, and_parts, Value, Int, is_found, compare_holds, compares_hold, AreWithin}
 use Rattle.rete_net.{proofs.Common.{IsInRange, FieldRanges}, specs.{Bounds.{HasValue, IsWithin}, Indexes.{IsLookedUp}, Selectors.{choices_hold}}}
-use Rattle.rete_net.specs.declared.{alpha_index.AlphaIndex.{AlphaIndex}, bounds.FieldRange.{FieldRange}, ranges.Ranges.{Ranges}}
-use Rattle.std.{specs.{Int.{int_max, int_min}, Prelude.{int_le}}, proofs.lemmas.List.Folds.{list_all_more}}
-use Rattle.fx_base.{proofs.Sequences.{get-set_other, get-set_same}, specs.declared.value.Value.TheVariants.{Bool as Flag, Text}}
-use Rattle.range_index.specs.{Ranges.{has_number}, declared.placed.PlacedRange.{PlacedRange}}
-use Rattle.rule_model.specs.{Tests.{test_holds}, declared.test.{Compare.{Compare}, Test.{Test}}}
+use Rattle.{rete_net.specs.declared.{alpha_index.AlphaIndex.{AlphaIndex}, bounds.FieldRange.{FieldRange}, ranges.Ranges.{Ranges}}, std.specs.Int.{int_max}}
+use Rattle.{std.{specs.{Int.{int_min}, Prelude.{int_le}}, proofs.lemmas.List.Folds.{list_all_more}}, fx_base.proofs.Sequences.{get-set_other, get-set_same}}
+use Rattle.{fx_base.specs.declared.value.Value.TheVariants.{Bool as Flag, Text}, range_index.specs.Ranges.{has_number}}
+use Rattle.{range_index.specs.declared.placed.PlacedRange.{PlacedRange}, rule_model.specs.{Tests.{test_holds}, declared.test.{Compare.{Compare}, Test.{Test}}}}
 
 -- ---- what passes tests is within
 

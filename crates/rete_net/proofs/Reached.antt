@@ -1,11 +1,9 @@
 -- A node is found in its source under the values of the rows that it keeps.
 use Rattle.rete_net.proofs.Common.{◌≡◌, ◌∙◌, sym, ap, refl, subst, ℕ, ◌<◌, ◌+◌, ◌&&◌, ◌||◌, not, Bool, true, false, List, [], length, take, get_or, eq_by_cmp}
-use Rattle.rete_net.{proofs.Common.{nat_cmp, Row, row_cmp, row_decides, Look, Node, Value}, specs.Lending.{IsFoundAnew}}
-use Rattle.fan_join.proofs.Reaches.{among_more}
+use Rattle.{rete_net.{proofs.Common.{nat_cmp, Row, row_cmp, row_decides, Look, Node, Value}, specs.Lending.{IsFoundAnew}}, fan_join.proofs.Reaches.{among_more}}
 use Rattle.fx_base.{proofs.Orders.{eq_by_nat_cmp-self, eq_by_nat_cmp-true}, specs.{SameValues.{equal_values, same_itself}, Values.{same_value}}}
-use Rattle.std.proofs.lemmas.Bool.{and_from, false_from_ne_true}
-use Rattle.candidate_source.specs.{declared.source.Source.{Source}, Doors.{source_candidates, source_gate, is_reached}}
-use Rattle.beta_node.specs.Lending.{node_keeps_under, node_value}
+use Rattle.{std.proofs.lemmas.Bool.{and_from, false_from_ne_true}, candidate_source.specs.{declared.source.Source.{Source}, Doors.{source_candidates}}}
+use Rattle.{candidate_source.specs.Doors.{source_gate, is_reached}, beta_node.specs.Lending.{node_keeps_under, node_value}}
 
 -- nothing has changed
 pub found_still : (n : Node) (look : Look) (k : ℕ) (source : Source) → IsFoundAnew n look k [] source source

@@ -2,11 +2,9 @@
 use Rattle.rete_net.proofs.Common.{◌≡◌, ◌∙◌, sym, ap, refl, subst, inl, inr, ◌⊎◌, ℕ, zero, suc, ℤ, ◌+◌, ◌<◌, ◌≤◌, ◌==◌, Bool, true, false, arith, List, Option}
 use Rattle.rete_net.proofs.Common.{Some, None, IfSome, slice_get, set, Program, IsBefore, NetNode, Schedule, has_place, is_changed_by_clock, IsGateStill}
 use Rattle.rete_net.{proofs.{Common.{IsScheduled, PatternGate, Decides-eqb}, Sourced.{by_both}}, specs.{Lending.{IsSameFor}, Schedules.{gate_told, timed_gate}}}
-use Rattle.rete_net.proofs.Walking.{equal_or_not}
-use Rattle.candidate_source.specs.{declared.{source.Source.{Source}, sources.Sources.{Sources}}, Sources.{is_lead, is_led, is_this, lead_of, source_at}}
-use Rattle.candidate_source.{specs.Sources.{AreApart, AreLaidAs}, proofs.Moving.{lead_alike}}
-use Rattle.std.proofs.Math.Nat.{eq-or-lt_of_le}
-use Rattle.fx_base.proofs.{Orders.{below_or_last}, Sequences.{get-set_other, get-set_same, one_value}}
+use Rattle.{rete_net.proofs.Walking.{equal_or_not}, candidate_source.specs.{declared.{source.Source.{Source}, sources.Sources.{Sources}}, Sources.{is_lead}}}
+use Rattle.candidate_source.{specs.Sources.{is_led, is_this, lead_of, source_at, AreApart, AreLaidAs}, proofs.Moving.{lead_alike}}
+use Rattle.{std.proofs.Math.Nat.{eq-or-lt_of_le}, fx_base.proofs.{Orders.{below_or_last}, Sequences.{get-set_other, get-set_same, one_value}}}
 
 -- a node stands under its moments by other sources that have the same gate for it
 by_gate : (p : Program) (old new : Sources) (schedule : Schedule) (k : ℕ) (n : NetNode) → gate_told new k n ≡ gate_told old k n → IsScheduled p old schedule k n → IsScheduled p new schedule k n

@@ -8,17 +8,14 @@ use Rattle.rete_net.proofs.Common.{extra_at, laden, extra_values_of, extra_count
 use Rattle.rete_net.proofs.Common.{left_given, IsLoadable, IsIndexOf, is_extra_under, AreLoaded, IsNodeLoad, NetStands, IsOwned, AreQuiet, AreScheduled, before}
 use Rattle.rete_net.proofs.Common.{IsNetOf, IsFresh, empty_row_comes, IsReplaced, AreSources, NodeStands, Row, Value, has, StandsIn, IsFound, answer_in, taking}
 use Rattle.candidate_source.specs.{declared.source.Source.{Source}, Doors.{source_candidates, is_reached}, Sources.{is_other, source_at, AreLaidAs}}
-use Rattle.candidate_source.proofs.Moving.{lead_alike}
-use Rattle.std.proofs.lemmas.Bool.{eqb-true}
+use Rattle.{candidate_source.proofs.Moving.{lead_alike}, std.proofs.lemmas.Bool.{eqb-true}}
 use Rattle.rule_model.specs.declared.condition.WindowTag.TheVariants as tag
-use Rattle.condition_rows.specs.Sets.{held}
-use Rattle.beta_node.proofs.Resuming.{resumes_law}
-use Rattle.laden_rows.{specs.Laden.{AreOwners}, proofs.{Kept.{candidates_kept, known}, Rows.{laden_rows}}}
-use Rattle.pattern_gate.{specs.Fronts.{IsLetBe, HasInFront}, proofs.Fronts.{gate_of_all}}
+use Rattle.{condition_rows.specs.Sets.{held}, beta_node.proofs.Resuming.{resumes_law}, laden_rows.{specs.Laden.{AreOwners}, proofs.Kept.{candidates_kept}}}
+use Rattle.{laden_rows.proofs.{Kept.{known}, Rows.{laden_rows}}, pattern_gate.{specs.Fronts.{IsLetBe, HasInFront}, proofs.Fronts.{gate_of_all}}}
 use Rattle.rete_net.{specs.{Loading.{IsBehind}, Loads.{IsFoundUnder, TurnLoads}, Owners.{AreNodeOwners as HaveOwners}}, proofs.Counted.{fronts_within}}
 use Rattle.rete_net.proofs.{Counting.{aside_of}, Frames.{index_again, net_again}, Lent.{lent_alike, lent_value}, Owning.{owned_again}, Quieting.{seen_now}}
-use Rattle.rete_net.proofs.{Stillness.{condition_taking}, Loaded.{answered, extras_at, load_at, owner_there, parts}}
-use Rattle.fx_base.proofs.Sequences.{get-below, one_value}
+use Rattle.{rete_net.proofs.{Stillness.{condition_taking}, Loaded.{answered, extras_at, load_at, owner_there, parts}}, fx_base.proofs.Sequences.{get-below}}
+use Rattle.fx_base.proofs.Sequences.{one_value}
 
 -- ---- owners
 

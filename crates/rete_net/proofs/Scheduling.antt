@@ -4,8 +4,7 @@ use Rattle.rete_net.proofs.Common.{set, ints, IfSome, Row, Moment, Program, snap
 use Rattle.rete_net.{proofs.Common.{entry_point_of, IsScheduled, IsUndue, IsFrom, IsSet, PatternGate}, specs.Schedules.{gate_told, timed_gate}}
 use Rattle.candidate_source.specs.{declared.{source.Source.{Source}, sources.Sources.{Sources}}, Doors.{source_gate}, Sources.{is_lead, source_at}}
 use Rattle.not_node.specs.Waiting as waiting
-use Rattle.rete_net.proofs.Walking.{equal_or_not}
-use Rattle.fx_base.proofs.{Orders.{int_lt-le as at_floor}, Sequences.{get-set_other, get-set_same, one_value}}
+use Rattle.{rete_net.proofs.Walking.{equal_or_not}, fx_base.proofs.{Orders.{int_lt-le as at_floor}, Sequences.{get-set_other, get-set_same, one_value}}}
 
 pub if_some : {A : Type 0} {P Q : A → Type 0} (o : Option A) → ((x : A) → P x → Q x) → IfSome o P → IfSome o Q
 if_some None weaker is = is

@@ -4,8 +4,8 @@ use Rattle.rete_net.proofs.Common.{get_or, length, take, drop, Bool, true, false
 use Rattle.rete_net.proofs.Common.{AllByRecursion, filter, find, IsNonDecreasingBy, IsPartitionPoint, IsSortedBy, eq_by_cmp, is_eq, nat_cmp, ordering_index}
 use Rattle.rete_net.proofs.Common.{ordering_reverse, ordering_then, nat_tests, fun_ext, and_assoc, take_more, In, Fact, Extra, Row, row_exact, row_total}
 use Rattle.rete_net.proofs.Common.{same_equiv, has, InOrder, row_cmp, has_in, in_has, extra_for, rows_of_extras, extra_cmp, extra_at, Owner, comes_before}
-use Rattle.rete_net.proofs.{Common.{is_extra_under, lent}, Counting.{sorted_at}}
-use Rattle.std.{specs.List.Sorted.{IsStrictlySortedBy}, proofs.lemmas.List.Sorted.{searchable_from_sorted}}
+use Rattle.{rete_net.proofs.{Common.{is_extra_under, lent}, Counting.{sorted_at}}, std.specs.List.Sorted.{IsStrictlySortedBy}}
+use Rattle.std.proofs.lemmas.List.Sorted.{searchable_from_sorted}
 
 -- ---- a search for an owner
 

@@ -6,8 +6,7 @@ use Rattle.rete_net.proofs.Common.{empty_snapshot, held, GateStands, has_good_wi
 use Rattle.rete_net.proofs.Common.{NetNode, AreBuilt, IsBehindParent, IsParentNode, given_seat, in_fan, member_at, member_of, seat_at, showing, with_fans}
 use Rattle.rete_net.proofs.Common.{AreEmpty, AreFans, IsSeat, Member, AreGrowing, GrowsTo, IsFanPut, IsNewFan, IsFresh, IsReached, AreLoneFound, AreFansBelow}
 use Rattle.rete_net.proofs.{Showing.{condition_shown, parent_shown, shown_from, shown_length}, Siblings.{shows_join}, Walking.{equal_or_not}}
-use Rattle.join_tests.specs.declared.row_key.RowKey.{RowKey}
-use Rattle.fan_join.proofs.{Places.{seam_or_before}, Whole.{empty_law}}
+use Rattle.{join_tests.specs.declared.row_key.RowKey.{RowKey}, fan_join.proofs.{Places.{seam_or_before}, Whole.{empty_law}}}
 use Rattle.fx_base.proofs.Sequences.{get-append_left, get-last, get-none, get-set_other, get-set_same, one_value}
 
 -- ---- no fans

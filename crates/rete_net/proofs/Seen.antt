@@ -6,10 +6,8 @@ use Rattle.rete_net.proofs.Common.{AreFans, shown_nodes, RuleChange, Rete, NetNo
 use Rattle.rete_net.proofs.Common.{AreSources, NetStands, clean_rows, AreBetween, AreQuiet, no_change, NetStep, AreScheduled, before, IsRuleFront, Moment, IsAt}
 use Rattle.rete_net.proofs.{Common.{floor_on}, Advancing.{rows_made, same_first, first_stays, stands_now, between_now}, Answering.{few_ends}}
 use Rattle.rete_net.proofs.{Beside.{both_held, both_known, both_known_now, stays_beside}, Chaining.{AreMade, IsGiven, AreStanding, StaysBeside}}
-use Rattle.rete_net.proofs.{Cleaning.{has_clean}, Quieting.{seen_now}, Turning.{rising}}
-use Rattle.condition_rows.specs.Sets.{held}
-use Rattle.candidate_source.specs.Sources.{source_at}
-use Rattle.fx_base.proofs.{Orders.{≤ℤ_trans}, Sequences.{get-below}}
+use Rattle.{rete_net.proofs.{Cleaning.{has_clean}, Quieting.{seen_now}, Turning.{rising}}, condition_rows.specs.Sets.{held}}
+use Rattle.{candidate_source.specs.Sources.{source_at}, fx_base.proofs.{Orders.{≤ℤ_trans}, Sequences.{get-below}}}
 
 -- a clock of 64 bits
 pub fits_low : (clock : ℤ) → SFits w64 clock → clock <ℤ pos (2 ^ 63)

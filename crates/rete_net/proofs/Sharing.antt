@@ -6,11 +6,9 @@ use Rattle.rete_net.proofs.Common.{changes_nothing, Condition, Moment, Program, 
 use Rattle.rete_net.proofs.Common.{answer_in, AreRuled, coming, AreLadenRows, IsLoadable, IsThere, AreLoaded, IsStuck, change_of, IsOwned, IsNetOf, IsFresh}
 use Rattle.rete_net.{proofs.Common.{changes_from, delta_at, empty_row_comes, no_change, taking}, specs.Owners.{AreNodeOwners as HaveOwners}}
 use Rattle.rete_net.proofs.{Answering.{found_change, few_ends, in_order as changes_in_order, past_change}, Counted.{fronts_within}, Loaded.{answered, come_to}}
-use Rattle.rete_net.proofs.Loaded.{in_order, none_gone, one_first, owner_place, parts}
-use Rattle.candidate_source.specs.declared.source.Source.{Source}
-use Rattle.std.{proofs.lemmas.Bool.{and_parts}, specs.Prelude.{map}}
-use Rattle.laden_rows.specs.Laden.{AreOwners}
-use Rattle.fx_base.proofs.{Orders.{below_or_last}, Sequences.{get-below, one_value}}
+use Rattle.{rete_net.proofs.Loaded.{in_order, none_gone, one_first, owner_place, parts}, candidate_source.specs.declared.source.Source.{Source}}
+use Rattle.{std.{proofs.lemmas.Bool.{and_parts}, specs.Prelude.{map}}, laden_rows.specs.Laden.{AreOwners}, fx_base.proofs.Orders.{below_or_last}}
+use Rattle.fx_base.proofs.Sequences.{get-below, one_value}
 
 -- ---- answers in a list
 

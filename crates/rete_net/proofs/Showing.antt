@@ -5,8 +5,7 @@ use Rattle.rete_net.proofs.Common.{floor, floor_on, held, IsOrderly, MovesSnapsh
 use Rattle.rete_net.proofs.Common.{condition_of, is_negated, IsBefore, join_quiet, NetNode, Schedule, Member, shown, showing, with_member, is_changed_by_clock}
 use Rattle.rete_net.proofs.Common.{AreQuiet, IsNodeQuiet, AreScheduled, IsGateStill, IsScheduled, IsStillAt, IsReplaced, joined_pattern}
 use Rattle.beta_node.specs.declared.node.Node.TheVariants as node
-use Rattle.rete_net.proofs.{Lone.{IsAlone}, Turning.{held_has, rising}}
-use Rattle.fx_base.proofs.Sequences.{one_value}
+use Rattle.{rete_net.proofs.{Lone.{IsAlone}, Turning.{held_has, rising}}, fx_base.proofs.Sequences.{one_value}}
 
 -- ---- lists
 

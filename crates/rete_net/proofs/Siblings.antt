@@ -10,8 +10,8 @@ use Rattle.rete_net.proofs.Common.{IsOfSeat, Member, type_of, is_fact_of_type, N
 use Rattle.std.{proofs.Math.Bool.{or-false}, specs.{Option.{IfSome}, List.Sorted.{IsStrictlySortedBy}}}
 use Rattle.join_memory.{specs.{declared.left_rows.LeftRows.{LeftRows}, Memories.{KeepsMemories}}, proofs.Turning.{keeps_then}}
 use Rattle.beta_node.specs.declared.node.Node.TheVariants as node
-use Rattle.beta_node.proofs.{Forgetting.{join_forgot}, Loading.{join_loads}, Telling.{join_turns, join_tells}}
-use Rattle.rete_net.proofs.{Filled.{loads_node}, Forgets.{node_forgets}, Skipping.{no_difference}, Turning.{node_step}}
+use Rattle.{beta_node.proofs.{Forgetting.{join_forgot}, Loading.{join_loads}, Telling.{join_turns, join_tells}}, rete_net.proofs.Filled.{loads_node}}
+use Rattle.rete_net.proofs.{Forgets.{node_forgets}, Skipping.{no_difference}, Turning.{node_step}}
 
 -- ---- a node of a pattern that binds a fact
 

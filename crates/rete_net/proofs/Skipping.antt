@@ -2,8 +2,7 @@
 use Rattle.rete_net.proofs.Common.{◌≡◌, sym, refl, subst, ℤ, Bool, true, List, Option, fun_ext, Fact, Delta, Named, Row, IsDifference, changes_nothing, Pattern}
 use Rattle.rete_net.proofs.Common.{Program, pattern_of, Snapshot, Look, cleaned, line, candidates_of, GateStands, MovesSnapshot, nothing_differs, PatternGate}
 use Rattle.rete_net.proofs.{Common.{condition_of, node_moves, Stays, TellsNothing, NetNode, no_change, NodeStep, Moment}, Turning.{node_step}}
-use Rattle.std.specs.List.Sorted.{IsStrictlySortedBy}
-use Rattle.fx_base.proofs.Tests.{and_not_self}
+use Rattle.{std.specs.List.Sorted.{IsStrictlySortedBy}, fx_base.proofs.Tests.{and_not_self}}
 
 -- nothing changes in a set that stays
 pub no_difference : (rows : Row → Bool) → IsDifference rows rows no_change

@@ -1,13 +1,11 @@
 -- One of the sources is lent to a node for its turn: what becomes of all of them.
 use Rattle.rete_net.proofs.Common.{◌≡◌, ◌∙◌, sym, ap, refl, subst, inl, inr, ℕ, List, length, length-set, set, Option, Some, None, slice_get, slice_get_within}
 use Rattle.rete_net.proofs.Common.{◌<◌, arith, Look, Row, Node, NetNode, Fans, AreSources, IsReplaced, Condition, condition_of, pattern_of, seat_at}
-use Rattle.rete_net.{specs.Lending.{AreLentAs, IsFoundAnew, IsSameFor}, proofs.Walking.{equal_or_not}}
-use Rattle.join_tests.specs.NameKeys.{name_key}
-use Rattle.pattern_gate.specs.Alike.{TakesAlike}
-use Rattle.candidate_source.{proofs.Moving.{place_alike}, specs.{declared.{source.Source.{Source}, sources.Sources.{Sources}}, Doors.{source_pattern}}}
-use Rattle.candidate_source.{specs.{Handed.{come_at, gone_at}, Lending.{with_given, with_source}}, proofs.Lent.{lent_apart, lent_or_not, lent_other, lent_same}}
-use Rattle.candidate_source.specs.Sources.{handed_come, handed_gone, in_list, source_at, source_place, AreApart, AreLaidAs}
-use Rattle.fx_base.proofs.Sequences.{get-below, get-set_other, get-set_same, one_value}
+use Rattle.{rete_net.{specs.Lending.{AreLentAs, IsFoundAnew, IsSameFor}, proofs.Walking.{equal_or_not}}, join_tests.specs.NameKeys.{name_key}}
+use Rattle.{pattern_gate.specs.Alike.{TakesAlike}, candidate_source.{proofs.Moving.{place_alike}, specs.declared.source.Source.{Source}}}
+use Rattle.candidate_source.specs.{declared.sources.Sources.{Sources}, Doors.{source_pattern}, Handed.{come_at, gone_at}, Lending.{with_given, with_source}}
+use Rattle.candidate_source.{proofs.Lent.{lent_apart, lent_or_not, lent_other, lent_same}, specs.Sources.{handed_come, handed_gone, in_list, source_at}}
+use Rattle.{candidate_source.specs.Sources.{source_place, AreApart, AreLaidAs}, fx_base.proofs.Sequences.{get-below, get-set_other, get-set_same, one_value}}
 use Rattle.join_memory.specs.declared.candidates.Candidates.{Candidates}
 
 -- a source is the same as itself

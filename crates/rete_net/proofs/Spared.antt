@@ -3,15 +3,12 @@ use Rattle.rete_net.proofs.Common.{gathered_tallies, ◌≡◌, ◌∙◌, sym, 
 use Rattle.rete_net.proofs.Common.{Row, has_name, Pattern, Program, Snapshot, HaveDistinctTags, pattern_of, Look, Candidates, Memories, either, StandsFor}
 use Rattle.rete_net.proofs.Common.{HasAllOf, NameHeld, held, candidates_of, Node, condition_of, NodeStands, node_moves, NetNode, Fan, Fans, Seat, member_of}
 use Rattle.rete_net.proofs.Common.{showing, IsHalf, IsOfSeat, Member, no_change, HasNoOld, TurnForgets, NetNodeStands, StandsIn, blocker_tallies, type_of}
-use Rattle.rete_net.proofs.Common.{AreSources, IsWired, Index, slice_get, has_place, IsNodeFound}
-use Rattle.join_tests.{proofs.Naming.{kept_alike}, specs.NameKeys.{name_key}}
-use Rattle.join_memory.specs.{Apart.{has_candidate}, Memories.{has_right}, Shared.{sharing, KeepsNames}}
+use Rattle.{rete_net.proofs.Common.{AreSources, IsWired, Index, slice_get, has_place, IsNodeFound}, join_tests.proofs.Naming.{kept_alike}}
+use Rattle.{join_tests.specs.NameKeys.{name_key}, join_memory.specs.{Apart.{has_candidate}, Memories.{has_right}, Shared.{sharing, KeepsNames}}}
 use Rattle.candidate_source.specs.{declared.{source.Source.{Source}, sources.Sources.{Sources}}, Doors.{source_candidates, source_pattern}, Reached.{is_under}}
 use Rattle.candidate_source.specs.Sources.{handed_gone, is_led, lead_of, source_at, AreApart, AreLaidAs, AreReachedAs, HaveLeftAt, IsPassedOver}
 use Rattle.candidate_source.{specs.Sources.{HaveForgotten as SourcesForgot}, proofs.{Moving.{place_within}, Resting.{has_lead, lead_is}}}
-use Rattle.fx_base.proofs.Sequences.{get-below}
-use Rattle.std.proofs.lemmas.Bool.{false_from_ne_true}
-use Rattle.beta_node.specs.Lending.{with_candidates}
+use Rattle.{fx_base.proofs.Sequences.{get-below}, std.proofs.lemmas.Bool.{false_from_ne_true}, beta_node.specs.Lending.{with_candidates}}
 use Rattle.beta_node.specs.declared.node.Node.TheVariants as node
 use Rattle.rete_net.{specs.{Lending.{ForgetsAt, IsSameFor, IsSameIn, MayForget, MayForgetIn}, Sources.{IsSourced}}, proofs.Alone.{own_forgets, same_taking}}
 use Rattle.rete_net.proofs.{Forgone.{passed_forgetting}, Idle.{idle_forgets}, Showing.{condition_shown}, Sparing.{none_old, spared}, Sourced.{by_both}}

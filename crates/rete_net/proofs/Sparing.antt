@@ -5,8 +5,7 @@ use Rattle.rete_net.proofs.Common.{Snapshot, tests_hold, name_of, unbound, of_fi
 use Rattle.rete_net.proofs.Common.{StandsFor, joined, unvalued, splits_value, from_unvalued, joined_clean, gives, is_ripe, line, held, candidates_of}
 use Rattle.rete_net.proofs.Common.{has_partner, held_fact, candidate_of, Node, counts_blockers, counts_witnesses, gathers, condition_of, CountsPartners}
 use Rattle.rete_net.proofs.Common.{NodeStands, NetNode, HasNoOld, IsForgetting, NodeForgets, HaveDistinctTags, HasAllOf, blocker_tallies, joined_pattern}
-use Rattle.rete_net.proofs.Common.{gathered_tallies}
-use Rattle.std.{proofs.lemmas.Bool.{and_parts, false_from_ne_true}, specs.List.Sorted.{IsStrictlySortedBy}}
+use Rattle.{rete_net.proofs.Common.{gathered_tallies}, std.{proofs.lemmas.Bool.{and_parts, false_from_ne_true}, specs.List.Sorted.{IsStrictlySortedBy}}}
 use Rattle.join_memory.specs.Valued.{valued}
 use Rattle.beta_node.specs.declared.node.Node.TheVariants as node
 use Rattle.rete_net.proofs.Cleaning.{cleaned_either}

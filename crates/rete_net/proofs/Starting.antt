@@ -10,10 +10,8 @@ use Rattle.rete_net.proofs.{Common.{IsParentNode, AreBuilt, HaveEnds, AreFronts,
 use Rattle.rete_net.proofs.{Advancing.{shape_now, stands_now, between_now}, Answering.{few_ends}, Beside.{stay_of}, Chaining.{AreMade, IsGiven, AreStanding}}
 use Rattle.rete_net.proofs.{Chaining.{StaysBeside}, Cleaning.{all_clean}, Fresh.{fresh_standing, no_candidate}, Quieting.{seen_now}}
 use Rattle.candidate_source.specs.{declared.source.Source.{Source}, Doors.{source_pattern}, Sources.{source_at, IsNewSource}}
-use Rattle.std.{proofs.lemmas.Bool.{and_parts}, specs.List.Sorted.{IsStrictlySortedBy}}
-use Rattle.join_memory.specs.{Joined.{joined}, Valued.{valued}}
-use Rattle.condition_rows.specs.Sets.{held, candidates_of}
-use Rattle.fx_base.proofs.Sequences.{get-below}
+use Rattle.{std.{proofs.lemmas.Bool.{and_parts}, specs.List.Sorted.{IsStrictlySortedBy}}, join_memory.specs.{Joined.{joined}, Valued.{valued}}}
+use Rattle.{condition_rows.specs.Sets.{held, candidates_of}, fx_base.proofs.Sequences.{get-below}}
 
 -- ---- conditions make nothing of no rows
 

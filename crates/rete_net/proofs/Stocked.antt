@@ -3,11 +3,8 @@ use Rattle.rete_net.proofs.Common.{gathered_tallies, ◌≡◌, ◌∙◌, sym, 
 use Rattle.rete_net.proofs.Common.{Row, IsDifference, Condition, Pattern, Moment, Program, IsAt, pattern_of, Snapshot, Look, Candidates, Memories, has_name}
 use Rattle.rete_net.proofs.Common.{no_names, no_rows, extra_for, empty_snapshot, PatternGate, GateStands, Node, IsLoad, Laden, slice_get, Vec, Bor}
 use Rattle.rete_net.proofs.Common.{grouped_facts_at, given_facts, IsSourced, node_rows, condition_of, NodeStands, blocker_tallies, NetNode, is_fact_of_type}
-use Rattle.rete_net.proofs.Common.{NodeLoad, taking}
-use Rattle.join_tests.specs.NameKeys.{name_key}
-use Rattle.fx_base.specs.declared.ids.TypeId.{TypeId}
-use Rattle.pattern_gate.proofs.Alike.{same_candidates, same_gate, same_window}
-use Rattle.join_memory.specs.{Apart.{has_candidate}, Shared.{sharing, NamesAgree}}
+use Rattle.{rete_net.proofs.Common.{NodeLoad, taking}, join_tests.specs.NameKeys.{name_key}, fx_base.specs.declared.ids.TypeId.{TypeId}}
+use Rattle.{pattern_gate.proofs.Alike.{same_candidates, same_gate, same_window}, join_memory.specs.{Apart.{has_candidate}, Shared.{sharing, NamesAgree}}}
 use Rattle.candidate_source.{specs.{declared.source.Source.{Source}, Doors.{source_candidates, source_gate, source_pattern}}, proofs.Sharing.{agree_alike}}
 use Rattle.candidate_source.{proofs.Sharing.{there as has_lent}, specs.Sources.{facts_in, facts_of_type, IsLoadedWith}}
 use Rattle.beta_node.specs.Lending.{with_candidates, HasCandidates, NodeHas}

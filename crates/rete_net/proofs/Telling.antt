@@ -1,8 +1,7 @@
 -- The changes of rules, rule by rule; those that are passed over have none.
 use Rattle.rete_net.proofs.Common.{◌≡◌, ◌∙◌, sym, ap, subst, ℕ, zero, suc, ◌+◌, ◌-◌, ◌<◌, ◌≤◌, Bool, true, false, cond, List, [], ◌∷◌, ◌++◌, drop, length}
 use Rattle.rete_net.proofs.Common.{arith, append-nil, None, Some, slice_get, inl, inr, In, Delta, changes_nothing, RuleChange, Answered, given, answer_in}
-use Rattle.rete_net.proofs.Common.{AreRuled, has_place, no_change, change_at, changes_from, delta_at, drop_of_length-le}
-use Rattle.std.proofs.Common.{append_assoc}
+use Rattle.{rete_net.proofs.Common.{AreRuled, has_place, no_change, change_at, changes_from, delta_at, drop_of_length-le}, std.proofs.Common.{append_assoc}}
 use Rattle.fx_base.proofs.Sequences.{In-append, get-below}
 
 -- what is left from a place on begins with what stands there

@@ -1,9 +1,9 @@
 -- Places that wait for moments: what is put, and which are due.
 use Rattle.rete_net.proofs.Common.{◌≡◌, ◌∙◌, sym, ap, refl, ℕ, ℤ, ◌≤ℤ◌, ◌<ℤ◌, List, Bool, true, false, cond, not, ◌&&◌, Option, Some, None, int_lt, arith}
-use Rattle.rete_net.proofs.Common.{nat_cmp, int_cmp, is_eq, is_gt, nat_tests, ints, IsBefore, is_in, IsFrom, IsSet, Timers}
-use Rattle.std.specs.{BTreeMap.{is_at, Range.{is_past_end}}, Option.{option_map, IsSomeAnd}, declared.ops.Bound.TheVariants.{Excluded}}
-use Rattle.std.proofs.lemmas.Cmp.{tied_itself, nat_cmp_total, int_cmp_total}
-use Rattle.due_queue.{specs.Moments.{found, pair_cmp, has_pair, is_moment, AreDue}, proofs.Clock.{below, not_later, has_key}}
+use Rattle.{rete_net.proofs.Common.{nat_cmp, int_cmp, is_eq, is_gt, nat_tests, ints, IsBefore, is_in, IsFrom, IsSet, Timers}, std.specs.BTreeMap.{is_at}}
+use Rattle.std.specs.{BTreeMap.Range.{is_past_end}, Option.{option_map, IsSomeAnd}, declared.ops.Bound.TheVariants.{Excluded}}
+use Rattle.{std.proofs.lemmas.Cmp.{tied_itself, nat_cmp_total, int_cmp_total}, due_queue.specs.Moments.{found, pair_cmp, has_pair, is_moment, AreDue}}
+use Rattle.due_queue.proofs.Clock.{below, not_later, has_key}
 
 other_place : (j k : ℕ) → (k ≡ j → ⊥) → is_at (nat_cmp j) k ≡ false
 other_place j k h = grind (arith, nat_tests)

@@ -2,14 +2,13 @@
 use Rattle.rete_net.proofs.Common.{◌≡◌, ◌∙◌, sym, ap, refl, subst, ℕ, ℤ, not, Bool, true, false, List, [], Option, Some, None, IfSome, slice_get, Fact, Delta}
 use Rattle.rete_net.proofs.Common.{Moment, Program, snapshot_at, floor, Look, is_one_meant, is_whole, condition_of, is_negated, pattern_of, Node, NetNode, Fans}
 use Rattle.rete_net.proofs.Common.{is_changed_by_clock, has_place, IsGateStill, IsLeftAlone, IsStillAt, AreSources, Index, Schedule, AreScheduled, IsScheduled}
-use Rattle.rete_net.proofs.Common.{IsUndue, IsNodeFound, IsWired, is_in, changes_nothing}
-use Rattle.std.proofs.lemmas.Bool.{false_from_ne_true}
+use Rattle.{rete_net.proofs.Common.{IsUndue, IsNodeFound, IsWired, is_in, changes_nothing}, std.proofs.lemmas.Bool.{false_from_ne_true}}
 use Rattle.candidate_source.specs.{declared.{source.Source.{Source}, sources.Sources.{Sources}}, Reached.{is_under}, Sources.{handed_come, handed_gone}}
 use Rattle.candidate_source.specs.Sources.{in_list, is_follower, is_lead, is_other, is_this, source_at, source_place, AreApart, AreLaidAs, AreOthersAtRest}
 use Rattle.candidate_source.specs.Sources.{AreReachedAs, HaveTurned, IsPassedOver}
 use Rattle.beta_node.specs.declared.node.Node.TheVariants as node
-use Rattle.fx_base.proofs.Tests.{or_first_false}
-use Rattle.rete_net.{specs.{Lending.{MayTurn, MayTurnIn}, Schedules.{timed_gate}}, proofs.{Alone.{IsAloneBy}, Sourced.{by_both}, Stillness.{others_rest}}}
+use Rattle.{fx_base.proofs.Tests.{or_first_false}, rete_net.{specs.{Lending.{MayTurn, MayTurnIn}, Schedules.{timed_gate}}, proofs.Alone.{IsAloneBy}}}
+use Rattle.rete_net.proofs.{Sourced.{by_both}, Stillness.{others_rest}}
 
 -- where no row waits for a moment nothing is due
 still_untimed : (n : Node) (at : ℤ) → is_negated (condition_of n) ≡ false → IsStillAt n at

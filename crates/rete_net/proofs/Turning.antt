@@ -3,8 +3,7 @@ use Rattle.rete_net.proofs.Common.{◌≡◌, ◌∙◌, sym, ap, refl, subst, i
 use Rattle.rete_net.proofs.Common.{nat_cmp_total, eq_by_cmp_equiv, AllByRecursion, nat_cmp, is_eq, In, Fact, Tag, Delta, Named, Row, IsDifference, Condition}
 use Rattle.rete_net.proofs.Common.{Pattern, Program, HaveDistinctTags, pattern_of, Snapshot, Look, IsNameDifference, cleaned, remembered, held, candidates_of}
 use Rattle.rete_net.proofs.Common.{line, HasAllOf, NameHeld, GateStands, has_good_window, MovesSnapshot, Node, condition_of, NodeStands, IsConditionTurn}
-use Rattle.rete_net.proofs.Common.{NetNode, IsNodeTurn, NodeStep, Moment, IsAt}
-use Rattle.std.specs.List.Sorted.{IsStrictlySortedBy}
+use Rattle.{rete_net.proofs.Common.{NetNode, IsNodeTurn, NodeStep, Moment, IsAt}, std.specs.List.Sorted.{IsStrictlySortedBy}}
 
 -- ---- tags in order are distinct
 

@@ -1,8 +1,7 @@
 -- One node after the others.
 use Rattle.rete_net.proofs.Common.{◌≡◌, ◌∙◌, sym, ap, subst, ℕ, ◌<◌, ◌^◌, List, length, Option, Some, slice_get, Fact, Delta, Program, Look, RuleChange}
 use Rattle.rete_net.proofs.Common.{NetNode, Index, Answered, given, some_answer, answer_in, AreRuled, no_change, delta_at, changes_from, NetStep, HasAnswered}
-use Rattle.rete_net.proofs.Common.{IsWired, Moment}
-use Rattle.candidate_source.specs.declared.{source.Source.{Source}, sources.Sources.{Sources}}
+use Rattle.{rete_net.proofs.Common.{IsWired, Moment}, candidate_source.specs.declared.{source.Source.{Source}, sources.Sources.{Sources}}}
 
 -- ---- the step of a network, out of that of its nodes
 

@@ -10,10 +10,8 @@ use Rattle.rete_net.proofs.Common.{PatternGate, GateStands, arrival_of, arrivals
 use Rattle.rete_net.proofs.Common.{inside_are, Node, condition_of, NodeStands, AsksOfSet, blockers_ask, witnesses_ask, gathers_ask, held_known, node_moves}
 use Rattle.rete_net.proofs.Common.{shown_nodes, Rete, NetNode, snapshot_without, IsUnmissed, HaveSameFronts, NodesStand, NetStands, clean_rows, NetNodeStands}
 use Rattle.rete_net.proofs.Common.{before, IsRuleFront, HoldsArrivals, tallied_pattern, blocker_tallies, blocking_pattern, gathered_tallies, Gate, window_of}
-use Rattle.std.proofs.lemmas.{Bool.{and_parts, eqb-true}, List.Kept.{IsStrictlySortedBy-filter}}
-use Rattle.rule_model.specs.{Candidates.{is_present}, Snapshots.{floor}}
-use Rattle.rule_world.proofs.Fresh.{distinct_filtered}
-use Rattle.window_gate.specs.declared.change.GateChange.TheVariants.{Gone}
+use Rattle.{std.proofs.lemmas.{Bool.{and_parts, eqb-true}, List.Kept.{IsStrictlySortedBy-filter}}, rule_model.specs.Candidates.{is_present}}
+use Rattle.{rule_model.specs.Snapshots.{floor}, rule_world.proofs.Fresh.{distinct_filtered}, window_gate.specs.declared.change.GateChange.TheVariants.{Gone}}
 use Rattle.window_gate.specs.declared.change.WindowKind.TheVariants as kind
 use Rattle.window_gate.specs.declared.gate.Kept.TheVariants as kept
 use Rattle.window_gate.specs.declared.time_window.TimeWindow.{TimeWindow}
@@ -21,9 +19,8 @@ use Rattle.beta_node.specs.declared.node.Node.TheVariants as node
 use Rattle.rete_net.proofs.{Beside.{at_end}, Cleaning.{has_clean}, Lent.{lent_alike}, Stillness.{condition_taking}, Common.{Option, None, StandsIn, IsFound}}
 use Rattle.rete_net.proofs.{Common.{taking}, Fewer.{IsApart, Unobserved, of_other, of_binding, tag_of, unobserved_of, same_left, no_fit, candidates_apart}}
 use Rattle.rete_net.proofs.Fewer.{candidate_other, held_still, less_known, candidates_less, remembered_same, joins_named, front_same}
-use Rattle.fx_base.{specs.declared.value.Value.{Value}, proofs.Tests.{and_where}}
-use Rattle.candidate_source.specs.{declared.source.Source.{Source}, Doors.{is_reached, source_candidates}, Sources.{source_at}}
-use Rattle.beta_node.specs.Lending.{with_candidates}
+use Rattle.{fx_base.{specs.declared.value.Value.{Value}, proofs.Tests.{and_where}}, candidate_source.specs.declared.source.Source.{Source}}
+use Rattle.{candidate_source.specs.{Doors.{is_reached, source_candidates}, Sources.{source_at}}, beta_node.specs.Lending.{with_candidates}}
 
 -- ---- a snapshot without a fact
 

@@ -3,9 +3,8 @@ use Rattle.rete_net.proofs.Common.{◌≡◌, ◌∙◌, sym, ap, refl, subst, �
 use Rattle.rete_net.proofs.Common.{length-append, Option, Some, None, slice_get, ◌⊎◌, inl, inr, slice_index_or, set, length-set, get_or-append_seam}
 use Rattle.rete_net.proofs.Common.{take-append_seam, take-append-le, get_or_append_left, Index, NetNode, Answered, some_answer, left_given, AreRuled}
 use Rattle.rete_net.{proofs.Common.{IsAnswerPut, is_listed, has_place, IsReplaced, IsWired, condition_of}, specs.Answers.{given as kept}}
-use Rattle.candidate_source.specs.declared.sources.Sources.{Sources}
-use Rattle.std.proofs.lemmas.Bool.{false_from_ne_true}
-use Rattle.fx_base.proofs.{Orders.{below_or_last}, Sequences.{get-set_other, get-set_same, one_value}}
+use Rattle.{candidate_source.specs.declared.sources.Sources.{Sources}, std.proofs.lemmas.Bool.{false_from_ne_true}, fx_base.proofs.Orders.{below_or_last}}
+use Rattle.fx_base.proofs.Sequences.{get-set_other, get-set_same, one_value}
 
 -- One node more took its turn, and what a turn is may depend on the node's place; `given` is what comes to a node of the answers of the nodes
 -- before it, by its parent.

@@ -1,8 +1,7 @@
 -- What a retention covers as events are held and released.
 use Rattle.retention.proofs.Common.{◌≡◌, ℕ, ℤ, ◌≤ℤ◌, ◌==◌, ◌&&◌, Bool, true, false, cond, not, refl, sym, ◌∙◌, ap, arith, Option, Some, None, nat_cmp}
 use Rattle.retention.proofs.Common.{Decides-eqb, nat_cmp_total, ints, has_come, has_listed_tag, lingers, with_end, without, NewLaw, LaterLaw, HoldLaw}
-use Rattle.retention.proofs.Common.{ReleaseLaw, SameCovered, SameWatched}
-use Rattle.std.specs.{Prelude.{int_le}, BTreeSet.{BTreeSet}}
+use Rattle.{retention.proofs.Common.{ReleaseLaw, SameCovered, SameWatched}, std.specs.{Prelude.{int_le}, BTreeSet.{BTreeSet}}}
 use Rattle.fx_base.proofs.Orders.{eq_by_nat_cmp}
 use Rattle.std.specs.FinMap as map
 

@@ -1,9 +1,7 @@
 -- A tag that a match named which has stopped pending.
 use Rattle.retention.proofs.Common.{◌≡◌, ◌||◌, Bool, true, false, List, [], ◌∷◌, refl, sym, ◌∙◌, ap, list_any, eq_by_cmp, or_parts, or_right, eq_by_cmp_equiv}
-use Rattle.retention.proofs.Common.{TagsLeftLaw}
-use Rattle.rule_model.{specs.{declared.matched.Match.{Match}, Matches.{match_cmp, has_match}, MatchOrders.{match_total}}, proofs.Exact.{decides_by}}
-use Rattle.rule_model.proofs.Exact.{match_exact}
-use Rattle.agenda.specs.Agendas.{names_tag}
+use Rattle.{retention.proofs.Common.{TagsLeftLaw}, rule_model.specs.{declared.matched.Match.{Match}, Matches.{match_cmp, has_match}, MatchOrders.{match_total}}}
+use Rattle.{rule_model.proofs.Exact.{decides_by, match_exact}, agenda.specs.Agendas.{names_tag}}
 
 itself : (m : Match) → eq_by_cmp match_cmp m m ≡ true
 itself m = (eq_by_cmp_equiv match_total).refl m

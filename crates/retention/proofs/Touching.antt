@@ -1,8 +1,7 @@
 -- One tag that is looked at, and lists of them.
 use Rattle.retention.proofs.Common.{◌≡◌, ℕ, ℤ, ◌+◌, ◌<◌, ◌==◌, ◌&&◌, ◌||◌, Bool, true, false, cond, not, List, [], ◌∷◌, take, length, get_or, refl, sym, ◌∙◌}
 use Rattle.retention.proofs.Common.{ap, nat_eq, filter, map, Option, Some, None, list_any, nat_cmp, eq_by_cmp, and-false, or-true, or-false, Decides-eqb}
-use Rattle.retention.proofs.Common.{nat_cmp_total, list_any_more, Timers, is_tag_among}
-use Rattle.std.specs.{Bool.{OnTrue, OnFalse}, Option.{is_some}}
+use Rattle.{retention.proofs.Common.{nat_cmp_total, list_any_more, Timers, is_tag_among}, std.specs.{Bool.{OnTrue, OnFalse}, Option.{is_some}}}
 use Rattle.std.specs.FinMap as map
 use Rattle.fx_base.{specs.declared.ids.Tag.{Tag}, proofs.{Orders.{eq_by_nat_cmp-turned}, Tests.{cond_false_first}}}
 

@@ -2,11 +2,10 @@
 use Rattle.row_change.proofs.Common.{◌≡◌, ◌∙◌, sym, ap, refl, subst, ℕ, zero, suc, ◌+◌, ◌-◌, ◌<◌, ◌≤◌, List, [], ◌∷◌, ◌++◌, length, take, drop, get_or, Bool}
 use Rattle.row_change.proofs.Common.{true, false, ◌&&◌, ◌||◌, not, Result, Ok, Err, is_ok, IfOk, IfErr, inl, inr, arith, drop-cons, eq_by_cmp, is_lt}
 use Rattle.row_change.proofs.Common.{list_any_congr, row_cmp, has, same_equiv, Row, is_eq, ordering_index, ordering_reverse, list_any_at}
-use Rattle.row_change.{proofs.Common.{searchable_from_sorted, InOrder, row_total, row_exact}, specs.Gaps.{IsGap, StandsAt}}
-use Rattle.std.{proofs.Math.Bool.{or_comm}, specs.{declared.cmp.Ordering.{Ordering, TheVariants.{Less, Equal, Greater}}, List.{AllByRecursion}}}
-use Rattle.std.specs.List.{IsAllAdjacentAnswer, insert, remove, Sorted.{IsStrictlySortedBy, IsBinarySearchResult, IsSearchInRange, IsNonDecreasingBy}}
-use Rattle.std.proofs.lemmas.{Bool.{cases_lt}, List.{take-append-drop}, Map.Keys.{Less-from_sorted, sorted_from_all_adjacent}}
-use Rattle.fx_base.proofs.Tests.{or_implied}
+use Rattle.{row_change.{proofs.Common.{searchable_from_sorted, InOrder, row_total, row_exact}, specs.Gaps.{IsGap, StandsAt}}, std.proofs.Math.Bool.{or_comm}}
+use Rattle.std.specs.{declared.cmp.Ordering.{Ordering, TheVariants.{Less, Equal, Greater}}, List.{AllByRecursion, IsAllAdjacentAnswer, insert, remove}}
+use Rattle.std.{specs.List.Sorted.{IsStrictlySortedBy, IsBinarySearchResult, IsSearchInRange, IsNonDecreasingBy}, proofs.lemmas.Bool.{cases_lt}}
+use Rattle.{std.proofs.lemmas.{List.{take-append-drop}, Map.Keys.{Less-from_sorted, sorted_from_all_adjacent}}, fx_base.proofs.Tests.{or_implied}}
 
 -- the row is less than each of these
 abbrev Below : Row → List Row → Type 0

@@ -2,11 +2,9 @@
 use Rattle.rule_change.proofs.Common.{◌≡◌, ℕ, zero, suc, Bool, true, false, List, [], ◌∷◌, Option, Some, None, refl, sym, ◌∙◌, ap, ap₂, ◌<◌, subst, arith}
 use Rattle.rule_change.proofs.Common.{option_and_then, length, slice_get, get-below, slice_get_within, is_event_type, expiry_in, Program, TypeInfo, carried}
 use Rattle.rule_change.{proofs.Common.{carried_life, life_or, IsLonger, is_longer, AreOver, some_is}, specs.Changed.{carried_lives, new_type}}
-use Rattle.rule_change.{specs.Lives.{CarriedIsSafe}, proofs.{Matching.{over_moves}, Places.{type_back, type_found}}}
-use Rattle.fx_base.proofs.Orders.{int_lt-false}
-use Rattle.life_meaning.{proofs.Safe.{safe_life}, specs.Tables.{AreLives, IsLifeOf, IsSafeLife, IsSafeTable}}
-use Rattle.rule_model.specs.{Lives.{AreShort, IsShortLife}, Types.{is_event, expiry_of}, declared.life.Life.{Life, TheVariants.{Plain, Explicit, Finite}}}
-use Rattle.rule_model.specs.declared.life.{Life.TheVariants.{Infinite}, LifeTable.{LifeTable}}
+use Rattle.{rule_change.{specs.Lives.{CarriedIsSafe}, proofs.{Matching.{over_moves}, Places.{type_back, type_found}}}, fx_base.proofs.Orders.{int_lt-false}}
+use Rattle.{life_meaning.{proofs.Safe.{safe_life}, specs.Tables.{AreLives, IsLifeOf, IsSafeLife, IsSafeTable}}, rule_model.specs.Lives.{AreShort, IsShortLife}}
+use Rattle.rule_model.specs.{Types.{is_event, expiry_of}, declared.life.{Life.{Life, TheVariants.{Plain, Explicit, Finite, Infinite}}, LifeTable.{LifeTable}}}
 use Rattle.change_resolve.specs.Changes.{type_named}
 
 -- ---- the carried table

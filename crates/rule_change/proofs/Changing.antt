@@ -5,10 +5,8 @@ use Rattle.rule_change.proofs.Common.{In, EachOnce, Fact, Value, match_exact, of
 use Rattle.rule_change.proofs.Common.{is_event, Match, Program, TypeInfo, most_millis, values_fit, have_kinds, IsLawful, IsSoundFact, FollowedBy, EventsInOrder}
 use Rattle.rule_change.proofs.Common.{World, snapshot, moved_world, moved_fact, new_type, new_entry, entry_in, moment_or_zero, is_marked, was_fired, as_old}
 use Rattle.rule_change.{proofs.{Common.{AreAlike, AreOver, AlikeAtChange}, Places.{Moves, same_event, same_point, entries_apart}}, specs.Changed.{changed}}
-use Rattle.rule_change.proofs.{Rows.{HasPlace, AreMoved}, Matching.{matches_once, same_match, lawful_places, over_moves}}
-use Rattle.std.proofs.lemmas.{Int.{ints}, Map.{Made.{is_member-filter}, Views.{tells_apart}}}
-use Rattle.fx_base.specs.declared.ids.Tag.{Tag}
-use Rattle.temporal_ops.specs.Possible.{IsEvent}
+use Rattle.{rule_change.proofs.{Rows.{HasPlace, AreMoved}, Matching.{matches_once, same_match, lawful_places, over_moves}}, std.proofs.lemmas.Int.{ints}}
+use Rattle.{std.proofs.lemmas.Map.{Made.{is_member-filter}, Views.{tells_apart}}, fx_base.specs.declared.ids.Tag.{Tag}, temporal_ops.specs.Possible.{IsEvent}}
 use Rattle.rule_world.proofs.{Fresh.{below_of, below_all}, Ids.{ids_mapped, ids_below_mapped}}
 
 -- whether a match is among those that pass

@@ -1,8 +1,7 @@
 -- Worlds that are alike, where matches are marked.
 use Rattle.rule_change.proofs.Common.{◌≡◌, ◌||◌, ℕ, Bool, true, false, List, ◌∷◌, Option, Some, None, sym, ◌∙◌, ap, ap₂, false_from_ne_true, same_test}
 use Rattle.rule_change.proofs.Common.{decides_by, match_exact, match_total, match_cmp, match_of, has_match, Match, Program, World, AreFrom, as_old, AreAlike}
-use Rattle.rule_change.proofs.Common.{AlikeMarked, AlikeWithout, some_is}
-use Rattle.std.specs.Ordering.{eq_by_cmp}
+use Rattle.{rule_change.proofs.Common.{AlikeMarked, AlikeWithout, some_is}, std.specs.Ordering.{eq_by_cmp}}
 
 is_equal : (a b : Match) → eq_by_cmp match_cmp a b ≡ true → a ≡ b
 is_equal a b = (decides_by match_cmp match_total match_exact a b).0

@@ -4,8 +4,8 @@ use Rattle.rule_change.proofs.Common.{ap, ap₂, subst, arith, and_parts, ltb-tr
 use Rattle.rule_change.proofs.Common.{EachOnce, Fact, Value, Row, in_map, of_map, in_left, in_right, once_append, once_map, rows_once, HaveDistinctTags}
 use Rattle.rule_change.proofs.Common.{match_of, rows_by_rule, matches, has_match, rows, Snapshot, Match, Program, TypeInfo, has_pending, values_fit, IsLawful}
 use Rattle.rule_change.proofs.Common.{World, snapshot, IsSameRule, moved_rule, moved_condition, as_old, AreAlike, AreOver, HavePlaces, SamePending, some_is}
-use Rattle.rule_change.proofs.{Places.{Moves, moves}, Rows.{HasPlace, AreMoved, rows_same}}
-use Rattle.rule_model.{proofs.RuleOf.{has_in, rule_of, in_place}, specs.{Matches.{matches_from}, declared.program.Rule.{Rule}}}
+use Rattle.{rule_change.proofs.{Places.{Moves, moves}, Rows.{HasPlace, AreMoved, rows_same}}, rule_model.proofs.RuleOf.{has_in, rule_of, in_place}}
+use Rattle.rule_model.specs.{Matches.{matches_from}, declared.program.Rule.{Rule}}
 
 -- ---- the matches of all rules
 

@@ -2,10 +2,9 @@
 use Rattle.rule_change.proofs.Common.{◌≡◌, ◌<◌, ◌+◌, ◌==◌, ℕ, zero, suc, Bool, true, false, cond, List, [], ◌∷◌, Option, Some, option_map, refl, sym, ◌∙◌, ap}
 use Rattle.rule_change.proofs.Common.{ap₂, subst, arith, eq-eqb, eqb-true, option_and_then, length, slice_get, get-below, same_test, Program, TypeInfo}
 use Rattle.rule_change.proofs.Common.{is_event_type, is_reference_type, is_point_type, expiry_in, lateness_in, entry_in, place_or_zero, IsSameType, HaveTypes}
-use Rattle.rule_change.{proofs.Common.{HaveEntries, HaveNames, some_is}, specs.Changed.{new_type, new_entry}}
-use Rattle.std.{proofs.lemmas.Slice.Eq.{bytes_eq-Decides}, specs.Str.{bytes_eq}}
-use Rattle.rule_model.specs.{declared.program.EntryInfo.{EntryInfo}, Types.{is_event, is_reference, is_point, expiry_of, lateness_of}}
-use Rattle.change_resolve.specs.Changes.{type_named, entry_named}
+use Rattle.{rule_change.{proofs.Common.{HaveEntries, HaveNames, some_is}, specs.Changed.{new_type, new_entry}}, std.proofs.lemmas.Slice.Eq.{bytes_eq-Decides}}
+use Rattle.{std.specs.Str.{bytes_eq}, rule_model.specs.{declared.program.EntryInfo.{EntryInfo}, Types.{is_event, is_reference, is_point, expiry_of}}}
+use Rattle.{rule_model.specs.Types.{lateness_of}, change_resolve.specs.Changes.{type_named, entry_named}}
 
 -- ---- what a name finds
 

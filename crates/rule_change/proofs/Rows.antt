@@ -6,13 +6,11 @@ use Rattle.rule_change.proofs.Common.{is_past, window_by_lists, start_window_at,
 use Rattle.rule_change.proofs.Common.{tests_hold, results_hold, Tuple, bound_by, unbound, empty_tuple, with_fact, with_value, row_of, name_of, is_event}
 use Rattle.rule_change.proofs.{Common.{lateness_of, moved_fact, moved_pattern, moved_condition, new_entry, HasPlaces}, Places.{Moves, same_event, same_expiry}}
 use Rattle.rule_change.proofs.{Places.{same_point, same_lateness, same_types, same_entries}, Tests.{moved_tuple, tests_same, times_same, results_same}}
-use Rattle.rule_change.proofs.Tests.{bounds_same}
-use Rattle.fold_fn.specs.Results.{fold_result}
-use Rattle.temporal_ops.specs.declared.window.Window.{Window}
-use Rattle.row_delta.specs.declared.row.Named.{Named}
-use Rattle.rule_model.specs.declared.condition.{Accumulate.{Accumulate}, Condition.{Condition, TheVariants.{Plain, Negated, Existing, Folded}}}
-use Rattle.rule_model.specs.{declared.condition.{Pattern.{Pattern}, WindowTag.{WindowTag, TheVariants.{Whole, Time, Length}}}, Candidates.{is_present}}
-use Rattle.rule_model.specs.{Maturity.{is_mature}, Rows.{rows}, Snapshots.{floor}}
+use Rattle.{rule_change.proofs.Tests.{bounds_same}, fold_fn.specs.Results.{fold_result}, temporal_ops.specs.declared.window.Window.{Window}}
+use Rattle.{row_delta.specs.declared.row.Named.{Named}, rule_model.specs.declared.condition.{Accumulate.{Accumulate}, Condition.{Condition}}}
+use Rattle.rule_model.specs.declared.condition.{Condition.TheVariants.{Plain, Negated, Existing, Folded}, Pattern.{Pattern}, WindowTag.{WindowTag}}
+use Rattle.rule_model.specs.{declared.condition.WindowTag.TheVariants.{Whole, Time, Length}, Candidates.{is_present}, Maturity.{is_mature}, Rows.{rows}}
+use Rattle.rule_model.specs.Snapshots.{floor}
 
 -- ---- lists
 

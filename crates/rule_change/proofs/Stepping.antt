@@ -7,10 +7,10 @@ use Rattle.rule_change.proofs.Common.{duration_by, World, snapshot, has_id, pres
 use Rattle.rule_change.proofs.Common.{revised_in, retracted_in, last_start_with, moved_fact, new_type, new_entry, IsSameType, as_old, AreAlike, AreOver}
 use Rattle.rule_change.proofs.{Common.{IsStepOf, moved_step, SameFault, AlikeSteps}, Places.{Moves, same_event, same_reference, same_types, same_entries}}
 use Rattle.rule_change.proofs.{Rows.{HasPlace, filter_mapped, present_same, floor_same}, Marking.{with_marks}, Matching.{same_match, lawful_places, over_moves}}
-use Rattle.rule_change.proofs.Matching.{alike_moved}
-use Rattle.rule_model.{proofs.Named.{of_filter}, specs.declared.step.Step.{Step, TheVariants.{Insert, Modify, Retract, Advance, At, Promise, Begin}}}
-use Rattle.rule_world.{proofs.Found.{found_in}, specs.declared.code.Code.{Code, TheVariants.{EventFixed, EventObserved, ReferenceFixed, Absent}}}
-use Rattle.rule_world.specs.Worlds.{fact_of, step_fault, moved, stepped}
+use Rattle.{rule_change.proofs.Matching.{alike_moved}, rule_model.{proofs.Named.{of_filter}, specs.declared.step.Step.{Step, TheVariants.{Insert, Modify}}}}
+use Rattle.{rule_model.specs.declared.step.Step.TheVariants.{Retract, Advance, At, Promise, Begin}, rule_world.proofs.Found.{found_in}}
+use Rattle.rule_world.specs.{declared.code.Code.{Code, TheVariants.{EventFixed, EventObserved, ReferenceFixed, Absent}}, Worlds.{fact_of, step_fault, moved}}
+use Rattle.rule_world.specs.Worlds.{stepped}
 
 -- ---- what a new fact has of its type
 

@@ -4,8 +4,8 @@ use Rattle.rule_change.proofs.Common.{sym, ap, ap₂, subst, arith, and_from, an
 use Rattle.rule_change.proofs.Common.{EachOnce, In-append, in_left, in_right, Program, AreFrom, moved_rule, some_is}
 use Rattle.rule_change.specs.{declared.code.RuleStatus.{RuleStatus, TheVariants.{Stays, New, Gone}}, Told.{ToldRule, status_of, new_told, places_from}}
 use Rattle.rule_change.specs.Told.{is_place, gone_told, is_same_status, is_same_told, each_once, rules_told, IsTold, ToldIsExact, ToldOnce}
-use Rattle.std.{proofs.{Common.{◌⊎◌}, lemmas.Slice.Eq.{bytes_eq-Decides}}, specs.Str.{bytes_eq}}
-use Rattle.rule_model.{proofs.Firsts.{or_split}, specs.declared.program.Rule.{Rule}}
+use Rattle.{std.{proofs.{Common.{◌⊎◌}, lemmas.Slice.Eq.{bytes_eq-Decides}}, specs.Str.{bytes_eq}}, rule_model.proofs.Firsts.{or_split}}
+use Rattle.rule_model.specs.declared.program.Rule.{Rule}
 
 -- ---- each once
 

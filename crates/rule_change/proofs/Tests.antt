@@ -2,9 +2,8 @@
 use Rattle.rule_change.proofs.Common.{◌≡◌, ℕ, ℤ, Bool, List, [], ◌∷◌, map, Option, Some, None, option_map, refl, ◌∙◌, ap, slice_get-map, list_any, list_all}
 use Rattle.rule_change.proofs.Common.{option_and_then, slice_get, Fact, Times, Program, bound_of, bounds_of, field_of, side_value, related_given, compare_holds}
 use Rattle.rule_change.proofs.Common.{test_holds, tests_hold, time_holds_with, times_hold, results_hold, Tuple, bound_by, moved_fact, fun_ext}
-use Rattle.fx_base.specs.declared.value.Value.TheVariants.{Int}
-use Rattle.temporal_ops.specs.declared.edge.OpEdge.{OpEdge}
-use Rattle.rule_model.specs.declared.test.{Side.{Side, TheVariants.{Lit, Own, Of, Result}}, Compare.{Compare}, Test.{Test}, TimeTest.{TimeTest}}
+use Rattle.{fx_base.specs.declared.value.Value.TheVariants.{Int}, temporal_ops.specs.declared.edge.OpEdge.{OpEdge}, rule_model.specs.declared.test.Side.{Side}}
+use Rattle.rule_model.specs.declared.test.{Side.TheVariants.{Lit, Own, Of, Result}, Compare.{Compare}, Test.{Test}, TimeTest.{TimeTest}}
 use Rattle.rule_model.specs.declared.test.ResultTest.{ResultTest}
 
 module _ (p q : Program) where

@@ -1,6 +1,5 @@
 -- Facts behind references are counted as the references are.
-use Rattle.rule_eval.proofs.Common.{◌≡◌, Bool, true, false, cond, suc, List, [], ◌∷◌, length, refl, ap, filter, Fact, lent}
-use Rattle.std.specs.Borrow.{Bor}
+use Rattle.{rule_eval.proofs.Common.{◌≡◌, Bool, true, false, cond, suc, List, [], ◌∷◌, length, refl, ap, filter, Fact, lent}, std.specs.Borrow.{Bor}}
 
 one_counted : {A B : Type 0} (b : Bool) (x : A) (y : B) (xs : List A) (ys : List B) → length xs ≡ length ys → length (cond b (x ∷ xs) xs) ≡ length (cond b (y ∷ ys) ys)
 one_counted true x y xs ys h = ap suc h

@@ -1,7 +1,6 @@
 -- A fold that takes its values one after the other.
 use Rattle.rule_eval.proofs.Common.{◌≡◌, ◌+◌, ℤ, cond, List, [], ◌∷◌, ◌++◌, sym, ◌∙◌, ap, arith, append-nil, HaveSame, insert_rising, times}
-use Rattle.std.specs.Ordering.{int_eq}
-use Rattle.fold_fn.proofs.Rising.{times-cons, times-insert}
+use Rattle.{std.specs.Ordering.{int_eq}, fold_fn.proofs.Rising.{times-cons, times-insert}}
 
 times_append : (v x : ℤ) (xs ys : List ℤ) → times v (xs ++ x ∷ ys) ≡ cond (int_eq v x) 1 0 + times v (xs ++ ys)
 times_append v x [] ys = times-cons v x ys

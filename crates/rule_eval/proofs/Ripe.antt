@@ -2,8 +2,8 @@
 use Rattle.rule_eval.proofs.Common.{◌≡◌, ◌||◌, not, ℤ, Bool, true, false, Option, Some, None, sym, ◌∙◌, ap, Program, bounds_of, is_event, is_point}
 use Rattle.rule_eval.proofs.Common.{window_by_lists, start_window_at, is_past, AreOperators, Bindings, Bounds, bounds_join}
 use Rattle.temporal_ops.specs.{declared.window.Window.{Window}, Possible.{ArePossibleTimes, IsStartWindow}, Starts.{starts_window}}
-use Rattle.temporal_ops.proofs.{WindowOfEdges.{window_is_of_edges}, Windows.{one_window}}
-use Rattle.rule_model.specs.{declared.condition.Pattern.{Pattern}, Maturity.{is_mature}}
+use Rattle.{temporal_ops.proofs.{WindowOfEdges.{window_is_of_edges}, Windows.{one_window}}, rule_model.specs.declared.condition.Pattern.{Pattern}}
+use Rattle.rule_model.specs.Maturity.{is_mature}
 
 module _ (p : Program) (q : Pattern) (bound : Bindings) (moment : ℤ) where
   -- a pattern of plain facts

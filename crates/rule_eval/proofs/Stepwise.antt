@@ -1,9 +1,8 @@
 -- Conditions taken one after the other, over lists of tuples.
 use Rattle.rule_eval.proofs.Common.{◌≡◌, ℕ, ◌+◌, List, [], ◌∷◌, ◌++◌, drop, refl, sym, ◌∙◌, ap, subst, filter, flat_map, Fact, Program, candidates, passes}
 use Rattle.rule_eval.proofs.Common.{extended, pattern_of, HaveOperators, made_by, over, passing, tuples, Snapshot, Tuple, empty_tuple}
-use Rattle.std.proofs.lemmas.Grind.{flat_map-append}
-use Rattle.rule_model.specs.{declared.condition.Condition.{Condition, TheVariants.{Plain, Negated, Existing, Folded}}, Snapshots.{floor}}
-use Rattle.rule_model.specs.declared.moment.Moment.{Moment}
+use Rattle.{std.proofs.lemmas.Grind.{flat_map-append}, rule_model.specs.declared.condition.Condition.{Condition, TheVariants.{Plain, Negated, Existing}}}
+use Rattle.rule_model.specs.{declared.{condition.Condition.TheVariants.{Folded}, moment.Moment.{Moment}}, Snapshots.{floor}}
 
 -- functions that agree gather the same
 pub flat_map_same : {A B : Type 0} (f g : A → List B) → ((x : A) → f x ≡ g x) → (xs : List A) → flat_map f xs ≡ flat_map g xs

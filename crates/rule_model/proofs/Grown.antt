@@ -2,8 +2,7 @@
 use Rattle.rule_model.proofs.Common.{◌≡◌, ◌==◌, ◌&&◌, ℤ, inl, inr, List, [], ◌∷◌, ◌++◌, length, Some, sym, ◌∙◌, ap, subst, In, Fact, Row, Condition, Plain}
 use Rattle.rule_model.proofs.Common.{Negated, Existing, Folded, Program, passing, is_mature, IsRow, Extends, Makes, result_of, extended, tuples, Snapshot}
 use Rattle.rule_model.proofs.{Common.{floor, Tuple, empty_tuple, with_fact, with_value, row_of, bound_by}, Listed.{of_map, of_flat_map, of_if, of_unless}}
-use Rattle.rule_model.{proofs.Listed.{of_result}, specs.Rows.{rows}}
-use Rattle.std.proofs.lemmas.List.{append-nil, append_assoc}
+use Rattle.{rule_model.{proofs.Listed.{of_result}, specs.Rows.{rows}}, std.proofs.lemmas.List.{append-nil, append_assoc}}
 
 -- a condition makes the second tuple of the first, without what it asks of absence, of maturity and of results
 abbrev pub Grows : Program → Snapshot → Condition → Tuple → Tuple → Type 0

@@ -4,9 +4,9 @@ use Rattle.rule_model.proofs.Common.{◌∙◌, ap, subst, arith, ints, Fact, Pa
 use Rattle.rule_model.proofs.Common.{of_past, bounds_of, window_by_lists, start_window_at, is_past, times_hold, time_holds_with, Bindings, All, is_event}
 use Rattle.rule_model.{proofs.Common.{is_point, int_lt-true, lt-int_lt}, specs.{Maturity.{is_mature}, declared.test.TimeTest.{TimeTest}}}
 use Rattle.std.{proofs.{Math.Bool.{and-false}, lemmas.List.Elements.{All-nil, All-cons, All-head, All-tail}}, specs.Option.{option_and_then}}
-use Rattle.fx_base.specs.declared.times.Times.{Times}
-use Rattle.temporal_ops.specs.{declared.{edge.OpEdge.{OpEdge}, window.Window.{Window, TheVariants.{Never, UpTo, Unbounded}}}, Edges.{edges_hold, IsOpEdge}}
-use Rattle.temporal_ops.{specs.{Edges.{Joins}, Possible.{IsNone, AreStarts, all_hold}, Starts.{starts_window}}, proofs.WindowOfEdges.{window_is_of_edges}}
+use Rattle.{fx_base.specs.declared.times.Times.{Times}, temporal_ops.specs.declared.{edge.OpEdge.{OpEdge}, window.Window.{Window, TheVariants.{Never, UpTo}}}}
+use Rattle.temporal_ops.specs.{declared.window.Window.TheVariants.{Unbounded}, Edges.{edges_hold, IsOpEdge, Joins}, Possible.{IsNone, AreStarts, all_hold}}
+use Rattle.temporal_ops.{specs.Starts.{starts_window}, proofs.WindowOfEdges.{window_is_of_edges}}
 use Rattle.temporal_ops.specs.Possible as possible
 
 abbrev pub Bounds : Type 0

@@ -1,7 +1,6 @@
 -- What is not present does not come back.
 use Rattle.rule_world.proofs.Common.{◌≡◌, ◌||◌, not, ◌≤ℤ◌, ◌-ℤ◌, ℤ, Bool, true, false, Option, Some, None, arith, ints, Fact, Program, is_within, is_event}
-use Rattle.rule_world.proofs.Common.{expiry_of}
-use Rattle.rule_model.specs.Candidates.{is_present}
+use Rattle.{rule_world.proofs.Common.{expiry_of}, rule_model.specs.Candidates.{is_present}}
 
 too_old : (expiry : Option ℤ) (a b : ℤ) → is_within expiry a ≡ false → a ≤ℤ b → is_within expiry b ≡ false
 too_old None a b e h = absurd cc

@@ -1,8 +1,7 @@
 -- The first pending match.
 use Rattle.rule_world.proofs.Common.{◌≡◌, List, [], ◌∷◌, true, Some, None, refl, ◌∙◌, Match, Program, first, fire_cmp, saliences, has_match, fire_total}
-use Rattle.rule_world.proofs.{Common.{fire_exact, World, pending, first_pending, first_least}, Pending.{by_fire}}
-use Rattle.std.specs.declared.cmp.Ordering.{Ordering, TheVariants.{Less}}
-use Rattle.rule_model.proofs.Firsts.{AllFrom}
+use Rattle.{rule_world.proofs.{Common.{fire_exact, World, pending, first_pending, first_least}, Pending.{by_fire}}, std.specs.declared.cmp.Ordering.{Ordering}}
+use Rattle.{std.specs.declared.cmp.Ordering.TheVariants.{Less}, rule_model.proofs.Firsts.{AllFrom}}
 
 -- no pending match fires before the first
 pub none_before : (p : Program) (w : World) (m n : Match) → first_pending p w ≡ Some m → has_match (pending p w) n ≡ true → fire_cmp (saliences p.rules) n m ≡ Less → ⊥

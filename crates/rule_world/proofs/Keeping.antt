@@ -4,9 +4,7 @@ use Rattle.rule_world.proofs.Common.{sym, ◌∙◌, ap, arith, filter, ints, ap
 use Rattle.rule_world.proofs.Common.{IsOrdered, IsLawful, IsSoundFact, World, present, only_present, with_new, world_at_clock, last_start_with, revised, has_id}
 use Rattle.rule_world.proofs.{Common.{IsTimed, with_revised, with_retracted}, Fresh.{below_of, below_all, distinct_filtered}, Ids.{ids_filtered}}
 use Rattle.rule_world.proofs.{Ids.{ids_below_filtered}, Sound.{events_filtered}, Steps.{stays}, Kept.{filter_within, filter_alike, filter_swap, filter_map}}
-use Rattle.rule_world.proofs.Kept.{filter_append, kept_matches}
-use Rattle.std.proofs.Common.{if◌then◌else◌}
-use Rattle.rule_model.specs.Candidates.{is_present}
+use Rattle.{rule_world.proofs.Kept.{filter_append, kept_matches}, std.proofs.Common.{if◌then◌else◌}, rule_model.specs.Candidates.{is_present}}
 use Rattle.fx_base.proofs.Tests.{or_weaker}
 
 abbrev world_with : World → List Fact → World

@@ -4,8 +4,8 @@ use Rattle.rule_world.proofs.Common.{Condition, Plain, Negated, Existing, Folded
 use Rattle.rule_world.proofs.Common.{passes, passing, first, matches, has_match, fire_cmp, saliences, Snapshot, floor, tests_hold, Tuple, empty_tuple, bound_by}
 use Rattle.rule_world.proofs.Common.{unbound, World, snapshot, present, only_present, found, fact_of, pending, settled, first_pending, flat_map, is_behind}
 use Rattle.rule_world.proofs.Common.{count_behind, matches_from, result_of, with_result, extended, tuples, with_fact, row_of, same_floor}
-use Rattle.std.proofs.{lemmas.Bool.{and_parts}, Common.{nat_lt, length, if◌then◌else◌}}
-use Rattle.rule_model.specs.{declared.condition.WindowTag.{WindowTag, TheVariants.{Whole, Time, Length}}, Maturity.{is_mature}, Rows.{rows}}
+use Rattle.{std.proofs.{lemmas.Bool.{and_parts}, Common.{nat_lt, length, if◌then◌else◌}}, rule_model.specs.declared.condition.WindowTag.{WindowTag}}
+use Rattle.rule_model.specs.{declared.condition.WindowTag.TheVariants.{Whole, Time, Length}, Maturity.{is_mature}, Rows.{rows}}
 
 -- ---- filters
 

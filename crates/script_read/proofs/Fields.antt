@@ -1,10 +1,8 @@
 -- What members give for fields, one after another.
 use Rattle.script_read.proofs.Common.{◌≡◌, ℕ, ◌+◌, ◌<◌, List, [], ◌∷◌, length, drop, get_or, Option, Some, None, Ordering, Less, Equal, Greater, nat_cmp, Bor}
 use Rattle.script_read.proofs.Common.{Global, refl, sym, ap, ◌∙◌, option_map, slice_cmp, value_view, members_view, Data, Members, put, of_json, of_members}
-use Rattle.script_read.proofs.Common.{put_given, tree_given, givens, given_of, Given, match_ordering}
-use Rattle.serde_json.specs.Data.{no_members, member}
-use Rattle.json.specs.declared.value.Value.{Value as Tree}
-use Rattle.fx_base.proofs.Sequences.{drop_at}
+use Rattle.{script_read.proofs.Common.{put_given, tree_given, givens, given_of, Given, match_ordering}, serde_json.specs.Data.{no_members, member}}
+use Rattle.{json.specs.declared.value.Value.{Value as Tree}, fx_base.proofs.Sequences.{drop_at}}
 
 abbrev pub Field : Type 0
 Field = List ℕ × Given

@@ -4,8 +4,7 @@ use Rattle.script_read.proofs.Common.{held, insert_into, modify, retract, advanc
 use Rattle.script_read.proofs.Common.{insert_into_parts, modify_parts, retract_parts, advance_parts, at_parts, promise_parts, promise_of_parts, command_by_word}
 use Rattle.script_read.proofs.Common.{Command, Change, Fire, Held, if◌then◌else◌, bytes_eq, text_member, object_member, whole_member, id_member, count_member}
 use Rattle.script_read.{proofs.Common.{count, Begin}, specs.Form.{insert, fire_of, held_form, insert_of, modify_of, retract_of, advance_of, at_of, promise_of}}
-use Rattle.script_read.specs.Form.{begin_of, command_of}
-use Rattle.std.{specs.Prelude.{codes}, proofs.lemmas.{Slice.Eq.{bytes_eq-Decides}, Bool.Decides.{Decides-eqb}}}
+use Rattle.{script_read.specs.Form.{begin_of, command_of}, std.{specs.Prelude.{codes}, proofs.lemmas.{Slice.Eq.{bytes_eq-Decides}, Bool.Decides.{Decides-eqb}}}}
 
 -- every command with the form of a value is the one that is found
 pub form_again : {d : Data} {c : Command} → IsForm d c → command_of d ≡ Some c

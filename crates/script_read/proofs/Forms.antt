@@ -4,11 +4,8 @@ use Rattle.script_read.proofs.Common.{codes, refl, sym, ap, ◌∙◌, arith, If
 use Rattle.script_read.proofs.Common.{of_members, number_of, tree_givens, two, three, givens, asks, reading, asked_of_reading, Command, Change, Fire, Insert}
 use Rattle.script_read.{proofs.Common.{Modify, Retract, Promise, At, Advance, Given, from_one}, specs.{Flat.{tree_command, word_command}, Asked.{asked}}}
 use Rattle.script_read.specs.{Members.{text_member, object_member, whole_member, id_member, count}, Form.{command_of, insert_of, modify_of, retract_of}}
-use Rattle.script_read.specs.Form.{promise_of, fire_of, at_of, advance_of}
-use Rattle.std.specs.Prelude.{option_and_then}
-use Rattle.serde_json.specs.Data.{no_members}
-use Rattle.fx_base.specs.declared.no_memory.NoMemory.{NoMemory}
-use Rattle.json.specs.declared.value.Value.{Value as Tree}
+use Rattle.{script_read.specs.Form.{promise_of, fire_of, at_of, advance_of}, std.specs.Prelude.{option_and_then}, serde_json.specs.Data.{no_members}}
+use Rattle.{fx_base.specs.declared.no_memory.NoMemory.{NoMemory}, json.specs.declared.value.Value.{Value as Tree}}
 use Rattle.json.specs.Json as json
 
 -- ---- the members of an object, one by one

@@ -1,7 +1,6 @@
 -- The reading of a line, as a relation and as a function.
 use Rattle.script_read.proofs.Common.{◌≡◌, List, ℕ, Bool, true, false, Some, None, refl, ◌∙◌, Data, read, IsLineReading, IsUtf8, is_utf8}
-use Rattle.script_read.specs.Asked.{reading}
-use Rattle.std.proofs.lemmas.Str.{is_utf8-from_IsUtf8, IsUtf8-from_is_utf8}
+use Rattle.{script_read.specs.Asked.{reading}, std.proofs.lemmas.Str.{is_utf8-from_IsUtf8, IsUtf8-from_is_utf8}}
 
 -- a text is read as `serde_json` reads it
 pub reading_of_text : (line : List ℕ) → IsUtf8 line → reading line ≡ read line

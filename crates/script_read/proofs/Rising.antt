@@ -1,9 +1,9 @@
 -- A field put among others in the byte order of their names.
 use Rattle.script_read.proofs.Common.{◌≡◌, ◌∙◌, sym, ap, refl, ℕ, ◌+◌, ◌-◌, ◌<◌, ◌≤◌, List, [], ◌∷◌, length, get_or, arith, Ordering, Less, Equal, Greater}
 use Rattle.script_read.proofs.Common.{nat_cmp, zero, suc, inl, inr, true, false, slice_cmp, insert, AllByRecursion, AllWithin, put_given, Given, is_lt}
-use Rattle.script_read.proofs.Common.{match_ordering, ordering_index, ordering_reverse, name_cmp, IsRising}
-use Rattle.std.proofs.lemmas.{Bool.{cases_lt}, Cmp.{on_total, nat_list_cmp_total}, List.Sorted.{searchable_from_sorted}, Map.Keys.{Less-from_sorted}}
-use Rattle.std.specs.{Cmp.{IsTotalOrder}, List.Sorted.{IsStrictlySortedBy, IsSortedBy, IsNonDecreasingBy}}
+use Rattle.{script_read.proofs.Common.{match_ordering, ordering_index, ordering_reverse, name_cmp, IsRising}, std.proofs.lemmas.Bool.{cases_lt}}
+use Rattle.std.{proofs.lemmas.{Cmp.{on_total, nat_list_cmp_total}, List.Sorted.{searchable_from_sorted}, Map.Keys.{Less-from_sorted}}, specs.Cmp.{IsTotalOrder}}
+use Rattle.std.specs.List.Sorted.{IsStrictlySortedBy, IsSortedBy, IsNonDecreasingBy}
 
 abbrev pub Field : Type 0
 Field = List ℕ × Given

@@ -3,9 +3,7 @@ use Rattle.script_run.proofs.Common.{◌≡◌, ℕ, zero, suc, ◌||◌, Bool, 
 use Rattle.script_run.proofs.Common.{flat_map-append, list_any-append, append-nil, Program, World, OutLine, Goes, Stops, Fires, Firings, all_fired, limit_met}
 use Rattle.script_run.proofs.Common.{onto_lines, none_left, then_fires, wants_one, one_less, RunSetting, fire_step, Does, EndsFirings, written_line}
 use Rattle.script_run.{proofs.Common.{written_lines, written_limit, has_fault, is_fault}, specs.Firings.{firings}}
-use Rattle.answer_lines.specs.declared.lines.Fired.TheVariants.{No, Yes}
-use Rattle.engine.specs.Answers.{FiringAnswers}
-use Rattle.line_run.specs.declared.turn.Turn.{Turn}
+use Rattle.{answer_lines.specs.declared.lines.Fired.TheVariants.{No, Yes}, engine.specs.Answers.{FiringAnswers}, line_run.specs.declared.turn.Turn.{Turn}}
 
 -- either of two, by the first
 pub or_first : (a b either : Bool) → a ≡ true → either ≡ a → either ≡ (a || b)

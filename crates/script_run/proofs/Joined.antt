@@ -4,14 +4,10 @@ use Rattle.script_run.proofs.Common.{None, refl, sym, ap, subst, ◌∙◌, arit
 use Rattle.script_run.proofs.Common.{all_fired, limit_met, none_left, onto_lines, then_fires, wants_one, one_less, RunSetting, RunState, Outcome, LineEffect}
 use Rattle.script_run.proofs.Common.{goes_on, saves, stops, then_run, whole_run, first_state, state_in, state_after, step_in, fire_step, command_step}
 use Rattle.script_run.{proofs.Common.{asked_step}, specs.{Firings.{firings}, Parts.{run_on}, Run.{run, line_step, at_most, closed, fire_by, is_fire_line}}}
-use Rattle.script_run.specs.Run.{met_step, told_step}
-use Rattle.std.proofs.lemmas.Option.{same_Some}
-use Rattle.fx_io.specs.Lines.{lines_of}
-use Rattle.checkpoint.specs.declared.image.RunPart.{RunPart}
-use Rattle.script_read.specs.{Asked.{Asked, asks, bad_json, bad_command, asked}, Blank.{is_line_blank}, declared.asked.Command.{Command, TheVariants.{Change}}}
-use Rattle.script_read.specs.declared.asked.Command.TheVariants.{Fire, Held}
-use Rattle.line_run.{specs.{Parts.{EndsLine, first_part, run_part_at, progress_behind}, Run.{Done, Steps, run as run_lines}}, proofs.Ahead.{run_goes}}
-use Rattle.line_run.proofs.Ahead.{run_saves, run_stops, then_run-then_run}
+use Rattle.{script_run.specs.Run.{met_step, told_step}, std.proofs.lemmas.Option.{same_Some}, fx_io.specs.Lines.{lines_of}}
+use Rattle.{checkpoint.specs.declared.image.RunPart.{RunPart}, script_read.specs.{Asked.{Asked, asks, bad_json, bad_command, asked}, Blank.{is_line_blank}}}
+use Rattle.{script_read.specs.declared.asked.Command.{Command, TheVariants.{Change, Fire, Held}}, line_run.specs.Parts.{EndsLine, first_part, run_part_at}}
+use Rattle.line_run.{specs.{Parts.{progress_behind}, Run.{Done, Steps, run as run_lines}}, proofs.Ahead.{run_goes, run_saves, run_stops, then_run-then_run}}
 
 abbrev comes_of : Outcome → Option RunState
 comes_of o = o.comes_to

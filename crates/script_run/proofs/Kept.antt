@@ -3,10 +3,8 @@ use Rattle.script_run.proofs.Common.{◌≡◌, ◌+◌, ℕ, zero, suc, Bool, t
 use Rattle.script_run.proofs.Common.{if◌then◌else◌, World, OutLine, Firings, all_fired, limit_met, none_left, onto_lines, then_fires, wants_one, one_less}
 use Rattle.script_run.proofs.Common.{RunSetting, RunState, Outcome, LineEffect, goes_on, saves, stops, state_after, step_in, fire_step, command_step}
 use Rattle.script_run.{proofs.Common.{asked_step}, specs.{Firings.{firings}, Run.{run, line_step, at_most, closed, fire_by, is_fire_line, met_step, told_step}}}
-use Rattle.script_run.proofs.Joined.{no_more}
-use Rattle.std.proofs.lemmas.Option.{same_Some}
-use Rattle.script_read.specs.{Asked.{Asked, asks, bad_json, bad_command, asked}, Blank.{is_line_blank}, declared.asked.Change.{Change as ScriptChange}}
-use Rattle.script_read.specs.declared.asked.Command.{Command, TheVariants.{Change, Fire, Held}}
+use Rattle.{script_run.proofs.Joined.{no_more}, std.proofs.lemmas.Option.{same_Some}, script_read.specs.Asked.{Asked, asks, bad_json, bad_command, asked}}
+use Rattle.script_read.specs.{Blank.{is_line_blank}, declared.asked.{Change.{Change as ScriptChange}, Command.{Command, TheVariants.{Change, Fire, Held}}}}
 use Rattle.line_run.{specs.Run.{run as run_lines}, proofs.Ahead.{run_goes, run_saves, run_stops}}
 
 module _ (setting : RunSetting) (Holds : World → Type 0)

@@ -5,10 +5,8 @@ use Rattle.script_run.proofs.Common.{onto_lines, then_fires, wants_one, one_less
 use Rattle.script_run.proofs.Common.{step_in, fire_step, command_step, asked_step, first_state, whole_run, at_end, then_run, written_lines, has_fault, is_some}
 use Rattle.script_run.{proofs.Common.{empty_world}, specs.{Firings.{firings}, Limits.{with_limit, IsSameRun}, Run.{run, line_step, at_most, closed, end_text}}}
 use Rattle.script_run.{specs.Run.{fire_by, fired_of, is_fire_line, met_lines, met_step, told_step}, proofs.Joined.{no_more, run_within, StepWithin}}
-use Rattle.script_run.proofs.Joined.{told_within}
-use Rattle.std.proofs.lemmas.Option.{same_Some}
-use Rattle.script_read.specs.{Asked.{Asked, asks, bad_json, bad_command, asked}, Blank.{is_line_blank}, declared.asked.Command.{Command, TheVariants.{Change}}}
-use Rattle.script_read.specs.declared.asked.Command.TheVariants.{Fire, Held}
+use Rattle.{script_run.proofs.Joined.{told_within}, std.proofs.lemmas.Option.{same_Some}, script_read.specs.Asked.{Asked, asks, bad_json, bad_command, asked}}
+use Rattle.script_read.specs.{Blank.{is_line_blank}, declared.asked.Command.{Command, TheVariants.{Change, Fire, Held}}}
 use Rattle.line_run.{specs.Run.{run as run_lines}, proofs.Ahead.{run_goes, run_saves, run_stops}}
 
 -- ---- firings, of which so many and so many were left before

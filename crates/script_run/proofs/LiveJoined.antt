@@ -1,10 +1,8 @@
 -- The run of a live script in two parts.
 use Rattle.script_run.{proofs.Common.{◌+◌, ℕ, true, false, Bool, List, Option, Some, None, arith, World}, specs.Live.{LiveSetting, facts_of_type, live_line}}
 use Rattle.script_run.{specs.{Live.{live_step, question_in, question_step, save_step, told_or_asked}, Run.{is_fire_line}}, proofs.Joined.{AreWithin}}
-use Rattle.script_run.proofs.Joined.{StepWithin, closed_within, told_within}
-use Rattle.rule_model.specs.declared.program.TypeInfo.{TypeInfo}
-use Rattle.change_resolve.specs.Changes.{type_named}
-use Rattle.desk_read.specs.declared.asked.Question.{Question, TheVariants.{Save, Facts, Counts}}
+use Rattle.{script_run.proofs.Joined.{StepWithin, closed_within, told_within}, rule_model.specs.declared.program.TypeInfo.{TypeInfo}}
+use Rattle.{change_resolve.specs.Changes.{type_named}, desk_read.specs.declared.asked.Question.{Question, TheVariants.{Save, Facts, Counts}}}
 
 saved_within : (live : LiveSetting) (number n : ℕ) (w : World) → StepWithin n (save_step live number n w)
 saved_within live number n w = here live.has_image

@@ -4,9 +4,8 @@ use Rattle.script_run.proofs.Common.{Goes, Stops, written_fault, Bool, false, Ru
 use Rattle.script_run.specs.{declared.{fault.LineCode.TheVariants.{LineLong}, line_read.LineRead.TheVariants.{Blank}}, Reads.{fires_read, line_read}}
 use Rattle.script_run.specs.{Reads.{read_asked, read_step}, Run.{asked_step, blank_step, closed, end_text, fired_of, fires_asked, is_fire_line, line_step}}
 use Rattle.script_run.specs.{Run.{met_lines, met_step, told_step}, Live.{LiveSetting, live_line, question_in, told_or_asked}, Turns.{Closes}}
-use Rattle.std.proofs.lemmas.Bool.{le-ltb, lt-ltb}
-use Rattle.line_run.specs.declared.turn.Turn.{Turn}
-use Rattle.script_read.specs.{Asked.{Asked, asks, bad_json, bad_command, asked}, Blank.{is_line_blank}}
+use Rattle.{std.proofs.lemmas.Bool.{le-ltb, lt-ltb}, line_run.specs.declared.turn.Turn.{Turn}, script_read.specs.Asked.{Asked, asks, bad_json, bad_command}}
+use Rattle.script_read.specs.{Asked.{asked}, Blank.{is_line_blank}}
 
 too_long : (setting : RunSetting) (number left : ℕ) (w : World) (line : List ℕ) → 65536 < length line → told_step setting number left w line ≡ fault_step setting.form number left w LineLong
 too_long setting number left w line h = rw (lt-ltb 65536 (length line) h) refl

@@ -1,6 +1,5 @@
 -- What two clauses of a call say together, and answers of firings that stand for less.
-use Rattle.session.proofs.Common.{List, Option, Some, None, Result, Ok, Err, IfOk, World}
-use Rattle.engine.specs.Answers.{FiringAnswers}
+use Rattle.{session.proofs.Common.{List, Option, Some, None, Result, Ok, Err, IfOk, World}, engine.specs.Answers.{FiringAnswers}}
 use Rattle.answer_lines.specs.declared.lines.{Fired.{Fired}, OutLine.{OutLine}}
 
 pub both_ok : {T E : Type 0} (r : Result T E) (P Q : T → Type 0) → IfOk r P → IfOk r Q → IfOk r (λ x. P x × Q x)

@@ -1,7 +1,6 @@
 -- What a session is made of is that of an image.
 use Rattle.session.proofs.Common.{◌≡◌, ◌∙◌, ℤ, List, ap, Extra, FiredMatch, Image, HeldFacts, FitsPlainly, Setting, stored, Course}
-use Rattle.session.specs.Restores.{AreOfImage}
-use Rattle.rule_model.specs.declared.moment.Moment.{Moment}
+use Rattle.{session.specs.Restores.{AreOfImage}, rule_model.specs.declared.moment.Moment.{Moment}}
 
 pub are_of_image : (setting : Setting) (image : Image) → FitsPlainly setting.program setting.lives image → (moment : Moment) (course : Course) (clock : ℤ) → moment.clock ≡ clock → clock ≡ image.clock
     → moment.last_starts.now ≡ course.last_starts → moment.promises.now ≡ course.promises

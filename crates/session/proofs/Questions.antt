@@ -2,15 +2,12 @@
 use Rattle.session.proofs.Common.{◌≡◌, ◌∙◌, ap, sym, ℕ, ℤ, List, [], ◌∷◌, length, nat_cmp, Fact, TypeId, facts_of, World, Memory, Setting, Contents, Runs}
 use Rattle.session.{proofs.Common.{Standing, AreCounts, reached_of, Reached}, specs.Inspected.{IsCounted, all_floors, all_types, type_at}}
 use Rattle.std.{proofs.{Common.{map}, lemmas.Simd.{map-map}}, specs.List.{AllByRecursion, range_with_len, Sorted.{IsStrictlySortedBy}}}
-use Rattle.std.specs.declared.cmp.Ordering.TheVariants.{Less}
-use Rattle.fact_store.proofs.Members.{from_list, from_map, tags_rise}
-use Rattle.rule_model.specs.{Distinct.{tag_cmp}, Matches.{fire_cmp}, MatchOrders.{fire_total}, Snapshots.{floor, floor_by}, Types.{lateness_of}}
-use Rattle.rule_model.proofs.{Once.{marked_once_filter}, Order.{Same, same_length}, RuleOf.{in_has, has_in}, Sorted.{sorted_once, sorted_same, tag_total}}
-use Rattle.rule_world.specs.Worlds.{pending}
-use Rattle.kept_meaning.specs.Kept.{is_kept, kept_facts}
-use Rattle.engine.specs.{WorldCounts.{count_of_type, kept_counts, floors, pending_count, world_counts}, KeptFacts.{kept_by_tag}}
-use Rattle.engine.{specs.declared.world_counts.WorldCounts.{WorldCounts}, proofs.{Kept.{kept_sorted, kept_members}, Pending.{pending_once}}}
-use Rattle.session_model.proofs.{Members.{Holds}, Tallied.{all_counted, holds_kept}}
+use Rattle.{std.specs.declared.cmp.Ordering.TheVariants.{Less}, fact_store.proofs.Members.{from_list, from_map, tags_rise}, rule_model.specs.Distinct.{tag_cmp}}
+use Rattle.rule_model.{specs.{Matches.{fire_cmp}, MatchOrders.{fire_total}, Snapshots.{floor, floor_by}, Types.{lateness_of}}, proofs.Once.{marked_once_filter}}
+use Rattle.rule_model.proofs.{Order.{Same, same_length}, RuleOf.{in_has, has_in}, Sorted.{sorted_once, sorted_same, tag_total}}
+use Rattle.{rule_world.specs.Worlds.{pending}, kept_meaning.specs.Kept.{is_kept, kept_facts}, engine.specs.WorldCounts.{count_of_type, kept_counts, floors}}
+use Rattle.engine.specs.{WorldCounts.{pending_count, world_counts}, KeptFacts.{kept_by_tag}, declared.world_counts.WorldCounts.{WorldCounts}}
+use Rattle.{engine.proofs.{Kept.{kept_sorted, kept_members}, Pending.{pending_once}}, session_model.proofs.{Members.{Holds}, Tallied.{all_counted, holds_kept}}}
 
 -- ---- the order of tags
 

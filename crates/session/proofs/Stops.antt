@@ -1,8 +1,7 @@
 -- What is safe where memory is refused within a step.
 use Rattle.session.proofs.Common.{◌≡◌, ◌+◌, ℕ, ℤ, Option, refl, sym, subst, Fact, HeldFacts, safe_new, safe_numbers, safe_again, safe_left, remaining}
-use Rattle.session.proofs.Common.{remaining_is, ◌≤ℤ◌, List, pos, most_millis}
-use Rattle.due_queue.specs.Timers.{Timers, TakesDue}
-use Rattle.session_model.specs.{Places.{IsSafe}, Waiting.{with_timer}}
+use Rattle.{session.proofs.Common.{remaining_is, ◌≤ℤ◌, List, pos, most_millis}, due_queue.specs.Timers.{Timers, TakesDue}, session_model.specs.Places.{IsSafe}}
+use Rattle.session_model.specs.Waiting.{with_timer}
 use Rattle.std.specs.FinMap as map
 
 -- a fact waits already, and is not held yet

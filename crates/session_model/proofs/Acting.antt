@@ -4,8 +4,7 @@ use Rattle.session_model.proofs.Common.{Rule, Step, HaveDistinctTags, IsLawful, 
 use Rattle.session_model.proofs.Common.{only_present, present, snapshot, pending, first_pending, marked, steps_fit, found_fits, kept_lawful, kept_rows}
 use Rattle.session_model.proofs.Common.{firing_lawful, of_map, has_pending, first_is_pending, IsMatchOf, rule_of, in_place, same_stays, OutLine, version_of}
 use Rattle.session_model.proofs.{Common.{Detail, step_or_overflow, wanted, actions_of, fires_match, fires_with, AllFit}, Doing.{all_lawful}}
-use Rattle.session_model.{proofs.Members.{version_in}, specs.Gives.{fires_in}}
-use Rattle.std.{proofs.lemmas.Bool.{and_parts}, specs.Prelude.{Ok, slice_get}}
+use Rattle.{session_model.{proofs.Members.{version_in}, specs.Gives.{fires_in}}, std.{proofs.lemmas.Bool.{and_parts}, specs.Prelude.{Ok, slice_get}}}
 
 -- ---- the versions with the tags
 

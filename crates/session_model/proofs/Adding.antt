@@ -2,10 +2,8 @@
 use Rattle.session_model.proofs.Common.{◌≡◌, ◌∙◌, ◌==◌, ◌&&◌, ◌||◌, not, ℕ, zero, suc, Bool, true, false, cond, inl, inr, List, [], ◌∷◌, ◌++◌, ◌+◌, ◌<◌, get_or}
 use Rattle.session_model.proofs.Common.{length, refl, sym, ap, subst, arith, eq_by_cmp, map-append, take_more, list_any-append, In, Row, row_cmp, has}
 use Rattle.session_model.proofs.Common.{same_equiv, FiredMatch, Match, has_match, match_cmp, match_equiv, Marks, IsChanged, match_fired, RuleChange, comes_by}
-use Rattle.session_model.proofs.Common.{has_marked, NoneGo, AreMarking}
-use Rattle.std.proofs.{Math.Bool.{or-false, or_assoc}, Common.{take, map as list_map}}
-use Rattle.agenda.proofs.Steps.{fired_put, parts}
-use Rattle.fx_base.proofs.{Sequences.{In-append}, Tests.{and_not_not, or_and_join}}
+use Rattle.{session_model.proofs.Common.{has_marked, NoneGo, AreMarking}, std.proofs.{Math.Bool.{or-false, or_assoc}, Common.{take, map as list_map}}}
+use Rattle.{agenda.proofs.Steps.{fired_put, parts}, fx_base.proofs.{Sequences.{In-append}, Tests.{and_not_not, or_and_join}}}
 
 -- ---- matches in a set
 

@@ -1,9 +1,7 @@
 -- Snapshots with the same members at the same clock have the same matches.
 use Rattle.session_model.proofs.Common.{◌≡◌, inl, inr, true, false, List, [], ◌∷◌, refl, sym, subst, eq_by_cmp, tells_apart, In, Row, has, row_cmp, row_exact}
 use Rattle.session_model.proofs.Common.{same_equiv, or_split, Condition, Match, Program, Rule, matches_of, has_match, rows, HaveDistinctTags, Snapshot, AllOf}
-use Rattle.session_model.proofs.{Common.{rows_over}, Rules.{same_found}}
-use Rattle.std.proofs.lemmas.Bool.{or_left, or_right}
-use Rattle.fx_base.proofs.Tests.{same_test}
+use Rattle.{session_model.proofs.{Common.{rows_over}, Rules.{same_found}}, std.proofs.lemmas.Bool.{or_left, or_right}, fx_base.proofs.Tests.{same_test}}
 
 in_has : (row : Row) (rs : List Row) → In row rs → has rs row ≡ true
 in_has row [] i = absurd i

@@ -4,10 +4,8 @@ use Rattle.session_model.proofs.Common.{Step, is_event, is_event_type, Code, Eve
 use Rattle.session_model.proofs.Common.{event_by, found_fits, World, found, is_of_type, Change, Given, entry_asked, fields_step, insert_step, modify_step}
 use Rattle.session_model.proofs.Common.{Detail, type_named, asked_fits, stands, type_stands, Memory, Setting, FitsWorld, IsOfPlain, newest, Contents, Runs}
 use Rattle.session_model.{proofs.{Common.{Standing}, Doing.{does_lawful, plain_fit}, Looking.{same_of_type}}, specs.Gives.{gives_in}}
-use Rattle.std.specs.Prelude.{if◌then◌else◌}
-use Rattle.rule_world.specs.Kinds.{step_fits}
-use Rattle.script_read.specs.declared.asked.Change.TheVariants.{Insert, Modify, Retract, Advance, At, Promise, Begin}
-use Rattle.change_resolve.specs.Changes.{change_step}
+use Rattle.{std.specs.Prelude.{if◌then◌else◌}, rule_world.specs.Kinds.{step_fits}, script_read.specs.declared.asked.Change.TheVariants.{Insert, Modify}}
+use Rattle.{script_read.specs.declared.asked.Change.TheVariants.{Retract, Advance, At, Promise, Begin}, change_resolve.specs.Changes.{change_step}}
 use Rattle.rule_model.specs.declared.step.Step.TheVariants as step
 
 -- ---- what is asked for

@@ -2,8 +2,7 @@
 use Rattle.session_model.proofs.Common.{◌≡◌, ℕ, Bool, true, List, None, inl, refl, sym, subst, facts_of, Row, Program, Rule, Begin, IsLawful, World}
 use Rattle.session_model.proofs.Common.{only_present, clean_rows, Memory, Setting, over, Contents, Awaits, Mirrors, Runs, Standing, with_facts, reached_of}
 use Rattle.session_model.proofs.{Exactly.{after_begin}, Moving_on.{covered_at, on_time}, Passing.{none_left}, Rules.{not_refreshed}, Stands.{contents}}
-use Rattle.session_model.proofs.{Still.{none_out}, Taken.{taken_awaits}}
-use Rattle.rule_world.specs.Worlds.{step_fault, stepped, moved}
+use Rattle.{session_model.proofs.{Still.{none_out}, Taken.{taken_awaits}}, rule_world.specs.Worlds.{step_fault, stepped, moved}}
 use Rattle.std.specs.FinMap as map
 
 module _ (s : Setting) (m : Memory) (k : Contents) (w : World) (st : Standing s m k w) (runs : Runs s) (none : step_fault s.program w Begin ≡ None) (lawful : IsLawful s.program (stepped s.program w Begin)) where

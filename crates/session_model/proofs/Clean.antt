@@ -5,8 +5,7 @@ use Rattle.session_model.proofs.Common.{has_match, rows, Snapshot, name_of, of_f
 use Rattle.session_model.proofs.Common.{kept_matches, clean, clean_rows, has_clean, Lives, TagWorld, ends_by, each_tag, is_kept_tag, is_clean, fact_at}
 use Rattle.session_model.proofs.Common.{sight_of, clean_is, fact_in, own_at, named_present, sight_law, Memory, Setting, over, matches_by, Contents, Standing}
 use Rattle.session_model.proofs.{Common.{Whole, with_facts, reached_of}, Alike.{same_matches}, Exactly.{Exact, exact}, Members.{Holds, all_listed}}
-use Rattle.session_model.proofs.{Members.{held_distinct, listed, own_tags}, Newest.{holds}, Rules.{found_at, is_found}}
-use Rattle.std.specs.Prelude.{is_some}
+use Rattle.{session_model.proofs.{Members.{held_distinct, listed, own_tags}, Newest.{holds}, Rules.{found_at, is_found}}, std.specs.Prelude.{is_some}}
 use Rattle.forgetting_laws.specs.Sights.{is_forgotten_tag}
 use Rattle.std.specs.FinMap as map
 

@@ -2,9 +2,8 @@
 use Rattle.session_model.proofs.Common.{◌≡◌, ◌∙◌, ◌==◌, ◌&&◌, ◌||◌, not, ℕ, Bool, true, false, inl, inr, List, [], ◌∷◌, cond, Option, Some, None, refl, sym, ap}
 use Rattle.session_model.proofs.Common.{subst, arith, AllByRecursion, nat_cmp, Less, nat_tests, In, Image, Delta, has, Match, Program, Rule, snapshot_of}
 use Rattle.session_model.proofs.Common.{RuleChange, AreLadenRows, coming, change_of, Marks, FiredMatch, comes_by, has_marked, laden_by, is_laden, AreMarked}
-use Rattle.session_model.proofs.Common.{NoneGo}
-use Rattle.std.{proofs.{lemmas.Bool.{eqb-true}, Math.Bool.{or-false}, Common.{map as list_map}}, specs.{Prelude.{slice_get}, List.Sorted.{IsStrictlySortedBy}}}
-use Rattle.fx_base.proofs.Orders.{eqb-self}
+use Rattle.{session_model.proofs.Common.{NoneGo}, std.proofs.{lemmas.Bool.{eqb-true}, Math.Bool.{or-false}, Common.{map as list_map}}}
+use Rattle.{std.specs.{Prelude.{slice_get}, List.Sorted.{IsStrictlySortedBy}}, fx_base.proofs.Orders.{eqb-self}}
 
 abbrev rules_of : List RuleChange → List ℕ
 rules_of changes = list_map (λ (c : RuleChange). c.rule.0) changes

@@ -5,10 +5,9 @@ use Rattle.session_model.proofs.Common.{Advance, At, Promise, Begin, IsLawful, I
 use Rattle.session_model.proofs.Common.{first_pending, first_is_pending, kept_lawful, marked, stepped, step_fault, named_present, Change, Detail, OutLine, does}
 use Rattle.session_model.proofs.Common.{tries_with, step_lines, fires_match, fires_with, wanted, actions_of, version_of, change_step, slice_get}
 use Rattle.session_model.specs.Gives.{brief_of, cells, conditions_of, does_all, fire_line, fires_in, gives_in, in_brief, modified_lines, revision, seen}
-use Rattle.session_model.{specs.Gives.{then_does}, proofs.Members.{version_in}}
-use Rattle.std.{proofs.lemmas.{Bool.{and_parts}, List.Concat.{flat_map-append}}, specs.List.{flat_map}}
-use Rattle.rule_model.specs.Tuples.{name_of}
-use Rattle.answer_lines.specs.declared.lines.{Detail.TheVariants.{Brief, Full}, OutLine.TheVariants.{Fire}}
+use Rattle.{session_model.{specs.Gives.{then_does}, proofs.Members.{version_in}}, std.proofs.lemmas.{Bool.{and_parts}, List.Concat.{flat_map-append}}}
+use Rattle.{std.specs.List.{flat_map}, rule_model.specs.Tuples.{name_of}, answer_lines.specs.declared.lines.Detail.TheVariants.{Brief, Full}}
+use Rattle.answer_lines.specs.declared.lines.OutLine.TheVariants.{Fire}
 
 -- ---- steps
 

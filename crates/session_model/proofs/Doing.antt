@@ -3,8 +3,8 @@ use Rattle.session_model.proofs.Common.{◌≡◌, ◌&&◌, not, inl, inr, ℕ,
 use Rattle.session_model.proofs.Common.{sym, ◌∙◌, ap, list_all, TypeId, Value, Fact, Program, TypeInfo, Step, Insert, Modify, Retract, Advance, At, Promise}
 use Rattle.session_model.proofs.Common.{Begin, is_event, is_event_type, Code, set_fits, sets_fit, IsLawful, IsOrdered, World, fact_of, step_fault, event_by}
 use Rattle.session_model.proofs.Common.{found_there, step_lawful, Stays, fits_later, same_stays, stays_on, step_stays, type_stays, does, tries_with, AllFit}
-use Rattle.session_model.{proofs.Common.{Detail, FitsWorld, IsOfPlain}, specs.Gives.{does_all}}
-use Rattle.rule_world.{specs.Kinds.{step_fits}, proofs.Fitting.{sets_of_type}}
+use Rattle.{session_model.{proofs.Common.{Detail, FitsWorld, IsOfPlain}, specs.Gives.{does_all}}, rule_world.specs.Kinds.{step_fits}}
+use Rattle.rule_world.proofs.Fitting.{sets_of_type}
 
 -- a step that is done, or a fault
 pub does_lawful : (d : Detail) (p : Program) (w : World) (wanted : Result Step Code) → IsLawful p w → FitsWorld p w wanted → IsLawful p (does d p w wanted).1

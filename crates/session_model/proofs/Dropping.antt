@@ -1,9 +1,7 @@
 -- Fired matches are dropped rule by rule, and of a match's rule there is one entry.
 use Rattle.session_model.proofs.Common.{◌≡◌, ◌∙◌, sym, ap, refl, subst, inl, inr, ℕ, zero, suc, ◌<◌, ◌==◌, ◌&&◌, ◌||◌, not, Bool, true, false, cond, List, []}
 use Rattle.session_model.proofs.Common.{◌∷◌, length, slice_get, Some, arith, list_any, and-true, nat_tests, In, Row, has, Match, has_match, RuleRows, AreListed}
-use Rattle.session_model.proofs.Common.{rows_for, Marks}
-use Rattle.std.proofs.lemmas.Bool.{eqb-true}
-use Rattle.fx_base.proofs.Tests.{and_not_not}
+use Rattle.{session_model.proofs.Common.{rows_for, Marks}, std.proofs.lemmas.Bool.{eqb-true}, fx_base.proofs.Tests.{and_not_not}}
 
 -- ---- one entry of a rule
 

@@ -8,10 +8,8 @@ use Rattle.session_model.proofs.Common.{World, world_at_clock, only_present, is_
 use Rattle.session_model.proofs.Common.{is_reference, lateness_of, new_line, new_fact, times_of, Memory, Setting, step_lines, IsSafe, insert_fault_in, newest}
 use Rattle.session_model.proofs.Common.{Contents, Mirrors, Standing, with_facts, reached_of, with_timer, without_timer, fact_left_at}
 use Rattle.session_model.{specs.Leading.{MovesSession}, proofs.{Members.{got_old, none_left}, Newest.{store_found, store_none}}}
-use Rattle.std.specs.Prelude.{if◌then◌else◌, int_lt, nat_eq, option_map}
-use Rattle.rule_world.specs.{Events.{most_millis}, Worlds.{moved, step_fault, stepped}}
-use Rattle.rule_model.specs.Snapshots.{floor}
-use Rattle.fx_base.proofs.Orders.{int_lt-false, ≤ℤ_trans as later}
+use Rattle.{std.specs.Prelude.{if◌then◌else◌, int_lt, nat_eq, option_map}, rule_world.specs.{Events.{most_millis}, Worlds.{moved, step_fault, stepped}}}
+use Rattle.{rule_model.specs.Snapshots.{floor}, fx_base.proofs.Orders.{int_lt-false, ≤ℤ_trans as later}}
 use Rattle.std.specs.FinMap as map
 
 -- ---- numbers

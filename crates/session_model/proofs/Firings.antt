@@ -6,8 +6,7 @@ use Rattle.session_model.proofs.Common.{present, pending, marked, first_pending,
 use Rattle.session_model.proofs.Common.{No, Yes, ends_by, is_kept_tag, is_kept_fact, only, fact_at, sight_of, pending_kept, sight_law, Memory, Setting}
 use Rattle.session_model.proofs.Common.{actions_of, does_all, fire_line, fires_with, step_or_overflow, wanted, AllFit, held_at, planned, Contents, Runs}
 use Rattle.session_model.{proofs.{Common.{Standing, FiringAnswers}, Acting.{wanted_fits}}, specs.{Gives.{fire_line_by, seen, version_of}, Places.{told}}}
-use Rattle.std.specs.Prelude.{if◌then◌else◌}
-use Rattle.answer_lines.specs.declared.lines.{Detail.TheVariants.{Brief, Full}, OutLine.TheVariants.{FiredFor}}
+use Rattle.{std.specs.Prelude.{if◌then◌else◌}, answer_lines.specs.declared.lines.{Detail.TheVariants.{Brief, Full}, OutLine.TheVariants.{FiredFor}}}
 use Rattle.std.specs.FinMap as map_of
 
 -- the pending match that fires first

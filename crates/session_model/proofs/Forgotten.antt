@@ -8,8 +8,7 @@ use Rattle.session_model.proofs.Common.{NetStands, some_tag, some_in, drop_law, 
 use Rattle.session_model.{proofs.{Common.{holding, with_facts, reached_of, HaveOwnTags, fact_left_at}, Alike.{same_matches}}, specs.Gives.{version_of}}
 use Rattle.session_model.proofs.{Exactly.{Exact, exact}, Leads.{at_own}, Members.{Holds, all_listed, held_distinct, listed, own_tags, version_found}}
 use Rattle.session_model.proofs.{Newest.{holds}, Olds.{named_at, named_old, old_held, some_old}, Rules.{found_at, is_found}, Stands.{contents}}
-use Rattle.std.{proofs.{lemmas.Bool.{not-true, or_left}, Common.{map as list_map}}, specs.Option.{is_some}}
-use Rattle.rule_model.specs.Lent.{Holds as AreHeld}
+use Rattle.{std.{proofs.{lemmas.Bool.{not-true, or_left}, Common.{map as list_map}}, specs.Option.{is_some}}, rule_model.specs.Lent.{Holds as AreHeld}}
 use Rattle.condition_rows.specs.Sets.{held}
 use Rattle.std.specs.FinMap as map
 

@@ -8,12 +8,11 @@ use Rattle.session_model.proofs.Common.{sight_of, later_covers, Memory, Setting,
 use Rattle.session_model.proofs.Common.{Awaits, Mirrors, Runs, Standing, Whole, holding, with_facts, reached_of, Course, reached_by, with_timer, Reached}
 use Rattle.session_model.proofs.{Exactly.{Exact, exact, after_new, after_numbers}, Members.{got_new, got_old, of_insert}, Needs.{not_needed}}
 use Rattle.session_model.proofs.{Readied.{whole_holds, whole_ready}, Ready.{lead_new}, Stands.{HasStart, contents, new_moves, next_is_free, numbers_move}}
-use Rattle.session_model.proofs.Taken.{taken_awaits}
-use Rattle.std.{specs.{Int.Signed.{≤ℤ_refl}, Prelude.{option_and_then, Result, Ok, Err}}, proofs.lemmas.Bool.{eqb-false, eqb-true}}
-use Rattle.rule_world.specs.Worlds.{moved, stepped}
+use Rattle.{session_model.proofs.Taken.{taken_awaits}, std.specs.{Int.Signed.{≤ℤ_refl}, Prelude.{option_and_then, Result, Ok, Err}}}
+use Rattle.{std.proofs.lemmas.Bool.{eqb-false, eqb-true}, rule_world.specs.Worlds.{moved, stepped}}
 use Rattle.std.specs.FinMap as map
-use Rattle.session_model.proofs.{Reaching.{reaches_on}, Still.{AgendaFollows, NetFollows, none_out, still_awaits}}
-use Rattle.fx_base.proofs.Orders.{eq_by_nat_cmp, eqb-flip}
+use Rattle.{session_model.proofs.{Reaching.{reaches_on}, Still.{AgendaFollows, NetFollows, none_out, still_awaits}}, fx_base.proofs.Orders.{eq_by_nat_cmp}}
+use Rattle.fx_base.proofs.Orders.{eqb-flip}
 
 -- ---- the retention
 

@@ -8,12 +8,9 @@ use Rattle.session_model.proofs.Common.{ends_by, ends_of, only, is_kept_tag, is_
 use Rattle.session_model.proofs.Common.{any_alike, clean_is, at_filter, fact_in, own_at, sight_law, stored, AreHeld, AreMarked, laden_by, is_laden}
 use Rattle.std.{proofs.lemmas.Bool.{and_from}, specs.Prelude.{◌≤◌, slice_get}}
 use Rattle.std.specs.FinMap as map_of
-use Rattle.kept_meaning.specs.Kept.{is_kept as is_kept_in}
-use Rattle.laden_rows.proofs.Rows.{laden_rows}
-use Rattle.retention.{specs.Watching.{without}, proofs.Calls.{same_watched}}
-use Rattle.forgetting_laws.specs.Sights.{IsSoundSight as IsLawfulSight}
-use Rattle.session_model.proofs.{Members.{Holds}, Rules.{found_at, is_found}, Storing.{stored_holds}}
-use Rattle.fx_base.proofs.Tests.{and_where}
+use Rattle.{kept_meaning.specs.Kept.{is_kept as is_kept_in}, laden_rows.proofs.Rows.{laden_rows}, retention.specs.Watching.{without}}
+use Rattle.{retention.proofs.Calls.{same_watched}, forgetting_laws.specs.Sights.{IsSoundSight as IsLawfulSight}, session_model.proofs.Members.{Holds}}
+use Rattle.{session_model.proofs.{Rules.{found_at, is_found}, Storing.{stored_holds}}, fx_base.proofs.Tests.{and_where}}
 
 -- a match that is not fired names what is kept alone
 pending_bits : (m f c : Bool) → (m ≡ true → f ≡ false → c ≡ true) → ((m && c) && not (f && c)) ≡ (m && not f)

@@ -8,17 +8,15 @@ use Rattle.session_model.proofs.Common.{Change, Given, entry_asked, fields_step,
 use Rattle.session_model.proofs.Common.{type_named, values_step, entry_within, asked_fits, Detail, OutLine, append-nil, Memory, Setting, actions_of, new_line}
 use Rattle.session_model.proofs.Common.{AllWantKnown, has_known_places, StayKnown, WantsKnown, planned, planned_for, held_at, IsNetwork, AreOfRules, Contents}
 use Rattle.session_model.proofs.Common.{Course, IsSound, ReachesNoMore, Runs, Standing, reached_by, reached_of, nat_tests, moment_in, nothing_reached, is_event}
-use Rattle.session_model.proofs.Common.{facts_of, over}
-use Rattle.std.{proofs.lemmas.Bool.{and_from, and_parts, and_right}, specs.Prelude.{slice_get}}
-use Rattle.rete_net.{proofs.Networks.{network_of, rules_counted}, specs.Doors.{rule_count}}
+use Rattle.{session_model.proofs.Common.{facts_of, over}, std.{proofs.lemmas.Bool.{and_from, and_parts, and_right}, specs.Prelude.{slice_get}}}
+use Rattle.{rete_net.{proofs.Networks.{network_of, rules_counted}, specs.Doors.{rule_count}}, rule_world.specs.{Kinds.{step_fits}, Typed.{bound_types}}}
+use Rattle.{rule_world.specs.Typed.{bound_fields, fields_in, args_fit, action_fits, rule_fits, is_typed}, rule_model.specs.Numbers.{values_of}}
+use Rattle.rule_model.specs.Planned.{step_of}
 use mathlib.Core.Bool.{Bool-set}
-use Rattle.rule_world.specs.{Kinds.{step_fits}, Typed.{bound_types, bound_fields, fields_in, args_fit, action_fits, rule_fits, is_typed}}
-use Rattle.rule_model.specs.{Numbers.{values_of}, Planned.{step_of}}
 use Rattle.script_read.specs.declared.asked.Change.TheVariants as asked
-use Rattle.change_resolve.specs.{Changes.{change_step}, Fields.{are_fields, are_some_fields, sets_given, values_given}}
-use Rattle.engine.specs.Known.{is_known, are_known}
-use Rattle.session_model.proofs.{Promising.{HasPromise}, Stands.{HasStart}, Acting.{asked_step}, Firings.{line_of, plan_of, top_held, top_of}}
-use Rattle.session_model.specs.{Gives.{fire_line_by, modified_lines, retracted_lines}, Places.{told}}
+use Rattle.{change_resolve.specs.{Changes.{change_step}, Fields.{are_fields, are_some_fields, sets_given, values_given}}, engine.specs.Known.{is_known}}
+use Rattle.{engine.specs.Known.{are_known}, session_model.proofs.{Promising.{HasPromise}, Stands.{HasStart}, Acting.{asked_step}, Firings.{line_of, plan_of}}}
+use Rattle.session_model.{proofs.Firings.{top_held, top_of}, specs.{Gives.{fire_line_by, modified_lines, retracted_lines}, Places.{told}}}
 use Rattle.answer_lines.specs.declared.lines.{Detail.TheVariants.{Brief, Full}, OutLine.TheVariants.{Modified, Retracted}}
 use Rattle.rule_model.specs.declared.action.Action.TheVariants as action
 use Rattle.rule_model.specs.declared.step.Step.TheVariants as step

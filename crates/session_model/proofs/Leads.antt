@@ -5,9 +5,7 @@ use Rattle.session_model.proofs.Common.{option_to_list, append-nil, In, EachOnce
 use Rattle.session_model.proofs.Common.{HaveDistinctTags, in_left, in_right, of_map, AllOf, of_filter, in_filter, passed, Named, HasAllOf, MovesSnapshot}
 use Rattle.session_model.proofs.Common.{shares_tag, ComesLast, NeverFalls, HasAtHand, LeadsStep, over, HaveOwnTags, Reached, Snapshot, floor_on}
 use Rattle.session_model.{specs.Gives.{version_of}, proofs.{Members.{got_new, got_old, of_insert, version_found}, Rising.{Rise, rising_filter, rising_more}}}
-use Rattle.session_model.proofs.Rising.{rising_same}
-use Rattle.std.proofs.lemmas.Bool.{eqb-true, not-true}
-use Rattle.condition_rows.specs.Sets.{held}
+use Rattle.{session_model.proofs.Rising.{rising_same}, std.proofs.lemmas.Bool.{eqb-true, not-true}, condition_rows.specs.Sets.{held}}
 use Rattle.fx_base.proofs.{Orders.{eqb-flip}, Sequences.{In-append}}
 use Rattle.std.specs.FinMap as map
 

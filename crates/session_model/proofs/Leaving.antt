@@ -2,8 +2,8 @@
 use Rattle.session_model.proofs.Common.{◌≡◌, ◌∙◌, ◌++◌, ◌||◌, inl, inr, ℕ, Bool, true, false, nat_eq, ◌==◌, length, List, [], ◌∷◌, Option, None, if◌then◌else◌}
 use Rattle.session_model.proofs.Common.{refl, sym, ap, subst, append_assoc, arith, Less, Equal, AllByRecursion, list_any, nat_cmp, ordering_then, or-false}
 use Rattle.session_model.proofs.{Common.{nat_tests, list_any-append, In, EachOnce, Fact, Timers, due_cmp, moment_of, HeldFacts, fact_left_at}, Members.{is_out}}
-use Rattle.session_model.proofs.Members.{not_out}
-use Rattle.std.{proofs.lemmas.{Bool.{eqb-false, eqb-true}, Cmp.{nat_cmp_total, int_cmp_total, tied_itself}}, specs.List.Sorted.{IsStrictlySortedBy}}
+use Rattle.{session_model.proofs.Members.{not_out}, std.proofs.lemmas.{Bool.{eqb-false, eqb-true}, Cmp.{nat_cmp_total, int_cmp_total, tied_itself}}}
+use Rattle.std.specs.List.Sorted.{IsStrictlySortedBy}
 use Rattle.std.specs.FinMap as map
 
 -- ---- what is left

@@ -4,8 +4,7 @@ use Rattle.session_model.proofs.Common.{arith, nat_tests, In, FactId, TypeId, Va
 use Rattle.session_model.proofs.Common.{is_reference, Code, EventObserved, ReferenceFixed, Absent, World, found, is_of_type, only_present, modify_fault}
 use Rattle.session_model.proofs.Common.{present, retract_fault, found_in, below_of, one_id, ends_by, is_kept_fact, is_needed, only, sight_of, plain_endless}
 use Rattle.session_model.proofs.{Common.{own_at, Memory, Setting, IsOfPlain, newest, Contents, Runs, Standing, with_facts}, Exactly.{Exact, exact}}
-use Rattle.session_model.proofs.{Members.{Holds}, Newest.{holds, newest_found, newest_none}}
-use Rattle.std.specs.Prelude.{if◌then◌else◌, ◌==◌}
+use Rattle.{session_model.proofs.{Members.{Holds}, Newest.{holds, newest_found, newest_none}}, std.specs.Prelude.{if◌then◌else◌, ◌==◌}}
 use Rattle.rule_world.{specs.Worlds.{step_fault}, proofs.Found.{fact_in}}
 use Rattle.std.specs.FinMap as map
 

@@ -3,8 +3,7 @@ use Rattle.session_model.proofs.Common.{◌≡◌, ◌∙◌, ◌&&◌, ◌||◌
 use Rattle.session_model.proofs.Common.{first, fire_total, matches, has_match, match_cmp, fire_cmp, fire_exact, match_exact, first_in, or_split, World, marked}
 use Rattle.session_model.proofs.Common.{pending, snapshot, firing_lawful, by_fire, has_pending, Marks, names_tag, clean, Lives, TagWorld, each_tag, ends_by}
 use Rattle.session_model.proofs.Common.{is_kept_tag, sight_of, pending_kept, world_fire_kept, sight_law, Memory, Setting, Awaits, Contents, Seen, Standing}
-use Rattle.session_model.proofs.{Common.{holding}, Clean.{clean_kept, clean_was}, Stands.{contents}}
-use Rattle.std.proofs.lemmas.Bool.{and_parts}
+use Rattle.{session_model.proofs.{Common.{holding}, Clean.{clean_kept, clean_was}, Stands.{contents}}, std.proofs.lemmas.Bool.{and_parts}}
 
 module _ (s : Setting) (m : Memory) (k : Contents) (w : World) (st : Standing s m k w) (q : Match) (top : Some q ≡ first (fire_cmp k.agenda.saliences) k.agenda.pending) where
   abbrev p : Program

@@ -6,13 +6,12 @@ use Rattle.session_model.proofs.Common.{below_of, slice_get_within, Look, Marks,
 use Rattle.session_model.proofs.Common.{has_listed_tag, is_tag_among, is_named, PassesLives, Covers, Ends, is_old, past_law, ends_by, ends_of, RuleChange, Rete}
 use Rattle.session_model.proofs.Common.{AreLadenRows, IsBehind, IsLoadable, IsThere, NetStands, IsNetwork, Memory, Setting, IsSafe, at_hand, comes_by}
 use Rattle.session_model.proofs.Common.{has_marked, is_laden, stored, AreHeld, AreMarked, IsMatched, IsRestored, NoneGo, AreOfRules, Contents, Course, IsSound}
-use Rattle.session_model.proofs.Common.{ReachesNoMore, Runs, expiry_at, reached_of}
-use Rattle.std.proofs.lemmas.Bool.{and_parts, or_left}
+use Rattle.{session_model.proofs.Common.{ReachesNoMore, Runs, expiry_at, reached_of}, std.proofs.lemmas.Bool.{and_parts, or_left}}
 use Rattle.std.specs.FinMap as map_of
 use lib.IntN.{ℤ_set}
-use Rattle.engine.specs.declared.resuming.ResumeFault.{ResumeFault, TheVariants.{Unfit}}
-use Rattle.session_model.proofs.{Coming.{comes_laden, laden_marked, none_go}, Refitted.{fired_unfit, laden_match, no_row_unfit, old_unfit, rows_fit}}
-use Rattle.session_model.proofs.{Restored.{loadable, restored_stands}, Saved.{beyond_end}, Stands.{contents}, Storing.{stored_holds}}
+use Rattle.{engine.specs.declared.resuming.ResumeFault.{ResumeFault, TheVariants.{Unfit}}, session_model.proofs.Coming.{comes_laden, laden_marked, none_go}}
+use Rattle.session_model.proofs.{Refitted.{fired_unfit, laden_match, no_row_unfit, old_unfit, rows_fit}, Restored.{loadable, restored_stands}}
+use Rattle.session_model.proofs.{Saved.{beyond_end}, Stands.{contents}, Storing.{stored_holds}}
 
 -- what a ghost field tells of entry points
 pub merely_no_more : (p : Program) (m : Memory) (k : Contents) → ∥ IsSound p m k ∥₁ → ReachesNoMore p (reached_of k)

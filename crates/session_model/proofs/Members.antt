@@ -4,8 +4,7 @@ use Rattle.session_model.proofs.Common.{sym, ◌∙◌, ap, subst, arith, withou
 use Rattle.session_model.proofs.Common.{nat_cmp, eq_by_cmp, nat_tests, Tag, Value, Fact, HeldFacts, facts_of, tag_of, from_list, from_map, tags_rise, tied}
 use Rattle.session_model.proofs.Common.{itself, In, HaveDistinctTags, HaveDistinctIds, has_id, revised, revised_in, AllBelow, revise, has_number, one_id}
 use Rattle.session_model.proofs.Common.{in_left, in_right, in_map, of_map, AllOf, of_filter, one_fact, in_filter, passed, HaveOwnTags}
-use Rattle.session_model.{specs.Gives.{version_of}, proofs.Rising.{rising_distinct}}
-use Rattle.std.{proofs.lemmas.Bool.{eqb-true}, specs.Prelude.{if◌then◌else◌}}
+use Rattle.{session_model.{specs.Gives.{version_of}, proofs.Rising.{rising_distinct}}, std.{proofs.lemmas.Bool.{eqb-true}, specs.Prelude.{if◌then◌else◌}}}
 use Rattle.fx_base.proofs.Sequences.{In-append}
 use Rattle.std.specs.FinMap as map
 

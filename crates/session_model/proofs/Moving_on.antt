@@ -3,8 +3,7 @@ use Rattle.session_model.proofs.Common.{◌≡◌, ◌∙◌, ◌+◌, ◌<◌, 
 use Rattle.session_model.proofs.Common.{if◌then◌else◌, refl, sym, ap, subst, arith, list_any, ints, In, Fact, HeldFacts, Named, Program, Step, name_of, World}
 use Rattle.session_model.proofs.Common.{only_present, present, step_fault, stepped, below_of, Covers, ends_by, ends_of, only, changed, fact_at, sight_of}
 use Rattle.session_model.proofs.Common.{later_covers, Memory, Setting, NeverFalls, HasAtHand, IsReady, LeadsStep, LeadsOn, instant_of, AreForgotten, Contents}
-use Rattle.session_model.proofs.Common.{Mirrors, Runs, Standing, holding, with_facts, reached_of, fact_left_at, Reached}
-use Rattle.std.specs.Prelude.{is_some}
+use Rattle.{session_model.proofs.Common.{Mirrors, Runs, Standing, holding, with_facts, reached_of, fact_left_at, Reached}, std.specs.Prelude.{is_some}}
 use Rattle.std.specs.FinMap as map
 use Rattle.session_model.proofs.{Exactly.{Exact, exact}, Members.{Holds, got_new, got_old, of_insert}, Needs.{not_needed}, Newest.{holds}}
 use Rattle.session_model.proofs.{Readied.{whole_ready}, Reaching.{reaches_on}}

@@ -3,13 +3,11 @@ use Rattle.session_model.proofs.Common.{◌≡◌, ◌∙◌, ◌==◌, ◌&&◌
 use Rattle.session_model.proofs.Common.{facts_of, tag_of, Condition, Pattern, Program, is_present, fits, is_behind, count_behind, is_inside, is_candidate}
 use Rattle.session_model.proofs.Common.{candidates, HaveDistinctTags, rows, Reached, Snapshot, name_of, unbound, of_filter, Same, passed, rows_over, World}
 use Rattle.session_model.proofs.Common.{snapshot, present, only_present, distinct_filtered, filter_within, filter_same, kept_rows, rows_of, candidates_of}
-use Rattle.session_model.proofs.Common.{in_has, has_in, candidate_named, candidate_of, version_of, over}
-use Rattle.std.proofs.lemmas.Bool.{and_parts}
+use Rattle.{session_model.proofs.Common.{in_has, has_in, candidate_named, candidate_of, version_of, over}, std.proofs.lemmas.Bool.{and_parts}}
 use Rattle.std.specs.FinMap as map
 use Rattle.rule_model.specs.{declared.condition.WindowTag.{WindowTag, TheVariants.{Whole, Time, Length}}, Tests.{tests_hold}}
-use Rattle.rule_model.proofs.Order.{same_candidates as same_in_order}
-use Rattle.session_model.proofs.Members.{Holds, of_versions, held_distinct, own_tags, listed, all_listed}
-use Rattle.fx_base.proofs.Tests.{same_test}
+use Rattle.{rule_model.proofs.Order.{same_candidates as same_in_order}, session_model.proofs.Members.{Holds, of_versions, held_distinct, own_tags, listed}}
+use Rattle.{session_model.proofs.Members.{all_listed}, fx_base.proofs.Tests.{same_test}}
 
 -- ---- what is not present is no candidate, and is in no window
 

@@ -7,17 +7,13 @@ use Rattle.session_model.proofs.Common.{snapshot, present, moved, step_fault, fl
 use Rattle.session_model.proofs.Common.{joins_of_tuple, version_in, made_facts, candidate_of, MovesSnapshot, shares_tag, CountsNone, is_forgotten, IsLawfulStep}
 use Rattle.session_model.proofs.Common.{RowComes, there_same, forgotten_fact, tags_behind, only, same_kept, chosen, own_at, Memory, Setting, NeverFalls}
 use Rattle.session_model.proofs.Common.{Instant, LeadsStep, facts_at, version_of, over, Contents, Runs, Standing, reached_of}
-use Rattle.fx_base.proofs.Sequences.{list_any-In, In-append}
-use Rattle.std.{proofs.lemmas.Bool.{and_from, and_parts, eqb-true, false_from_ne_true}, specs.Prelude.{is_some, slice_get}}
+use Rattle.{fx_base.proofs.Sequences.{list_any-In, In-append}, std.proofs.lemmas.Bool.{and_from, and_parts, eqb-true, false_from_ne_true}}
+use Rattle.std.specs.Prelude.{is_some, slice_get}
 use Rattle.std.specs.FinMap as map
-use Rattle.rule_model.specs.{declared.condition.Condition.TheVariants.{Plain}, Rows.{binds}}
-use Rattle.rule_world.specs.Worlds.{stepped}
-use Rattle.condition_rows.proofs.Holding.{version_of as version_named}
-use Rattle.kept_meaning.specs.Kept.{is_kept}
-use Rattle.kept_laws.proofs.Coming.{row_meets_kept}
+use Rattle.{rule_model.specs.{declared.condition.Condition.TheVariants.{Plain}, Rows.{binds}}, rule_world.specs.Worlds.{stepped}}
+use Rattle.{condition_rows.proofs.Holding.{version_of as version_named}, kept_meaning.specs.Kept.{is_kept}, kept_laws.proofs.Coming.{row_meets_kept}}
 use Rattle.session_model.proofs.{Leads.{leads_move}, Needing.{stored_present, distinct_here, of_world, world_rows, world_candidates}, Phases.{NotNeeded}}
-use Rattle.session_model.proofs.Reaching.{reaches_on}
-use Rattle.fx_base.proofs.Tests.{same_test}
+use Rattle.{session_model.proofs.Reaching.{reaches_on}, fx_base.proofs.Tests.{same_test}}
 
 -- ---- what a map gives at some tags
 

@@ -2,8 +2,7 @@
 use Rattle.session_model.proofs.Common.{◌≡◌, ℕ, suc, zero, ◌<◌, ◌≤◌, ◌⊎◌, inl, inr, Bool, true, false, Option, Some, None, refl, sym, ◌∙◌, ap, subst, arith}
 use Rattle.session_model.proofs.Common.{nat_tests, Tag, Fact, HeldFacts, IsNewest, HoldsNone, is_held_with_id, Program, In, World, fact_of, below_of, found_in}
 use Rattle.session_model.proofs.{Common.{one_id, IsNewestTag, IsSafe, newest, Contents}, Exactly.{Exact}, Members.{Holds, of_versions}}
-use Rattle.session_model.specs.Places.{newest_below}
-use Rattle.std.{proofs.lemmas.Bool.{eqb-true}, specs.Prelude.{nat_eq, nat_lt, if◌then◌else◌}}
+use Rattle.{session_model.specs.Places.{newest_below}, std.{proofs.lemmas.Bool.{eqb-true}, specs.Prelude.{nat_eq, nat_lt, if◌then◌else◌}}}
 use Rattle.rule_world.proofs.Found.{fact_in}
 use Rattle.std.specs.FinMap as map
 

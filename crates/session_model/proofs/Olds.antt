@@ -1,10 +1,8 @@
 -- Old facts by their tags, in a set and in a list, and by their names.
 use Rattle.session_model.proofs.Common.{◌≡◌, ◌∙◌, sym, ap, refl, subst, inl, inr, ℕ, Bool, true, false, ◌||◌, List, [], ◌∷◌, filter_map, option_map, nat_eq}
 use Rattle.session_model.proofs.Common.{Option, Some, None, cons_option, list_any, eq_by_cmp, nat_cmp, tells_apart, In, Fact, HeldFacts, itself, tied, Named}
-use Rattle.session_model.proofs.Common.{name_of, or_split, has_name, has_listed_tag, HaveOwnTags}
-use Rattle.std.proofs.lemmas.Bool.{eqb-false, eqb-true, or_left}
-use Rattle.row_delta.specs.NameOrder.{name_cmp, name_equiv, name_exact}
-use Rattle.fx_base.proofs.{Orders.{eqb-self}, Tests.{same_test}}
+use Rattle.{session_model.proofs.Common.{name_of, or_split, has_name, has_listed_tag, HaveOwnTags}, std.proofs.lemmas.Bool.{eqb-false, eqb-true, or_left}}
+use Rattle.{row_delta.specs.NameOrder.{name_cmp, name_equiv, name_exact}, fx_base.proofs.{Orders.{eqb-self}, Tests.{same_test}}}
 use Rattle.std.specs.FinMap as map
 
 -- ---- tags

@@ -5,14 +5,11 @@ use Rattle.session_model.proofs.Common.{Named, Row, Program, Rule, Step, At, is_
 use Rattle.session_model.proofs.Common.{step_fault, Marks, rows_of, cleaned, NetStands, clean_rows, Rete, has_clean, Covers, ends_by, ends_of, is_kept_fact}
 use Rattle.session_model.proofs.Common.{is_needed, only, HasLeft, brought, changed, comes, fact_at, goes, sight_of, expired_endless, endless_covers, some_in}
 use Rattle.session_model.proofs.Common.{own_at, Memory, Setting, LeadsStep, LeadsOn, instant_of, over, IsRefreshed, Awaits, Contents, Mirrors, Runs, Standing}
-use Rattle.session_model.proofs.Common.{expiry_at, holding, with_facts, reached_of, fact_left_at, Reached}
-use Rattle.std.proofs.lemmas.Bool.{not-true}
+use Rattle.{session_model.proofs.Common.{expiry_at, holding, with_facts, reached_of, fact_left_at, Reached}, std.proofs.lemmas.Bool.{not-true}}
 use Rattle.std.specs.FinMap as map
-use Rattle.rule_world.specs.Worlds.{moved, stepped}
-use Rattle.session_model.proofs.{Exactly.{after_clock}, Moving_on.{covered_at, hand_of, leads_on, left_changed, less_forgotten, of_left, world_exact}}
-use Rattle.session_model.proofs.{Moving_on.{world_holds, world_ready}, Ready.{lead_later}, Rules.{not_refreshed}, Stands.{clock_moves, contents}}
-use Rattle.session_model.proofs.{Taken.{taken_awaits}, Timers.{come_is_absent}}
-use Rattle.fx_base.proofs.Orders.{eqb-self}
+use Rattle.{rule_world.specs.Worlds.{moved, stepped}, session_model.proofs.{Exactly.{after_clock}, Moving_on.{covered_at, hand_of, leads_on, left_changed}}}
+use Rattle.session_model.proofs.{Moving_on.{less_forgotten, of_left, world_exact, world_holds, world_ready}, Ready.{lead_later}, Rules.{not_refreshed}}
+use Rattle.{session_model.proofs.{Stands.{clock_moves, contents}, Taken.{taken_awaits}, Timers.{come_is_absent}}, fx_base.proofs.Orders.{eqb-self}}
 
 -- ---- the facts that are left
 

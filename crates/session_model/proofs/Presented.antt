@@ -6,11 +6,9 @@ use Rattle.session_model.proofs.Common.{name_of, of_filter, made_of, named_of, o
 use Rattle.session_model.proofs.Common.{present, joins, clean, held, rows_of, has_in, tuple_of_row, held_all, held_fact, joins_of_tuple, version_of, over}
 use Rattle.std.proofs.Common.{map as list_map}
 use Rattle.std.specs.FinMap as map
-use Rattle.fold_fn.proofs.Rising.{rising_same}
-use Rattle.rule_model.{specs.declared.condition.Condition.TheVariants.{Plain}, proofs.Grown.{tuples_grow}}
-use Rattle.condition_rows.{specs.Sets.{partners}, proofs.Partners.{partners_once}}
-use Rattle.laden_rows.specs.Extras.{lost_partners, values_gathered, AreExtras, IsExtraIn}
-use Rattle.session_model.proofs.Needing.{distinct_here, here_candidates, of_world, world_rows}
+use Rattle.{fold_fn.proofs.Rising.{rising_same}, rule_model.{specs.declared.condition.Condition.TheVariants.{Plain}, proofs.Grown.{tuples_grow}}}
+use Rattle.{condition_rows.{specs.Sets.{partners}, proofs.Partners.{partners_once}}, laden_rows.specs.Extras.{lost_partners, values_gathered, AreExtras}}
+use Rattle.{laden_rows.specs.Extras.{IsExtraIn}, session_model.proofs.Needing.{distinct_here, here_candidates, of_world, world_rows}}
 
 any_same : (a b : Named → Bool) (names : List Named) → ((n : Named) → In n names → a n ≡ b n) → list_any a names ≡ list_any b names
 any_same a b [] same = refl

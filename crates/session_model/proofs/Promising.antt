@@ -2,8 +2,7 @@
 use Rattle.session_model.proofs.Common.{◌≡◌, ◌≤◌, ◌∙◌, ℕ, ℤ, Bool, List, [], None, refl, sym, ap, subst, arith, fun_ext, EntryId, Program, Step, Promise}
 use Rattle.session_model.proofs.Common.{Reached, IsLawful, World, only_present, promise_with, step_fault, Marks, HasLeft, Memory, Setting, instant_of, Contents}
 use Rattle.session_model.proofs.{Common.{Awaits, Mirrors, Runs, Standing, with_facts, Course, reached_by, moment_in}, Exactly.{after_promise}}
-use Rattle.session_model.proofs.{Stands.{contents}, Still.{AgendaFollows, NetFollows, still_awaits}}
-use Rattle.rule_world.specs.Worlds.{stepped, moved}
+use Rattle.{session_model.proofs.{Stands.{contents}, Still.{AgendaFollows, NetFollows, still_awaits}}, rule_world.specs.Worlds.{stepped, moved}}
 
 -- what entry points have reached where one has promised a moment
 abbrev pub promised : ℕ → ℤ → Reached → Reached

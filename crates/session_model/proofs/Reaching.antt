@@ -1,8 +1,7 @@
 -- What entry points have reached does not fall in a step without a fault.
 use Rattle.session_model.proofs.Common.{◌≡◌, ◌==◌, ℕ, ℤ, ◌≤ℤ◌, Bool, true, false, None, refl, subst, if◌then◌else◌, Program, Step, Insert, Modify, Retract}
 use Rattle.session_model.proofs.Common.{Advance, At, Promise, Begin, Reached, IsLawful, World, promise_with, inserted, promised_forward, NeverFalls}
-use Rattle.std.{specs.Int.Signed.{≤ℤ_refl}, proofs.lemmas.Bool.{eqb-true}}
-use Rattle.rule_world.{specs.Worlds.{moved, step_fault, stepped}, proofs.Sound.{new_goes_on}}
+use Rattle.{std.{specs.Int.Signed.{≤ℤ_refl}, proofs.lemmas.Bool.{eqb-true}}, rule_world.{specs.Worlds.{moved, step_fault, stepped}, proofs.Sound.{new_goes_on}}}
 
 pub stays_reached : (r : Reached) → NeverFalls r r
 stays_reached r = record { last_start = λ entry. ≤ℤ_refl (r.last_start entry); promise = λ entry. ≤ℤ_refl (r.promise entry) }

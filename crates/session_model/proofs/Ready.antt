@@ -3,9 +3,7 @@ use Rattle.session_model.proofs.Common.{◌≡◌, ◌∙◌, ◌⊎◌, inl, in
 use Rattle.session_model.proofs.Common.{None, refl, sym, ap, subst, list_any, In, Fact, Timers, TakesDue, has_come, is_due, HeldFacts, from_list, from_map}
 use Rattle.session_model.proofs.Common.{tags_rise, Program, is_within, is_event, expiry_of, most_millis, IsOrderly, IsReady, LeadsStep, expiry_at, fact_left_at}
 use Rattle.session_model.{proofs.{Common.{HaveOwnTags}, Leaving.{due_once, one_gone}, Members.{of_insert, of_remove}}, specs.Following.{facts_at_clock}}
-use Rattle.session_model.proofs.Timers.{left_found}
-use Rattle.std.{specs.Int.Signed.{≤ℤ_refl}, proofs.lemmas.Bool.{or_right}}
-use Rattle.rule_model.specs.Candidates.{is_present}
+use Rattle.{session_model.proofs.Timers.{left_found}, std.{specs.Int.Signed.{≤ℤ_refl}, proofs.lemmas.Bool.{or_right}}, rule_model.specs.Candidates.{is_present}}
 use Rattle.fx_base.proofs.Orders.{eqb-self}
 use Rattle.std.specs.FinMap as map
 

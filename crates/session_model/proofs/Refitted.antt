@@ -6,18 +6,13 @@ use Rattle.session_model.proofs.Common.{Life, Plain, Explicit, Finite, Infinite,
 use Rattle.session_model.proofs.Common.{has_match, Snapshot, name_of, of_filter, one_fact, joins, joined, held, candidates_of, has_partner, candidate_of}
 use Rattle.session_model.proofs.Common.{is_alive, match_fired, has_fired, snapshot_of, laden_gives, laden_line, laden_with, extra_at, FitsPlainly, FitsByRows}
 use Rattle.session_model.proofs.Common.{Marks, names_tag, is_named, Ends, is_old, end_of_life, ends_by, ends_of, witness, IsThere, stored, AreMarked, laden_by}
-use Rattle.session_model.proofs.Common.{is_laden}
-use Rattle.fx_base.proofs.Sequences.{list_any-In, list_any-from, In-append}
-use Rattle.std.{proofs.lemmas.Bool.{and_from, and_parts, eq-eqb, eqb-true, not-true}, specs.Prelude.{slice_get}}
+use Rattle.{session_model.proofs.Common.{is_laden}, fx_base.proofs.Sequences.{list_any-In, list_any-from, In-append}, std.proofs.lemmas.Bool.{and_from}}
+use Rattle.std.{proofs.lemmas.Bool.{and_parts, eq-eqb, eqb-true, not-true}, specs.Prelude.{slice_get}}
 use Rattle.std.specs.FinMap as map_of
-use Rattle.std.specs.Option.{is_some}
-use Rattle.rule_model.specs.declared.condition.Condition.TheVariants.{Plain as plain_condition}
-use Rattle.join_memory.proofs.{Joining.{joined_with, joined_from}, Valued.{valued_from}}
-use Rattle.condition_rows.specs.Lines.{is_ripe, empty_row}
-use Rattle.image_laws.specs.Fitting.{IsLadenRow, IsLadenMatch, IsNeeded}
-use Rattle.laden_rows.specs.Laden.{extra_values_of, laden}
-use Rattle.forgetting_laws.proofs.Naming.{found}
-use Rattle.session_model.proofs.{Members.{Holds}, Storing.{stored_holds}}
+use Rattle.{std.specs.Option.{is_some}, rule_model.specs.declared.condition.Condition.TheVariants.{Plain as plain_condition}}
+use Rattle.{join_memory.proofs.{Joining.{joined_with, joined_from}, Valued.{valued_from}}, condition_rows.specs.Lines.{is_ripe, empty_row}}
+use Rattle.{image_laws.specs.Fitting.{IsLadenRow, IsLadenMatch, IsNeeded}, laden_rows.specs.Laden.{extra_values_of, laden}}
+use Rattle.{forgetting_laws.proofs.Naming.{found}, session_model.proofs.{Members.{Holds}, Storing.{stored_holds}}}
 
 -- ---- laden rows name facts of the snapshot
 

@@ -4,15 +4,12 @@ use Rattle.session_model.proofs.Common.{without_fact, list_any, or-false, In, Fa
 use Rattle.session_model.proofs.Common.{IsLawful, World, found, is_of_type, only_present, present, settled, step_fault, below_of, one_id, Marks, NetStands}
 use Rattle.session_model.proofs.Common.{clean_rows, Rete, Retention, lingers, ends_by, HasLeft, brought, changed, comes, goes, retract_covers, Memory, Setting}
 use Rattle.session_model.proofs.Common.{LeadsStep, LeadsOn, instant_of, IsNewestTag, newest, over, IsRefreshed, Awaits, Contents, Mirrors, Runs, Standing}
-use Rattle.session_model.proofs.Common.{holding, with_facts, reached_of, fact_left_at, without_timer}
-use Rattle.std.proofs.lemmas.Bool.{eqb-true}
+use Rattle.{session_model.proofs.Common.{holding, with_facts, reached_of, fact_left_at, without_timer}, std.proofs.lemmas.Bool.{eqb-true}}
 use Rattle.std.specs.FinMap as map
-use Rattle.rule_world.specs.Worlds.{moved, stepped}
-use Rattle.forgetting_laws.proofs.WorldSteps.{retracts_one}
-use Rattle.session_model.proofs.{Exactly.{after_without}, Leaving.{one_gone}, Moving_on.{covered_at, hand_of, leads_on, left_changed, less_forgotten, of_left}}
-use Rattle.session_model.proofs.{Moving_on.{on_time, store_seen, world_exact, world_holds, world_ready}, Newest.{newest_found, tagged_found}, Ready.{lead_less}}
-use Rattle.session_model.proofs.{Stands.{contents, retract_moves}, Taken.{taken_awaits}}
-use Rattle.fx_base.proofs.Tests.{and_first}
+use Rattle.{rule_world.specs.Worlds.{moved, stepped}, forgetting_laws.proofs.WorldSteps.{retracts_one}, session_model.proofs.Exactly.{after_without}}
+use Rattle.session_model.proofs.{Leaving.{one_gone}, Moving_on.{covered_at, hand_of, leads_on, left_changed, less_forgotten, of_left, on_time, store_seen}}
+use Rattle.session_model.proofs.{Moving_on.{world_exact, world_holds, world_ready}, Newest.{newest_found, tagged_found}, Ready.{lead_less}, Stands.{contents}}
+use Rattle.{session_model.proofs.{Stands.{retract_moves}, Taken.{taken_awaits}}, fx_base.proofs.Tests.{and_first}}
 
 module _ (s : Setting) (m : Memory) (k : Contents) (w : World) (st : Standing s m k w) (id : FactId) (tag : Tag) (is : IsNewestTag k.facts id.0 tag) where
   abbrev p : Program

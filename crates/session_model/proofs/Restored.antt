@@ -8,18 +8,12 @@ use Rattle.session_model.proofs.Common.{empty_snapshot, HasAllOf, is_alive, is_f
 use Rattle.session_model.proofs.Common.{snapshot_of, IsImageOf, IsKeptOf, AreOwners, image_kept, FitsPlainly, Marks, IsOrderly, Retention, is_tag_among}
 use Rattle.session_model.proofs.Common.{is_named, PassesLives, only, chosen, own_at, Rete, AreOutsideOfTime, IsBehind, IsLoadable, Setting, version_of, over}
 use Rattle.session_model.proofs.Common.{stored, AreHeld, AreStorable, HasTimes, IsMatched, AreForgotten, Contents, Course, Mirrors, Runs, Standing, expiry_at}
-use Rattle.session_model.proofs.Common.{with_facts}
-use Rattle.std.{proofs.{lemmas.Bool.{not-true}, Common.{map as list_map}}, specs.Prelude.{slice_get}}
+use Rattle.{session_model.proofs.Common.{with_facts}, std.{proofs.{lemmas.Bool.{not-true}, Common.{map as list_map}}, specs.Prelude.{slice_get}}}
 use Rattle.std.specs.FinMap as map_of
-use Rattle.std.specs.List.Sorted.{IsStrictlySortedBy}
-use Rattle.fact_store.proofs.Members.{tags_rise as held_rise}
-use Rattle.rule_world.specs.Events.{most_millis}
-use Rattle.condition_rows.specs.Sets.{held}
-use Rattle.kept_meaning.specs.Kept.{is_kept}
-use Rattle.session_model.proofs.{Kept_parts.{holds_kept_parts, image_holds, store_is}, Forgotten.{same_version}, Members.{Holds, all_listed, listed, own_tags}}
-use Rattle.session_model.proofs.{Members.{version_found, versions}, Presented.{extras_here}, Ready.{IsFit, kept_of}, Rising.{rising_same}, Stands.{contents}}
-use Rattle.session_model.proofs.Storing.{stored_holds}
-use Rattle.fx_base.proofs.Orders.{≤ℤ_same}
+use Rattle.{std.specs.List.Sorted.{IsStrictlySortedBy}, fact_store.proofs.Members.{tags_rise as held_rise}, rule_world.specs.Events.{most_millis}}
+use Rattle.{condition_rows.specs.Sets.{held}, kept_meaning.specs.Kept.{is_kept}, session_model.proofs.Kept_parts.{holds_kept_parts, image_holds, store_is}}
+use Rattle.session_model.proofs.{Forgotten.{same_version}, Members.{Holds, all_listed, listed, own_tags, version_found, versions}, Presented.{extras_here}}
+use Rattle.{session_model.proofs.{Ready.{IsFit, kept_of}, Rising.{rising_same}, Stands.{contents}, Storing.{stored_holds}}, fx_base.proofs.Orders.{≤ℤ_same}}
 
 never_ends : (event : Bool) (start : ℤ) → end_by event None start ≡ None
 never_ends true start = refl

@@ -11,15 +11,11 @@ use Rattle.session_model.proofs.Common.{Mirrors, Runs, Standing, expiry_at, hold
 use Rattle.std.{proofs.lemmas.Bool.{and_from, and_parts, eq-eqb, eqb-true, false_from_ne_true}, specs.Prelude.{is_some, slice_get}}
 use Rattle.life_laws.proofs.Moves.{retracted_is_not_observed}
 use Rattle.std.specs.FinMap as map
-use Rattle.rule_model.specs.Simple.{is_observed_in}
-use Rattle.rule_world.{specs.Worlds.{step_fault, stepped, moved}, proofs.Vain.{vain_retraction}}
-use Rattle.pattern_gate.proofs.Arriving.{is_other}
-use Rattle.kept_meaning.specs.Kept.{is_kept}
-use Rattle.rete_net.proofs.Unmissed.{net_less, clean_rows_less}
+use Rattle.{rule_model.specs.Simple.{is_observed_in}, rule_world.{specs.Worlds.{step_fault, stepped, moved}, proofs.Vain.{vain_retraction}}}
+use Rattle.{pattern_gate.proofs.Arriving.{is_other}, kept_meaning.specs.Kept.{is_kept}, rete_net.proofs.Unmissed.{net_less, clean_rows_less}}
 use Rattle.session_model.proofs.{Exactly.{Exact, exact, after_without}, Members.{Holds, held_distinct, is_out, not_out, of_remove}, Newest.{holds}}
 use Rattle.session_model.proofs.{Newest.{newest_found, world_found}, Rising.{rising_filter, rising_same}, Rules.{not_refreshed}, Stands.{retract_moves}}
-use Rattle.session_model.proofs.Taken.{taken_awaits}
-use Rattle.fx_base.proofs.Tests.{both_ways_absurd}
+use Rattle.{session_model.proofs.Taken.{taken_awaits}, fx_base.proofs.Tests.{both_ways_absurd}}
 
 -- a fact of a map is the newest of its id where the ids of the map's facts differ
 newest_in : (held : HeldFacts) (facts : List Fact) → HaveDistinctIds facts → ((tag : ℕ) (g : Fact) → map.get held tag ≡ Some g → In g facts × (g.tag.0 ≡ tag))

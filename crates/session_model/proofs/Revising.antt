@@ -5,15 +5,13 @@ use Rattle.session_model.proofs.Common.{HeldFacts, facts_of, Program, Step, Modi
 use Rattle.session_model.proofs.Common.{revised, settled, step_fault, with_revised, Marks, NetStands, clean_rows, Rete, Covers, ends_by, ends_of, HasLeft}
 use Rattle.session_model.proofs.Common.{brought, changed, comes, goes, modify_endless, endless_covers, Memory, Setting, LeadsStep, LeadsOn, instant_of}
 use Rattle.session_model.proofs.Common.{IsNewestTag, newest, over, IsRefreshed, AreForgotten, Awaits, Contents, Mirrors, Runs, Standing, holding, with_facts}
-use Rattle.session_model.proofs.Common.{reached_of, fact_left_at}
-use Rattle.std.proofs.lemmas.Bool.{eq-eqb, eqb-true}
+use Rattle.{session_model.proofs.Common.{reached_of, fact_left_at}, std.proofs.lemmas.Bool.{eq-eqb, eqb-true}}
 use Rattle.std.specs.FinMap as map
-use Rattle.rule_world.specs.Worlds.{moved, stepped}
-use Rattle.session_model.proofs.{Exactly.{after_revised}, Leaving.{one_gone}, Members.{got_new, got_old, not_out, of_insert}, Moving_on.{all_below, covered_at}}
-use Rattle.session_model.proofs.Moving_on.{hand_of, leads_on, left_changed, less_forgotten, more_forgotten, of_left, on_time, world_exact, world_holds}
-use Rattle.session_model.proofs.{Moving_on.{world_ready, store_seen}, Ready.{lead_revised}, Removing.{all_at_tag, all_newest, all_newest_is, at_tag, found_is}}
-use Rattle.session_model.proofs.{Removing.{newest_is, only_one}, Stands.{contents, modify_moves, plain_by}, Taken.{taken_awaits}}
-use Rattle.fx_base.proofs.Tests.{same_test}
+use Rattle.{rule_world.specs.Worlds.{moved, stepped}, session_model.proofs.{Exactly.{after_revised}, Leaving.{one_gone}, Members.{got_new, got_old, not_out}}}
+use Rattle.session_model.proofs.{Members.{of_insert}, Moving_on.{all_below, covered_at, hand_of, leads_on, left_changed, less_forgotten, more_forgotten}}
+use Rattle.session_model.proofs.{Moving_on.{of_left, on_time, world_exact, world_holds, world_ready, store_seen}, Ready.{lead_revised}, Removing.{all_at_tag}}
+use Rattle.session_model.proofs.{Removing.{all_newest, all_newest_is, at_tag, found_is, newest_is, only_one}, Stands.{contents, modify_moves, plain_by}}
+use Rattle.{session_model.proofs.Taken.{taken_awaits}, fx_base.proofs.Tests.{same_test}}
 
 other_number : (m n : ℕ) → (m == n) ≡ false → n ≡ m → ⊥
 other_number m n e h = grind (arith, nat_tests)

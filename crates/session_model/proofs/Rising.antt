@@ -1,8 +1,7 @@
 -- Facts in the order of their tags.
 use Rattle.session_model.proofs.Common.{◌≡◌, ◌∙◌, inl, inr, sym, ap, refl, subst, ℕ, ◌<◌, List, [], ◌∷◌, ◌++◌, map, Bool, true, false, cond, arith, Less}
 use Rattle.session_model.proofs.Common.{AllByRecursion, filter, nat_cmp, In, Fact, Tag, HaveDistinctTags, of_map, AllOf, of_filter}
-use Rattle.std.specs.List.Sorted.{IsStrictlySortedBy}
-use Rattle.fx_base.proofs.{Orders.{lt-nat_cmp, nat_cmp-Less}, Sequences.{In-append}}
+use Rattle.{std.specs.List.Sorted.{IsStrictlySortedBy}, fx_base.proofs.{Orders.{lt-nat_cmp, nat_cmp-Less}, Sequences.{In-append}}}
 
 abbrev pub Rise : List Fact → Type 0
 Rise facts = IsStrictlySortedBy nat_cmp (map (λ (f : Fact). f.tag.0) facts)

@@ -4,8 +4,7 @@ use Rattle.session_model.proofs.Common.{map, slice_get, Option, Some, None, refl
 use Rattle.session_model.proofs.Common.{eq_by_cmp, nat_cmp, and-true, and-not_self, or-false, nat_tests, append-nil, list_any-append, tells_apart, In, Delta}
 use Rattle.session_model.proofs.Common.{Named, Row, row_exact, row_cmp, has, or_split, Match, Program, Rule, match_of, match_cmp, has_match, match_parts}
 use Rattle.session_model.proofs.Common.{RuleChange, change_of, IsChange, AreBetween, Marks, IsChanged, HasLeft, matches_by, only_in, IsRefreshed, AreOfRules}
-use Rattle.std.{proofs.lemmas.Bool.{eqb-true, or_from, or_left, or_right}, specs.List.Sorted.{IsStrictlySortedBy}}
-use Rattle.rule_model.specs.Matches.{matches_from}
+use Rattle.{std.{proofs.lemmas.Bool.{eqb-true, or_from, or_left, or_right}, specs.List.Sorted.{IsStrictlySortedBy}}, rule_model.specs.Matches.{matches_from}}
 
 flip : (a b : ℕ) (t : Bool) → (a == b) ≡ t → (b == a) ≡ t
 flip a b t e = grind (arith, nat_tests)

@@ -5,8 +5,7 @@ use Rattle.session_model.proofs.Common.{has_match, match_cmp, moment_in, Reached
 use Rattle.session_model.proofs.Common.{tag_cmp, match_fired, IsImageOf, ends_by, is_kept_tag, each_tag, sight_of, Memory, Setting, over, Contents}
 use Rattle.session_model.{proofs.{Common.{ReachesNoMore, Runs, Standing, reached_of}, Kept_parts.{kept_each}}, specs.Saving.{ArePadded, IsSessionSaved}}
 use Rattle.session_model.proofs.{Forgotten.{has_all}, Members.{Holds, own_tags}, Needs.{lost_in_world}, Presented.{extras_there}, Tallied.{holds_kept}}
-use Rattle.std.{proofs.Common.{map as list_map}, specs.{declared.cmp.Ordering.{Ordering}, List.Sorted.{IsStrictlySortedBy}}}
-use Rattle.fx_base.proofs.Tests.{and_where}
+use Rattle.{std.{proofs.Common.{map as list_map}, specs.{declared.cmp.Ordering.{Ordering}, List.Sorted.{IsStrictlySortedBy}}}, fx_base.proofs.Tests.{and_where}}
 
 -- ---- lists in order
 

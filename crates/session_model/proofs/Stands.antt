@@ -7,8 +7,8 @@ use Rattle.session_model.proofs.Common.{settled, with_new, with_revised, AllBelo
 use Rattle.session_model.proofs.Common.{without_fact, others, Marks, IsNewestTag, newest, with_timer, without_timer, fact_left_at, Contents, Mirrors, expiry_at}
 use Rattle.session_model.proofs.{Common.{Course, reached_by, fun_ext, Reached, moment_in}, Exactly.{Exact}, Members.{Holds, holds_less, holds_new}}
 use Rattle.session_model.proofs.{Members.{holds_revised, swapped, versions}, Newest.{holds, tagged_in, tagged_found, world_found}, Timers.{timed_new}}
-use Rattle.session_model.proofs.Timers.{timed_less, timed_plain, timed_left, left_found, left_present}
-use Rattle.rule_world.{specs.Worlds.{moved}, proofs.Steps.{move_numbered, numbered}}
+use Rattle.{session_model.proofs.Timers.{timed_less, timed_plain, timed_left, left_found, left_present}, rule_world.specs.Worlds.{moved}}
+use Rattle.rule_world.proofs.Steps.{move_numbered, numbered}
 use Rattle.std.specs.FinMap as map
 
 -- what entry points have reached where a new event has come

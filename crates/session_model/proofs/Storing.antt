@@ -2,8 +2,7 @@
 use Rattle.session_model.proofs.Common.{◌≡◌, ◌∙◌, ◌⊎◌, inl, inr, ℕ, ℤ, ◌==◌, ◌&&◌, not, Bool, true, false, cond, is_some, List, [], ◌∷◌, Option, Some, None}
 use Rattle.session_model.proofs.Common.{refl, sym, ap, subst, get-empty, option_and_then, nat_cmp, In, Tag, Fact, Timers, HeldFacts, tag_of, LifeTable, Program}
 use Rattle.session_model.proofs.Common.{HaveDistinctTags, in_map, end_of_presence, Retention, lingers, ends_by, all_held, stored, AreHeld, AreStorable}
-use Rattle.session_model.proofs.Common.{expiry_at, with_timer}
-use Rattle.std.proofs.{lemmas.Bool.{and_left, eqb-false, eqb-true}, Common.{map as list_map}}
+use Rattle.{session_model.proofs.Common.{expiry_at, with_timer}, std.proofs.{lemmas.Bool.{and_left, eqb-false, eqb-true}, Common.{map as list_map}}}
 use Rattle.std.specs.FinMap as map
 use Rattle.session_model.proofs.{Members.{Holds, got_new, got_old, of_insert}, Timers.{timed_new}}
 

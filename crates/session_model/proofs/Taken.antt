@@ -4,8 +4,7 @@ use Rattle.session_model.proofs.Common.{has_match, World, snapshot, stepped, ste
 use Rattle.session_model.proofs.Common.{ends_by, ends_of, each_tag, is_kept_tag, is_clean, TakesChanges, sight_of, comes, goes, world_step_kept, Memory}
 use Rattle.session_model.proofs.Common.{Setting, over, matches_by, only_in, Contents, Runs, Seen, Standing, holding, with_facts, reached_of}
 use Rattle.session_model.proofs.{Clean.{clean_matches, clean_kept, clean_next, clean_was, whole_matches}, Phases.{IsTaken, TakenAwaits}}
-use Rattle.std.proofs.lemmas.Bool.{and_from, and_parts}
-use Rattle.fx_base.proofs.Tests.{and_where}
+use Rattle.{std.proofs.lemmas.Bool.{and_from, and_parts}, fx_base.proofs.Tests.{and_where}}
 use Rattle.std.specs.FinMap as map
 
 stays : (a b : Bool) → a ≡ true → not (a && not b) ≡ true → b ≡ true

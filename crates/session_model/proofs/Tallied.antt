@@ -3,15 +3,12 @@ use Rattle.session_model.proofs.Common.{◌≡◌, ◌∙◌, sym, ap, refl, ℕ
 use Rattle.session_model.proofs.Common.{Some, None, arith, subst, event_types, HaveDistinctIds, in_map, FactId, list_any, AllByRecursion, filter, length-map}
 use Rattle.session_model.proofs.Common.{exact_unsigned_eq, In, Fact, TypeId, HeldFacts, CountsType, is_of, Program, of_filter, in_filter, passed, World}
 use Rattle.session_model.proofs.Common.{ids_filtered, id_of, kept_facts, only, fact_at, same_kept, at_filter, fact_in, own_at, Memory, Setting, AreCounts}
-use Rattle.session_model.proofs.Common.{facts_of_type, Contents, Runs, Standing}
-use Rattle.std.{proofs.{lemmas.Bool.{and_parts, ne_eqb}, Math.Bool.{or-true}}, specs.{Prelude.{nat_eq}, List.{IsDistinct}}}
+use Rattle.{session_model.proofs.Common.{facts_of_type, Contents, Runs, Standing}, std.proofs.{lemmas.Bool.{and_parts, ne_eqb}, Math.Bool.{or-true}}}
+use Rattle.std.specs.{Prelude.{nat_eq}, List.{IsDistinct}}
 use Rattle.std.specs.FinMap as map_of
-use Rattle.std.proofs.lemmas.Map.Made.{length-from_same_keys}
-use Rattle.fact_store.{specs.Ids.{AreIds}, proofs.Counting.{nat_equiv}}
-use Rattle.kept_meaning.specs.Kept.{is_kept}
-use Rattle.engine.specs.Counts.{HasEach}
-use Rattle.session_model.{specs.Counts.{held_counts}, proofs.Members.{Holds}}
-use Rattle.fx_base.proofs.{Orders.{eqb-self}, Tests.{both_ways_absurd, same_test as alike}}
+use Rattle.{std.proofs.lemmas.Map.Made.{length-from_same_keys}, fact_store.{specs.Ids.{AreIds}, proofs.Counting.{nat_equiv}}, kept_meaning.specs.Kept.{is_kept}}
+use Rattle.{engine.specs.Counts.{HasEach}, session_model.{specs.Counts.{held_counts}, proofs.Members.{Holds}}, fx_base.proofs.Orders.{eqb-self}}
+use Rattle.fx_base.proofs.Tests.{both_ways_absurd, same_test as alike}
 
 -- ---- the ids of facts
 

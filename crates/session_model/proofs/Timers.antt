@@ -3,10 +3,8 @@ use Rattle.session_model.proofs.Common.{◌≡◌, ℕ, ℤ, ◌-ℤ◌, ◌+ℤ
 use Rattle.session_model.proofs.Common.{if◌then◌else◌, refl, sym, ◌∙◌, ap, arith, int_le, nat_cmp_total, get-insert, get-remove, get-retain_keys, list_any}
 use Rattle.session_model.proofs.Common.{nat_cmp, eq_by_cmp, is_eq, Equal, ints, Fact, Timers, has_come, is_due, TakesDue, HeldFacts, tied, itself, Program}
 use Rattle.session_model.proofs.Common.{is_within, is_event, expiry_of, end_by, end_of_presence, expiry_at, with_timer, without_timer, fact_left_at}
-use Rattle.session_model.proofs.Members.{got_new, got_old, is_out, not_out}
-use Rattle.std.{proofs.lemmas.Bool.{eqb-false, eqb-true}, specs.Bool.{OnTrue, OnFalse}}
-use Rattle.rule_model.specs.Candidates.{is_present}
-use Rattle.fx_base.proofs.Orders.{eq_by_nat_cmp-turned}
+use Rattle.{session_model.proofs.Members.{got_new, got_old, is_out, not_out}, std.{proofs.lemmas.Bool.{eqb-false, eqb-true}, specs.Bool.{OnTrue, OnFalse}}}
+use Rattle.{rule_model.specs.Candidates.{is_present}, fx_base.proofs.Orders.{eq_by_nat_cmp-turned}}
 use Rattle.std.specs.FinMap as map
 
 -- what each fact of a map waits for stands among these timers

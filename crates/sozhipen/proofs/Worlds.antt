@@ -1,15 +1,12 @@
 -- Changes and firings lead from worlds that runs come to to such worlds.
 use Rattle.std.{proofs.Common.{◌≡◌, ◌≤◌, List, [], ◌∷◌, Option, Some, None, Result, Ok, Err, arith, subst}, specs.Prelude.{slice_get}}
 use Rattle.rule_model.specs.declared.{matched.Match.{Match}, program.Program.{Program}, step.Step.{Step, TheVariants.{Insert, Modify, Retract, Advance, At}}}
-use Rattle.rule_model.specs.declared.step.Step.TheVariants.{Promise, Begin}
-use Rattle.rule_world.specs.{declared.code.Code.{Code}, Programs.{IsRunnable}, Worlds.{World, moved, stepped, step_fault, first_pending, found, marked}}
-use Rattle.rule_world.specs.Worlds.{present}
-use Rattle.script_read.specs.declared.asked.Change.{Change}
-use Rattle.change_resolve.specs.Changes.{change_step}
-use Rattle.answer_lines.specs.declared.lines.{Detail.TheVariants.{Brief}, OutLine.{OutLine}}
-use Rattle.session_model.specs.Gives.{gives, gives_in, fires, fires_in, does, does_all, tries_with, fires_match, fires_with, wanted, actions_of}
-use Rattle.session_model.proofs.{Acting.{fires_lawful}, Asking.{gives_lawful}}
-use Rattle.replay.specs.Behind.{IsSoundWorld, KeepWorlds}
+use Rattle.{rule_model.specs.declared.step.Step.TheVariants.{Promise, Begin}, rule_world.specs.{declared.code.Code.{Code}, Programs.{IsRunnable}}}
+use Rattle.rule_world.specs.Worlds.{World, moved, stepped, step_fault, first_pending, found, marked, present}
+use Rattle.{script_read.specs.declared.asked.Change.{Change}, change_resolve.specs.Changes.{change_step}}
+use Rattle.{answer_lines.specs.declared.lines.{Detail.TheVariants.{Brief}, OutLine.{OutLine}}, session_model.specs.Gives.{gives, gives_in, fires, fires_in}}
+use Rattle.session_model.{specs.Gives.{does, does_all, tries_with, fires_match, fires_with, wanted, actions_of}, proofs.Acting.{fires_lawful}}
+use Rattle.{session_model.proofs.Asking.{gives_lawful}, replay.specs.Behind.{IsSoundWorld, KeepWorlds}}
 
 -- ids and tags are given from 1 on
 abbrev CountsFromOne : World → Type 0

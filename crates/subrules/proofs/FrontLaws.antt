@@ -3,10 +3,9 @@ use Rattle.subrules.proofs.Common.{◌≡◌, ◌≤◌, ◌<◌, ◌+◌, ◌-�
 use Rattle.subrules.proofs.Common.{None, slice_get, refl, sym, ap, ◌∙◌, subst, arith, nat_eq, length-append, length-map, flat_map, list_any, list_any-append}
 use Rattle.subrules.proofs.Common.{is_among, CondTree, Piece, WrittenType, Alternatives, Walk, kinds_of, Way, times, over_type, choices, all_ways, asks}
 use Rattle.subrules.proofs.Common.{closed_in, taken, at_begin, at_line, plain_items, titles_in, short_items, watching, slice_get_within, add-one, append_assoc}
-use Rattle.subrules.proofs.Common.{append-nil, none-some, same_Some}
-use Rattle.std.{specs.{Prelude.{get_or}, List.{All}, Str.{bytes_eq}}, proofs.lemmas.{Grind.{flat_map-append}, List.{length-take-le, take-append-drop}}}
-use Rattle.std.proofs.lemmas.{List.Elements.{All-append, All-cons, All-nil, All-take}, Option.{slice_get-get_or}}
-use Rattle.fx_base.proofs.Sequences.{drop_at, drop_past}
+use Rattle.{subrules.proofs.Common.{append-nil, none-some, same_Some}, std.specs.{Prelude.{get_or}, List.{All}, Str.{bytes_eq}}}
+use Rattle.std.proofs.lemmas.{Grind.{flat_map-append}, List.{length-take-le, take-append-drop, Elements.{All-append, All-cons, All-nil, All-take}}}
+use Rattle.{std.proofs.lemmas.Option.{slice_get-get_or}, fx_base.proofs.Sequences.{drop_at, drop_past}}
 use Rattle.drl_grammar.specs.declared.condition.CondTree.TheVariants as condition
 use Rattle.drl_grammar.specs.declared.{condition.SourceTree.{SourceTree}, file.Body.{Body}}
 use Rattle.drl_grammar.specs.declared.file.Body.TheVariants as plain
@@ -14,10 +13,10 @@ use Rattle.drl_grammar.specs.declared.file.{Item.{Item}, RuleTree.{RuleTree}}
 use Rattle.drl_grammar.specs.declared.written.Piece.TheVariants as piece
 use Rattle.drl_grammar.specs.declared.written.WrittenBody.{WrittenBody}
 use Rattle.drl_grammar.specs.declared.written.WrittenBody.TheVariants as body
-use Rattle.drl_grammar.specs.declared.written.{WrittenItem.{WrittenItem}, WrittenRule.{WrittenRule}}
-use Rattle.drl_scope.specs.{Declarations.{types_of, rules_of}, Observed.{is_of_length, watched_by, watched_names}}
-use Rattle.subrules.specs.{Expanded.{numbered_rules, origins_from, plain_bodies, plain_rules, rules_of_ways}, Front.{is_closed, open_at_end, open_behind}}
-use Rattle.subrules.specs.{Front.{watches, watcher, shortened}, Ways.{each_behind, walked, ways_of}}
+use Rattle.{drl_grammar.specs.declared.written.{WrittenItem.{WrittenItem}, WrittenRule.{WrittenRule}}, drl_scope.specs.Declarations.{types_of, rules_of}}
+use Rattle.{drl_scope.specs.Observed.{is_of_length, watched_by, watched_names}, subrules.specs.Expanded.{numbered_rules, origins_from, plain_bodies}}
+use Rattle.subrules.specs.{Expanded.{plain_rules, rules_of_ways}, Front.{is_closed, open_at_end, open_behind, watches, watcher, shortened}, Ways.{each_behind}}
+use Rattle.subrules.specs.Ways.{walked, ways_of}
 
 -- ---- truth values
 

@@ -2,8 +2,8 @@
 use Rattle.subrules.proofs.Common.{◌≡◌, ◌&&◌, ◌||◌, not, ℕ, Bool, true, false, cond, List, [], ◌∷◌, ◌++◌, length, map, Option, Some, None, slice_get, refl, sym}
 use Rattle.subrules.proofs.Common.{ap, ◌∙◌, append_assoc, filter, bytes_eq-Decides, WrittenType, above, goes_on, parent_of, has_word, meta_word, plain_type}
 use Rattle.subrules.{proofs.Common.{type_behind, is_among, bytes_eq, AreKnown, IsHeir}, specs.Expanded.{inherited_fields, inherited_metas}}
-use Rattle.subrules.proofs.{HierarchyLaws.{ends_none, ends_behind, above_behind}, KnownLaws.{above_known}}
-use Rattle.drl_grammar.specs.declared.file.{Meta.{Meta}, TypeTree.{TypeTree}}
+use Rattle.{subrules.proofs.{HierarchyLaws.{ends_none, ends_behind, above_behind}, KnownLaws.{above_known}}, drl_grammar.specs.declared.file.Meta.{Meta}}
+use Rattle.drl_grammar.specs.declared.file.TypeTree.{TypeTree}
 
 -- ---- fields
 

@@ -5,8 +5,7 @@ use Rattle.subrules.proofs.Common.{or_right, eq-eqb, or_parts, option_and_then_s
 use Rattle.subrules.proofs.Common.{written_type_names, written_type_named, is_type_of_name, parent_of, above, goes_round, is_below, IsAbove, ◌↔◌, Contains}
 use Rattle.subrules.{proofs.Common.{Any-from_list_any, list_any-from_Any}, specs.Hierarchy.{ancestors, goes_on, IsAbove.{parent, further}}}
 use Rattle.std.{specs.{List.{IsDistinct}, Bool.{Decides}}, proofs.{Math.Dec.{eqb}, lemmas.List.Elements.{Contains-append_left, Contains-append_right}}}
-use Rattle.std.proofs.lemmas.{List.Elements.{Contains-append_cases}, Map.Steps.{length-le_from_distinct_below}}
-use Rattle.fx_base.proofs.Sequences.{none_equal}
+use Rattle.{std.proofs.lemmas.{List.Elements.{Contains-append_cases}, Map.Steps.{length-le_from_distinct_below}}, fx_base.proofs.Sequences.{none_equal}}
 
 -- ---- the first step upward
 

@@ -4,9 +4,8 @@ use Rattle.subrules.proofs.Common.{is_some, slice_get, option_map, option_and_th
 use Rattle.subrules.proofs.Common.{false_from_ne_true, false≢true, option_and_then_some, same_Some, none-some, bytes_eq-Decides, place_of_name, WrittenType}
 use Rattle.subrules.proofs.Common.{written_type_names, first_names, written_type_named, is_type_of_name, parent_of, is_below, extended_by, has_subtypes}
 use Rattle.subrules.proofs.Common.{kinds_of, is_other, is_subtype, option_to_list, list_any-append, with_entry_name, is_among, bytes_eq}
-use Rattle.subrules.{specs.Hierarchy.{ancestors}, proofs.HierarchyLaws.{above_none}}
-use Rattle.std.{proofs.Math.Bool.{or-false, or-true, or_assoc}, specs.Cmp.Lexicographic.{nat_list_eq_equiv}}
-use Rattle.drl_scope.{specs.{EntryPoints.{with_names}, Names.{place_from}}, proofs.NameLemmas.{placed_among}}
+use Rattle.{subrules.{specs.Hierarchy.{ancestors}, proofs.HierarchyLaws.{above_none}}, std.proofs.Math.Bool.{or-false, or-true, or_assoc}}
+use Rattle.{std.specs.Cmp.Lexicographic.{nat_list_eq_equiv}, drl_scope.{specs.{EntryPoints.{with_names}, Names.{place_from}}, proofs.NameLemmas.{placed_among}}}
 
 -- ---- a type has the name by which it is found
 

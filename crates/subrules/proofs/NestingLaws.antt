@@ -2,9 +2,7 @@
 use Rattle.subrules.proofs.Common.{◌≡◌, ◌+◌, ◌-◌, ℕ, List, [], ◌∷◌, ◌++◌, length, take, Some, slice_get, refl, sym, ap, ◌∙◌, append_assoc, arith, length-append}
 use Rattle.subrules.proofs.Common.{append-nil, Piece, WrittenType, Alternatives, Walk, Way, times, choices, all_ways, asks, closed_in, taken, at_begin, begun}
 use Rattle.subrules.specs.{Ways.{each_behind, walked, ways_of}, Nesting.{OneHas, AllHave, AnyHas, OneHas.{condition, alternatives}, AllHave.{last, further}}}
-use Rattle.subrules.specs.Nesting.AnyHas.{only, or_else}
-use Rattle.std.proofs.Math.Seq.{take-append_seam}
-use Rattle.drl_lex.specs.declared.token.TokenKind.{TokenKind}
+use Rattle.{subrules.specs.Nesting.AnyHas.{only, or_else}, std.proofs.Math.Seq.{take-append_seam}, drl_lex.specs.declared.token.TokenKind.{TokenKind}}
 use Rattle.drl_grammar.specs.{declared.written.Piece.TheVariants.{Open, Or, Close}, Conditions.{IsChoice, AreAll, AreAny, IsChoice.{one as choice_one}}}
 use Rattle.drl_grammar.specs.Conditions.{IsChoice.{alternatives as choice_alternatives}, AreAll.{last as all_last, further as all_further}}
 use Rattle.drl_grammar.specs.Conditions.AreAny.{only as any_only, or_else as any_or_else}

@@ -6,8 +6,7 @@ use Rattle.subrules.proofs.Common.{Way, times, over_type, choices, all_ways, ask
 use Rattle.subrules.proofs.Common.{free_size, begun_size, size_times, size_plus, size_of_choices, all_size, asks_size, closed_size, measured, size_of_all}
 use Rattle.subrules.{proofs.Common.{size_of_walk, passes_limits, slice_get-map, are_too_many, CondTree}, specs.Ways.{each_behind, walked, ways_of}}
 use Rattle.subrules.specs.{Sizes.{all_measured}, declared.sizes.{Size.{Size}, SizeOfAlternatives.{SizeOfAlternatives}, SizeWalk.{SizeWalk}}}
-use Rattle.std.proofs.Math.Nat.{mul_comm}
-use Rattle.drl_grammar.specs.declared.condition.SourceTree.{SourceTree}
+use Rattle.{std.proofs.Math.Nat.{mul_comm}, drl_grammar.specs.declared.condition.SourceTree.{SourceTree}}
 use Rattle.drl_grammar.specs.declared.condition.CondTree.TheVariants as condition
 use Rattle.drl_grammar.specs.declared.written.Piece.TheVariants as piece
 

@@ -1,7 +1,6 @@
 -- What is known of a distance's cost, and what a way over a third point makes of it.
 use Rattle.temporal_net.proofs.Common.{◌≡◌, ◌⊎◌, ℤ, pos, ◌+ℤ◌, ◌≤ℤ◌, Bool, true, false, cond, Option, Some, None, refl, ap, inl, inr, arith, ints, Distance}
-use Rattle.temporal_net.proofs.Common.{cost, zero_distance, joined, lesser, lowered, ReachesWithin}
-use Rattle.std.specs.Int.Signed.{lt_z}
+use Rattle.{temporal_net.proofs.Common.{cost, zero_distance, joined, lesser, lowered, ReachesWithin}, std.specs.Int.Signed.{lt_z}}
 
 pub reaches_more : (o : Option Distance) (a b : ℤ) → ReachesWithin o a → a ≤ℤ b → ReachesWithin o b
 reaches_more None a b h l = h

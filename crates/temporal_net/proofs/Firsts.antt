@@ -1,8 +1,7 @@
 -- An edge that leaves the rest of a distance begins the way, and there is one.
 use Rattle.temporal_net.proofs.Common.{◌≡◌, ◌≢◌, ℕ, ◌+◌, ◌<◌, ℤ, ◌+ℤ◌, List, length, Bool, true, false, ◌&&◌, eqb, Option, Some, None, refl, sym, subst, inr}
 use Rattle.temporal_net.proofs.Common.{arith, eq-eqb, ints, eqb-true, Contains-get_or, NetEdge, Distance, edge_at, Table, Begins, HasWays, StepsWay, opens}
-use Rattle.temporal_net.proofs.Ways.{ends_among, numbered}
-use Rattle.std.specs.Ordering.{int_eq}
+use Rattle.{temporal_net.proofs.Ways.{ends_among, numbered}, std.specs.Ordering.{int_eq}}
 
 -- the edge with this number leads from x, and leaves the rest of the way to y
 abbrev pub is_first : List NetEdge → Table → ℕ → ℕ → ℕ → Bool

@@ -4,9 +4,8 @@ use Rattle.temporal_net.proofs.Common.{sym, ◌∙◌, ap, subst, inl, inr, arit
 use Rattle.temporal_net.proofs.Common.{All-from_recursion, recursion_from_All, NetEdge, Distance, total, edge_at, points_of, IsGreatest, IsUnboundedDifference}
 use Rattle.temporal_net.proofs.Common.{IsShortestPath, HasGreatest, cell, zero_distance, AreTable, FollowsWay, AllPairs, to_z-of_z, Decides-eqb, IsWay}
 use Rattle.temporal_net.proofs.{Common.{IsWithinNetwork, Network}, Bounds.{greatest, unbounded, known}, Fewest.{IsNoMore, least_of_ways}, Ways.{same_distance}}
-use Rattle.temporal_net.proofs.Ways.{follows_leads, follows_members, measured, distinct, short}
-use Rattle.std.proofs.lemmas.{Grind.{common_steps}, Map.Made.{AllPairs-from_IsDistinct}}
-use Rattle.fx_base.specs.declared.bound.Bound.TheVariants.{Finite}
+use Rattle.{temporal_net.proofs.Ways.{follows_leads, follows_members, measured, distinct, short}, std.proofs.lemmas.Grind.{common_steps}}
+use Rattle.{std.proofs.lemmas.Map.Made.{AllPairs-from_IsDistinct}, fx_base.specs.declared.bound.Bound.TheVariants.{Finite}}
 
 module _ (edges : List NetEdge) (rows : List (List (Option Distance))) (table : AreTable (length rows) edges rows) (x y : ℕ) (xp : x < length rows) (yp : y < length rows) where
   within_sum : (d : Distance) → cell rows x y ≡ Some d → IsWithinNetwork (Finite d.sum)

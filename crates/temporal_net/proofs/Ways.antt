@@ -3,8 +3,7 @@ use Rattle.temporal_net.proofs.Common.{◌≡◌, ℕ, zero, suc, ◌<◌, ◌�
 use Rattle.temporal_net.proofs.Common.{Some, None, IfSome, refl, sym, ◌∙◌, ap, subst, inl, inr, arith, All, AllByRecursion, Contains, ints, cases_eq, eqb_tells}
 use Rattle.temporal_net.proofs.Common.{get_or_default, length-map, All-contains, length-le_from_distinct_below, NetEdge, Distance, LeadsWay, total, points_of}
 use Rattle.temporal_net.proofs.Common.{edge_at, HasItsPoints, IsSmallEdge, Table, zero_distance, Begins, HasWays, StepsWay, FollowsWay, list_any}
-use Rattle.temporal_net.proofs.Common.{IsShortDistance}
-use Rattle.std.specs.List.{IsDistinct}
+use Rattle.{temporal_net.proofs.Common.{IsShortDistance}, std.specs.List.{IsDistinct}}
 
 -- how many edges are left
 abbrev pub edges_left : Option Distance → ℕ

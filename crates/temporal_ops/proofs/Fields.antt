@@ -2,8 +2,7 @@
 use Rattle.temporal_ops.proofs.Common.{◌≡◌, ℕ, ◌+◌, ◌<◌, ◌≤◌, ◌++◌, List, length, map, take, drop, get_or, set, sym, ◌∙◌, ap, subst, arith, length-append}
 use Rattle.temporal_ops.proofs.Common.{length-drop, length-take, length-take-le, append-nil, replicate, take_all, length-map, take-append_seam, OpEdge, IsOp}
 use Rattle.temporal_ops.proofs.Common.{opposite_edge, blank, drop-replicate, drop_all, take-append-le, get_or_default, drop-append_seam, IsStored}
-use Rattle.temporal_ops.proofs.Ops.{opposite_is_op}
-use Rattle.std.proofs.lemmas.List.Edits.{map_over_more}
+use Rattle.{temporal_ops.proofs.Ops.{opposite_is_op}, std.proofs.lemmas.List.Edits.{map_over_more}}
 
 pub stored_front : (edges : List OpEdge) → IsOp edges
     → IsStored (record { items = edges ++ drop (length edges) (replicate 5 blank); count = length edges })

@@ -2,8 +2,8 @@
 use Rattle.temporal_ops.proofs.Common.{◌≡◌, ◌↔◌, ℕ, ℤ, ◌+◌, ◌<◌, ◌≤◌, ◌+ℤ◌, ◌-ℤ◌, ◌≤ℤ◌, Bool, true, false, ◌&&◌, List, length, take, get_or, Option, Some, None}
 use Rattle.temporal_ops.proofs.Common.{refl, sym, ap, ◌∙◌, arith, int_max, list_all, ints, clamps, take_all, Times, Corner, AStart, AEnd, OpEdge, Limits, Room}
 use Rattle.temporal_ops.proofs.Common.{corner, edge_holds, all_hold, IsLatest, ArePossibleTimes, AreStartsUnbounded, is_empty, IsAboveLimit, IsBelow}
-use Rattle.temporal_ops.proofs.{Common.{LiesBetweenLimits, FitsRoom, FitsEvent, AreStartLimits}, Rows.{edge_bounds}}
-use Rattle.std.proofs.lemmas.{Bool.{and_from, and_parts}, List.Folds.{list_all_more}}
+use Rattle.{temporal_ops.proofs.{Common.{LiesBetweenLimits, FitsRoom, FitsEvent, AreStartLimits}, Rows.{edge_bounds}}, std.proofs.lemmas.Bool.{and_from}}
+use Rattle.std.proofs.lemmas.{Bool.{and_parts}, List.Folds.{list_all_more}}
 
 -- one test more of a list
 pub one_more : {X : Type 0} (p : X → Bool) (xs : List X) (i : ℕ) (x d : X) → i < length xs → x ≡ get_or xs i d

@@ -3,8 +3,7 @@ use Rattle.window_gate.proofs.Common.{◌≡◌, ◌∙◌, sym, ap, refl, subst
 use Rattle.window_gate.proofs.Common.{Option, Some, None, arith, append-nil, ◌⊎◌, inl, inr, Less, Greater, insert_entry, is_at, unsigned_tied, list_any}
 use Rattle.window_gate.proofs.Common.{AllByRecursion, keys_of, values_of, lookup, remove_entry, option_or, nat_cmp, is_eq, match_ordering, Decides-eqb}
 use Rattle.window_gate.proofs.Common.{nat_tests, map-append, Named, has_tag, TagsDiffer, number_of, Numbered, or_first_false, or_second_false}
-use Rattle.window_gate.proofs.Names.{without, apart, differ_left, differ_right}
-use Rattle.std.specs.List.Sorted.{IsStrictlySortedBy}
+use Rattle.{window_gate.proofs.Names.{without, apart, differ_left, differ_right}, std.specs.List.Sorted.{IsStrictlySortedBy}}
 
 -- ---- the order of numbers
 

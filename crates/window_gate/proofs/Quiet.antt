@@ -3,9 +3,8 @@ use Rattle.window_gate.proofs.Common.{◌≡◌, ◌∙◌, sym, ap, refl, inl, 
 use Rattle.window_gate.proofs.Common.{Some, None, option_map, arith, ◌+ℤ◌, ints, nat_cmp, int_cmp, eq_by_cmp, is_eq, is_gt, IsBetween, has, Delta, Row, Clock}
 use Rattle.window_gate.proofs.Common.{Time, TimeWindow, FactId, KeepsTime, TagsDiffer, with_tag, leaves_at, LeavesAt, Arrival, named_of, has_tag, inside}
 use Rattle.window_gate.proofs.{Common.{rows_inside, leaves, brings, Leave, Enter, IfSome, IsSomeAnd, found, is_moment, pair_cmp, not_later}, Times.{step_keeps}}
-use Rattle.window_gate.proofs.{Times.{step_between}, Holding.{leave_none, enter_none, none_due}, Wholes.{none_in_order}}
-use Rattle.std.proofs.lemmas.Cmp.{tied_itself, int_cmp_total}
-use Rattle.fx_base.specs.Lists.{In}
+use Rattle.{window_gate.proofs.{Times.{step_between}, Holding.{leave_none, enter_none, none_due}, Wholes.{none_in_order}}, std.proofs.lemmas.Cmp.{tied_itself}}
+use Rattle.{std.proofs.lemmas.Cmp.{int_cmp_total}, fx_base.specs.Lists.{In}}
 
 -- sets of which neither has what the other lacks answer alike
 alike : (a b : Bool) → false ≡ (a && not b) → false ≡ (b && not a) → b ≡ a

@@ -1,9 +1,8 @@
 -- Rows of one version: their order is that of the versions, and a difference of versions is one of rows.
 use Rattle.window_gate.proofs.Common.{◌≡◌, ◌∙◌, sym, ap, refl, subst, ℕ, ℤ, List, [], ◌∷◌, map, Bool, false, not, ◌&&◌, ◌||◌, Ordering, Less, Equal, Greater}
 use Rattle.window_gate.proofs.Common.{nat_cmp, ordering_then, eq_by_cmp, is_eq, int_cmp, AllByRecursion, name_cmp, has, row_cmp, InOrder, IsBetween, Named, Row}
-use Rattle.window_gate.proofs.Common.{Delta, single, has_version}
+use Rattle.{window_gate.proofs.Common.{Delta, single, has_version}, std.specs.{Cmp.Lexicographic.{slice_cmp}, List.Sorted.{IsStrictlySortedBy}}}
 use mathlib.Core.Path.{fun_ext}
-use Rattle.std.specs.{Cmp.Lexicographic.{slice_cmp}, List.Sorted.{IsStrictlySortedBy}}
 
 -- the row of these facts and values
 abbrev row_of : List Named → List ℤ → Row

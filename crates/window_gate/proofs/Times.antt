@@ -6,8 +6,7 @@ use Rattle.window_gate.proofs.Common.{Clock, TimeWindow, Arrival, named_of, has_
 use Rattle.window_gate.proofs.Common.{with_tag, KeepsTime, HoldsArrivals, most, is_id, has_time_come, leaves, brings, Leave, Enter, find-append, and-false}
 use Rattle.window_gate.proofs.{Common.{or-false, eqb-flip, or_first_false, or_second_false}, Names.{same_name, same_name-parts, none_with_tag, has_tag-same}}
 use Rattle.window_gate.proofs.{Insides.{is_recent, inside_time, differ_after}, Lengths.{few_in_order}, Singles.{between_names}, Holding.{holds_same}}
-use Rattle.window_gate.proofs.Holding.{arrival_of}
-use Rattle.std.specs.Int.{saturate_signed}
+use Rattle.{window_gate.proofs.Holding.{arrival_of}, std.specs.Int.{saturate_signed}}
 
 -- ---- the arrival with a tag, where it passes a test
 

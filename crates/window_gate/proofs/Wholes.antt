@@ -3,8 +3,7 @@ use Rattle.window_gate.proofs.Common.{◌≡◌, ◌∙◌, sym, ap, refl, subst
 use Rattle.window_gate.proofs.Common.{Result, Ok, Err, IfOk, list_any, eq_by_cmp, list_any-append, name_cmp, IsBetween, Named, Delta, Whole, GateChange, Come}
 use Rattle.window_gate.proofs.Common.{Gone, Clock, Arrival, named_of, has_tag, single, after, rows_inside, has_version, TagsDiffer, MayChange, and_not_self}
 use Rattle.window_gate.proofs.{Names.{same_name, equal_names, none_with_tag, names-without, only_one}, Singles.{between_names}, Insides.{inside_whole}}
-use Rattle.window_gate.proofs.Insides.{named-filter, named-push}
-use Rattle.std.specs.List.Sorted.{IsStrictlySortedBy}
+use Rattle.{window_gate.proofs.Insides.{named-filter, named-push}, std.specs.List.Sorted.{IsStrictlySortedBy}}
 
 -- one version is in order, and none
 pub one_in_order : (named : Named) → IsStrictlySortedBy name_cmp (named ∷ [])

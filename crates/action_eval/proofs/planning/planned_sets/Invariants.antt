@@ -1,5 +1,4 @@
-use Rattle.std.proofs.Common.{◌≡◌, Some, take}
-use Rattle.rule_model.specs.{Lent.{bound_in}, Planned.{sets_of}}
+use Rattle.{std.proofs.Common.{◌≡◌, Some, take}, rule_model.specs.{Lent.{bound_in}, Planned.{sets_of}}}
 use Rattle.action_eval.proofs.planning.planned_sets.Given as goal
 
 -- what stands is what the sets before this one give

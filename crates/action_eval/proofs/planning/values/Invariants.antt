@@ -1,5 +1,4 @@
-use Rattle.std.proofs.Common.{◌≡◌, Some, take}
-use Rattle.rule_model.specs.{Lent.{bound_in}, Numbers.{values_of}}
+use Rattle.{std.proofs.Common.{◌≡◌, Some, take}, rule_model.specs.{Lent.{bound_in}, Numbers.{values_of}}}
 use Rattle.action_eval.proofs.planning.values.Given as goal
 
 -- what stands is the values of the expressions before this one

@@ -1,5 +1,5 @@
-use Rattle.alpha_memory.proofs.Common.{rules, IsFromIterResult, nat_cmp, name_entry, IfOk-at_ok}
-use Rattle.std.proofs.lemmas.Iterator.{YieldsList-from_map, Adapters.{fact_from_collect}, Consumers.{YieldsList-from_rest, YieldsList-at}}
+use Rattle.{alpha_memory.proofs.Common.{rules, IsFromIterResult, nat_cmp, name_entry, IfOk-at_ok}, std.proofs.lemmas.Iterator.{YieldsList-from_map}}
+use Rattle.std.proofs.lemmas.Iterator.{Adapters.{fact_from_collect}, Consumers.{YieldsList-from_rest, YieldsList-at}}
 use Rattle.alpha_memory.proofs.memory.names_by_number.Goals as goal
 
 pub returns : goal.returns

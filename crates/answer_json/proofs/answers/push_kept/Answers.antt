@@ -1,6 +1,5 @@
-use Rattle.std.{proofs.Common.{◌≡◌, ◌≤◌, false, sym, subst}, specs.Prelude.{codes}}
-use Rattle.serde_json.specs.{Data.{Data, depth}, Read.{max_depth}, Written.{has_float}}
-use Rattle.answer_json.proofs.{Floats.{fact_has_none}, Depths.{fact_is_shallow}}
+use Rattle.{std.{proofs.Common.{◌≡◌, ◌≤◌, false, sym, subst}, specs.Prelude.{codes}}, serde_json.specs.{Data.{Data, depth}, Read.{max_depth}}}
+use Rattle.{serde_json.specs.Written.{has_float}, answer_json.proofs.{Floats.{fact_has_none}, Depths.{fact_is_shallow}}}
 use Rattle.answer_json.proofs.answers.push_kept.Goals as goal
 
 pub push_value-requires-clause-exact : goal.push_value-requires-clause-exact

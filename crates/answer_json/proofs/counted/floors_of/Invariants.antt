@@ -1,6 +1,4 @@
-use Rattle.std.proofs.Common.{◌≡◌, drop}
-use Rattle.serde_json.specs.{Data.{no_members}, View.{members_view}}
-use Rattle.answer_json.specs.Answers.{with_floors}
+use Rattle.{std.proofs.Common.{◌≡◌, drop}, serde_json.specs.{Data.{no_members}, View.{members_view}}, answer_json.specs.Answers.{with_floors}}
 use Rattle.answer_json.proofs.counted.floors_of.Given as goal
 
 abbrev pub invariant-loop-entry : goal.invariant-loop-entry

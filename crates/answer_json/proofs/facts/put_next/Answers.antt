@@ -1,5 +1,4 @@
-use Rattle.serde_json.specs.View.{members_view}
-use Rattle.answer_json.proofs.Ends.{no_value_next}
+use Rattle.{serde_json.specs.View.{members_view}, answer_json.proofs.Ends.{no_value_next}}
 use Rattle.answer_json.proofs.facts.put_next.Goals as goal
 
 pub returns-in-None : goal.returns-in-None

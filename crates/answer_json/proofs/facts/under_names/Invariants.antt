@@ -1,6 +1,4 @@
-use Rattle.std.proofs.Common.{◌≡◌, drop}
-use Rattle.serde_json.specs.{Data.{no_members}, View.{members_view}}
-use Rattle.answer_json.specs.Facts.{with_fields}
+use Rattle.{std.proofs.Common.{◌≡◌, drop}, serde_json.specs.{Data.{no_members}, View.{members_view}}, answer_json.specs.Facts.{with_fields}}
 use Rattle.answer_json.proofs.facts.under_names.Given as goal
 
 abbrev pub invariant-loop-name : goal.invariant-loop-name

@@ -1,6 +1,4 @@
-use Rattle.std.{proofs.Common.{◌≡◌, ◌++◌, drop}, specs.Prelude.{map}}
-use Rattle.serde_json.specs.View.{view}
-use Rattle.answer_json.specs.Firings.{bound_facts}
+use Rattle.{std.{proofs.Common.{◌≡◌, ◌++◌, drop}, specs.Prelude.{map}}, serde_json.specs.View.{view}, answer_json.specs.Firings.{bound_facts}}
 use Rattle.answer_json.proofs.firings.facts_of.Given as goal
 
 abbrev pub invariant-loop-fact : goal.invariant-loop-fact

@@ -1,5 +1,4 @@
-use Rattle.std.proofs.Common.{◌≡◌, ◌≤◌, false, sym, subst}
-use Rattle.serde_json.specs.{Data.{Data, depth}, Read.{max_depth}, Written.{has_float}}
+use Rattle.{std.proofs.Common.{◌≡◌, ◌≤◌, false, sym, subst}, serde_json.specs.{Data.{Data, depth}, Read.{max_depth}, Written.{has_float}}}
 use Rattle.answer_json.proofs.{Floats.{line_has_none}, Depths.{line_is_shallow}}
 use Rattle.answer_json.proofs.lines.push_line.Goals as goal
 

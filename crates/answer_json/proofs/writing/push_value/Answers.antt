@@ -1,6 +1,5 @@
-use Rattle.std.{proofs.Common.{◌≡◌, ◌++◌, ◌∷◌, List, ℕ, [], ap, sym, ◌∙◌, append_assoc}, specs.Prelude.{string_bytes}}
-use Rattle.serde_json.specs.{Read.{read}, View.{view}, Written.{compact_text}}
-use Rattle.answer_json.specs.Objects.{json_line, ReadsBack}
+use Rattle.{std.{proofs.Common.{◌≡◌, ◌++◌, ◌∷◌, List, ℕ, [], ap, sym, ◌∙◌, append_assoc}, specs.Prelude.{string_bytes}}, serde_json.specs.Read.{read}}
+use Rattle.{serde_json.specs.{View.{view}, Written.{compact_text}}, answer_json.specs.Objects.{json_line, ReadsBack}}
 use Rattle.answer_json.proofs.writing.push_value.Goals as goal
 
 pub returns-clause-text : goal.returns-clause-text

@@ -1,6 +1,6 @@
 use Rattle.candidate_source.proofs.Common.{ℕ, List, sym, subst, ◌&&◌, not, option_map, nat_cmp, IsHandedTo, has_place, is_under_given}
-use Rattle.candidate_source.proofs.{Behind.{handed_to_none}, Places.{handed_each}}
-use Rattle.std.{proofs.lemmas.Map.Keys.{sorted_tail}, specs.List.Sorted.{IsStrictlySortedBy}}
+use Rattle.{candidate_source.proofs.{Behind.{handed_to_none}, Places.{handed_each}}, std.proofs.lemmas.Map.Keys.{sorted_tail}}
+use Rattle.std.specs.List.Sorted.{IsStrictlySortedBy}
 use Rattle.candidate_source.proofs.handing.hand_each.Goals as goal
 
 pub loop-place-preserved : goal.loop-place-preserved

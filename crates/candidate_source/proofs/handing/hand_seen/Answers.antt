@@ -1,6 +1,5 @@
-use Rattle.candidate_source.proofs.{Common.{◌∙◌, ap, Option, ◌∷◌, option_map, Value}, Places.{handed_both}}
-use Rattle.std.{proofs.lemmas.Result.{on_ok_weaker}, specs.Borrow.{Bor}}
-use Rattle.join_tests.specs.Kept.{one_or_none}
+use Rattle.{candidate_source.proofs.{Common.{◌∙◌, ap, Option, ◌∷◌, option_map, Value}, Places.{handed_both}}, std.proofs.lemmas.Result.{on_ok_weaker}}
+use Rattle.{std.specs.Borrow.{Bor}, join_tests.specs.Kept.{one_or_none}}
 use Rattle.candidate_source.proofs.handing.hand_seen.Goals as goal
 
 pub returns-in-Some : goal.returns-in-Some

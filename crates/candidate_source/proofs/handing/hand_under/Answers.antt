@@ -1,6 +1,5 @@
 use Rattle.candidate_source.proofs.{Common.{◌∙◌, ap, sym, ℕ, Option, Some, ◌&&◌, not, option_map, is_under_given}, Behind.{handed_alike}, Places.{under_bucket}}
-use Rattle.std.{proofs.lemmas.Result.{on_ok_weaker}, specs.Borrow.{Bor}}
-use Rattle.alpha_memory.specs.{Bucket.{entries}, declared.bucket.Bucket.{Bucket}}
+use Rattle.{std.{proofs.lemmas.Result.{on_ok_weaker}, specs.Borrow.{Bor}}, alpha_memory.specs.{Bucket.{entries}, declared.bucket.Bucket.{Bucket}}}
 use Rattle.candidate_source.proofs.handing.hand_under.Goals as goal
 
 pub returns-in-Some-Many : goal.returns-in-Some-Many

@@ -1,5 +1,4 @@
-use Rattle.candidate_source.{proofs.Common.{◌∙◌, subst, List, Pattern}, specs.Sources.{facts_of_type, IsLoadedWith}}
-use Rattle.std.proofs.Common.{to_z-of_z}
+use Rattle.{candidate_source.{proofs.Common.{◌∙◌, subst, List, Pattern}, specs.Sources.{facts_of_type, IsLoadedWith}}, std.proofs.Common.{to_z-of_z}}
 use Rattle.fx_base.specs.declared.fact.Fact.{Fact}
 use Rattle.candidate_source.proofs.sources.loaded.Goals as goal
 

@@ -1,5 +1,4 @@
-use Rattle.candidate_source.proofs.Common.{◌≡◌, ℕ, true, false, has_place}
-use Rattle.std.specs.Map.{keys_of}
+use Rattle.{candidate_source.proofs.Common.{◌≡◌, ℕ, true, false, has_place}, std.specs.Map.{keys_of}}
 use Rattle.candidate_source.proofs.sources.put_handed.Given as goal
 
 abbrev pub invariant-loop-place : goal.invariant-loop-place

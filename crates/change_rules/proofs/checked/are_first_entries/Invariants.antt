@@ -1,6 +1,4 @@
-use Rattle.change_rules.proofs.Common.{Some, ℕ, ◌<◌, ◌≡◌}
-use Rattle.change_resolve.specs.Changes.{entry_named}
-use Rattle.rule_model.specs.declared.program.EntryInfo.{EntryInfo}
+use Rattle.{change_rules.proofs.Common.{Some, ℕ, ◌<◌, ◌≡◌}, change_resolve.specs.Changes.{entry_named}, rule_model.specs.declared.program.EntryInfo.{EntryInfo}}
 use Rattle.std.proofs.Common.{slice_get}
 use Rattle.change_rules.proofs.checked.are_first_entries.Given as goal
 

@@ -1,5 +1,4 @@
-use Rattle.change_rules.proofs.Common.{Some, TypeInfo, type_named, ℕ, ◌<◌, ◌≡◌}
-use Rattle.std.proofs.Common.{option_map, slice_get}
+use Rattle.{change_rules.proofs.Common.{Some, TypeInfo, type_named, ℕ, ◌<◌, ◌≡◌}, std.proofs.Common.{option_map, slice_get}}
 use Rattle.change_rules.proofs.checked.are_first_types.Given as goal
 
 abbrev pub invariant-loop-place : goal.invariant-loop-place

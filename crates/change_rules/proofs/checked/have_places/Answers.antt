@@ -1,5 +1,5 @@
-use Rattle.change_rules.proofs.{Common.{arith, length, refl, ◌<◌}, Apart.{one_rule, places_each, places_there}}
-use Rattle.std.proofs.lemmas.Option.{slice_get_within, slice_get_read}
+use Rattle.{change_rules.proofs.{Common.{arith, length, refl, ◌<◌}, Apart.{one_rule, places_each, places_there}}, std.proofs.lemmas.Option.{slice_get_within}}
+use Rattle.std.proofs.lemmas.Option.{slice_get_read}
 use Rattle.change_rules.proofs.checked.have_places.Goals as goal
 
 pub returns-clause-places : goal.returns-clause-places

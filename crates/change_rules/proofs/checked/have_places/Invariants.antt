@@ -1,5 +1,4 @@
-use Rattle.change_rules.{proofs.Common.{Rule, Some, ℕ, ◌<◌, ◌≡◌, length}, specs.Checked.{HaveConditionPlaces}}
-use Rattle.std.proofs.Common.{slice_get}
+use Rattle.{change_rules.{proofs.Common.{Rule, Some, ℕ, ◌<◌, ◌≡◌, length}, specs.Checked.{HaveConditionPlaces}}, std.proofs.Common.{slice_get}}
 use Rattle.change_rules.proofs.checked.have_places.Given as goal
 
 abbrev pub invariant-loop-place : goal.invariant-loop-place

@@ -1,5 +1,4 @@
-use Rattle.change_rules.{proofs.Common.{Some, ℕ, ◌<◌, ◌≡◌}, specs.Checked.{HasPlacesIn}}
-use Rattle.rule_model.specs.declared.condition.Condition.{Condition}
+use Rattle.{change_rules.{proofs.Common.{Some, ℕ, ◌<◌, ◌≡◌}, specs.Checked.{HasPlacesIn}}, rule_model.specs.declared.condition.Condition.{Condition}}
 use Rattle.std.proofs.Common.{slice_get}
 use Rattle.change_rules.proofs.checked.rule_has_places.Given as goal
 

@@ -1,6 +1,5 @@
-use Rattle.change_rules.proofs.Common.{counts_type, drop, list_any, ◌≡◌}
-use Rattle.rule_model.specs.{Rows.{pattern_of}, Simple.{observes}, declared.condition.Condition.{Condition}}
-use Rattle.std.proofs.Common.{◌&&◌, ◌==◌}
+use Rattle.{change_rules.proofs.Common.{counts_type, drop, list_any, ◌≡◌}, rule_model.specs.{Rows.{pattern_of}, Simple.{observes}}}
+use Rattle.{rule_model.specs.declared.condition.Condition.{Condition}, std.proofs.Common.{◌&&◌, ◌==◌}}
 use Rattle.change_rules.proofs.counted.counts_type.Given as goal
 
 abbrev pub invariant-loop-condition : goal.invariant-loop-condition

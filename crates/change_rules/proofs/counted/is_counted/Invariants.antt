@@ -1,5 +1,4 @@
-use Rattle.change_rules.proofs.Common.{None, Rule, Some, counts_type, place_in, true, ℕ, ◌<◌, ◌≡◌}
-use Rattle.std.proofs.Common.{slice_get}
+use Rattle.{change_rules.proofs.Common.{None, Rule, Some, counts_type, place_in, true, ℕ, ◌<◌, ◌≡◌}, std.proofs.Common.{slice_get}}
 use Rattle.change_rules.proofs.counted.is_counted.Given as goal
 
 abbrev pub invariant-loop-place : goal.invariant-loop-place

@@ -1,5 +1,4 @@
-use Rattle.change_rules.{proofs.Common.{Some, ℕ, ◌<◌, ◌≡◌}, specs.Judged.{HasEntry}}
-use Rattle.rule_model.specs.declared.program.EntryInfo.{EntryInfo}
+use Rattle.{change_rules.{proofs.Common.{Some, ℕ, ◌<◌, ◌≡◌}, specs.Judged.{HasEntry}}, rule_model.specs.declared.program.EntryInfo.{EntryInfo}}
 use Rattle.std.proofs.Common.{slice_get}
 use Rattle.change_rules.proofs.ground.have_entries.Given as goal
 

@@ -1,5 +1,4 @@
-use Rattle.change_rules.{proofs.Common.{Some, TypeInfo, ℕ, ◌<◌, ◌≡◌}, specs.Judged.{HasType}}
-use Rattle.std.proofs.Common.{slice_get}
+use Rattle.{change_rules.{proofs.Common.{Some, TypeInfo, ℕ, ◌<◌, ◌≡◌}, specs.Judged.{HasType}}, std.proofs.Common.{slice_get}}
 use Rattle.change_rules.proofs.ground.have_types.Given as goal
 
 abbrev pub invariant-loop-place : goal.invariant-loop-place

@@ -1,6 +1,5 @@
 use Rattle.change_rules.proofs.{Common.{Life, LifeTable, List, [], ap, ap₂, arith, ◌++◌, ◌∙◌, ◌∷◌}, Carried.{all_carried, one_carried}}
-use Rattle.rule_change.specs.Changed.{carried_lives}
-use Rattle.rule_model.specs.declared.life.Life.TheVariants.{Plain}
+use Rattle.{rule_change.specs.Changed.{carried_lives}, rule_model.specs.declared.life.Life.TheVariants.{Plain}}
 use Rattle.change_rules.proofs.lives.carried_table.Goals as goal
 
 pub loop-place-preserved : goal.loop-place-preserved

@@ -1,5 +1,4 @@
-use Rattle.change_rules.proofs.Common.{drop, ◌++◌, ◌≡◌}
-use Rattle.rule_change.specs.Changed.{carried_lives}
+use Rattle.{change_rules.proofs.Common.{drop, ◌++◌, ◌≡◌}, rule_change.specs.Changed.{carried_lives}}
 use Rattle.change_rules.proofs.lives.carried_table.Given as goal
 
 abbrev pub invariant-loop-place : goal.invariant-loop-place

@@ -1,6 +1,5 @@
 use Rattle.change_rules.proofs.{Common.{Life, LifeTable, List, [], ap, ap₂, arith, ◌++◌, ◌∙◌, ◌∷◌}, Lasting.{all_lasting, one_lasting}}
-use Rattle.change_rules.specs.Longest.{longest_lives}
-use Rattle.rule_model.specs.declared.life.Life.TheVariants.{Plain}
+use Rattle.{change_rules.specs.Longest.{longest_lives}, rule_model.specs.declared.life.Life.TheVariants.{Plain}}
 use Rattle.change_rules.proofs.longest.longest_table.Goals as goal
 
 pub loop-place-preserved : goal.loop-place-preserved

@@ -1,5 +1,5 @@
-use Rattle.change_rules.proofs.Common.{List, ap, arith, get_or, length, map, rules, sym, take, ℕ, ◌+◌, ◌<◌, ◌∙◌, ◌≡◌}
-use Rattle.std.proofs.lemmas.List.{get_or-map, length-map, take_more_same}
+use Rattle.{change_rules.proofs.Common.{List, ap, arith, get_or, length, map, rules, sym, take, ℕ, ◌+◌, ◌<◌, ◌∙◌, ◌≡◌}, std.proofs.lemmas.List.{get_or-map}}
+use Rattle.std.proofs.lemmas.List.{length-map, take_more_same}
 use Rattle.change_rules.proofs.moved.are_moved.Goals as goal
 
 moved_more : {A : Type 0} (f : A → A) (xs ys : List A) (i : ℕ) (x y : A) → i < length xs → i < length ys → x ≡ get_or xs i x → y ≡ get_or ys i y → y ≡ f x

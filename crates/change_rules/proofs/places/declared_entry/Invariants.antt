@@ -1,5 +1,4 @@
-use Rattle.change_rules.proofs.Common.{drop, ◌≡◌}
-use Rattle.change_resolve.specs.Changes.{entry_named}
+use Rattle.{change_rules.proofs.Common.{drop, ◌≡◌}, change_resolve.specs.Changes.{entry_named}}
 use Rattle.change_rules.proofs.places.declared_entry.Given as goal
 
 abbrev pub invariant-loop-place : goal.invariant-loop-place

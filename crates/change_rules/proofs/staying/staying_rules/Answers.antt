@@ -1,6 +1,5 @@
 use Rattle.change_rules.proofs.Common.{IsFirstFree, List, Option, Some, [], ap, arith, get_or, length, length-append, refl, subst, sym, ℕ, ◌+◌, ◌∙◌, ◌∷◌, ◌≡◌}
-use Rattle.change_rules.proofs.Finding.{AreSoFar, all_found, one_more}
-use Rattle.std.proofs.{Common.{slice_get}, lemmas.Option.{slice_get_read}}
+use Rattle.{change_rules.proofs.Finding.{AreSoFar, all_found, one_more}, std.proofs.{Common.{slice_get}, lemmas.Option.{slice_get_read}}}
 use Rattle.change_rules.proofs.staying.staying_rules.Goals as goal
 
 pub loop-rule-preserved : goal.loop-rule-preserved

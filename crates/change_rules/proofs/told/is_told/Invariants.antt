@@ -1,5 +1,4 @@
-use Rattle.change_rules.{proofs.Common.{drop, list_any, ◌≡◌}, specs.Told.{told_list}}
-use Rattle.rule_change.specs.Told.{is_same_told}
+use Rattle.{change_rules.{proofs.Common.{drop, list_any, ◌≡◌}, specs.Told.{told_list}}, rule_change.specs.Told.{is_same_told}}
 use Rattle.change_rules.proofs.told.is_told.Given as goal
 
 abbrev pub invariant-loop-rule : goal.invariant-loop-rule

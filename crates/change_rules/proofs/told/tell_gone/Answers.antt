@@ -1,6 +1,5 @@
 use Rattle.change_rules.{proofs.{Common.{arith, get_or, length, sym, ◌<◌, ◌∙◌}, Telling.{gone_ends, gone_goes_on, gone_stays}}, specs.Told.{told_list}}
-use Rattle.fx_base.proofs.Sequences.{get-below}
-use Rattle.std.proofs.lemmas.{List.{get_or_default}, Option.{get_or_from_slice_get}}
+use Rattle.{fx_base.proofs.Sequences.{get-below}, std.proofs.lemmas.{List.{get_or_default}, Option.{get_or_from_slice_get}}}
 use Rattle.change_rules.proofs.told.tell_gone.Goals as goal
 use Rattle.change_rules.proofs.told.tell_gone.Goals.{then-not-is_taken+in_ok-tell, else-not-is_taken}
 

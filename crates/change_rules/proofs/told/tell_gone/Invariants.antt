@@ -1,5 +1,4 @@
-use Rattle.change_rules.{proofs.Common.{drop, ◌≡◌}, specs.Told.{all_told, told_list}}
-use Rattle.rule_change.specs.Told.{gone_told}
+use Rattle.{change_rules.{proofs.Common.{drop, ◌≡◌}, specs.Told.{all_told, told_list}}, rule_change.specs.Told.{gone_told}}
 use Rattle.change_rules.proofs.told.tell_gone.Given as goal
 
 abbrev pub invariant-loop-place : goal.invariant-loop-place

@@ -1,6 +1,5 @@
 use Rattle.change_rules.{proofs.{Common.{ap, arith, get_or, place_in, ◌<◌, ◌∙◌, length}, Telling.{new_ends, new_goes_on}}, specs.Told.{told_list, with_told}}
-use Rattle.std.proofs.lemmas.List.{get_or_default}
-use Rattle.rule_change.specs.declared.code.RuleStatus.{RuleStatus}
+use Rattle.{std.proofs.lemmas.List.{get_or_default}, rule_change.specs.declared.code.RuleStatus.{RuleStatus}}
 use Rattle.change_rules.proofs.told.tell_new.Goals as goal
 
 pub loop-place-preserved : goal.loop-place-preserved

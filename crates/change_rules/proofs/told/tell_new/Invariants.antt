@@ -1,5 +1,4 @@
-use Rattle.change_rules.{proofs.Common.{drop, place_in, ◌≡◌}, specs.Told.{all_told, told_list}}
-use Rattle.rule_change.specs.Told.{new_told}
+use Rattle.{change_rules.{proofs.Common.{drop, place_in, ◌≡◌}, specs.Told.{all_told, told_list}}, rule_change.specs.Told.{new_told}}
 use Rattle.change_rules.proofs.told.tell_new.Given as goal
 
 abbrev pub invariant-loop-place : goal.invariant-loop-place

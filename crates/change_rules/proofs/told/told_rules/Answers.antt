@@ -1,7 +1,5 @@
 use Rattle.change_rules.{proofs.Common.{List, Rule, ap, ap₂, length, place_in, ◌∙◌}, specs.{Told.{all_told, told_list}, declared.told.ToldRule.{ToldRule}}}
-use Rattle.change_rules.proofs.Telling.{told_is}
-use Rattle.rule_change.specs.Told.{gone_told, new_told}
-use Rattle.std.proofs.Common.{min}
+use Rattle.{change_rules.proofs.Telling.{told_is}, rule_change.specs.Told.{gone_told, new_told}, std.proofs.Common.{min}}
 use Rattle.change_rules.proofs.told.told_rules.Goals as goal
 
 pub returns : goal.returns

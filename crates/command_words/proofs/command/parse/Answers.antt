@@ -1,6 +1,6 @@
 use Rattle.command_words.proofs.{Common.{◌≡◌, ◌∙◌, true, false, map, string_bytes, sym, ap, inl, inr, kind_of, ErrorKind}, Faults.{taken, refused}}
-use denote.Enum.Bare.{sameb}
 use Rattle.clap.specs.{Words.{app_of}, contracts.error.kind.ErrorKind.{the_type}, declared.error.kind.ErrorKind.TheVariants.{OutOfMemory}}
+use denote.Enum.Bare.{sameb}
 use Rattle.command_words.proofs.command.parse.Goals as goal
 
 pub returns-in-Ok : goal.returns-in-Ok

@@ -1,5 +1,4 @@
-use Rattle.command_words.{proofs.Common.{true, ap, ap₂, ◌∙◌, with_rule}, specs.Command.{replay_app}}
-use Rattle.clap.specs.Simple.{Shape, app_of_fields, on_top}
+use Rattle.{command_words.{proofs.Common.{true, ap, ap₂, ◌∙◌, with_rule}, specs.Command.{replay_app}}, clap.specs.Simple.{Shape, app_of_fields, on_top}}
 use Rattle.command_words.proofs.command.replay_command.Goals as goal
 
 pub returns : goal.returns

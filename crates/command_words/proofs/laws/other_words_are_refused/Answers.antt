@@ -1,6 +1,5 @@
 use Rattle.command_words.{proofs.Common.{refl}, specs.{Asked.{number_in_digits, limit_written, load_number_of, asked_rows, asked_words}, Command.{replay_app}}}
-use Rattle.command_words.specs.Command.{matched_by}
-use Rattle.clap.proofs.OnLiterals.{clap_on_literals}
+use Rattle.{command_words.specs.Command.{matched_by}, clap.proofs.OnLiterals.{clap_on_literals}}
 use Rattle.command_words.proofs.laws.other_words_are_refused.Goals as goal
 
 pub returns : goal.returns

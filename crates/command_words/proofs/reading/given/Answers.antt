@@ -1,5 +1,4 @@
-use Rattle.command_words.proofs.Common.{◌∙◌, found_of}
-use Rattle.clap.proofs.WalkLemmas.{first_value-rows}
+use Rattle.{command_words.proofs.Common.{◌∙◌, found_of}, clap.proofs.WalkLemmas.{first_value-rows}}
 use Rattle.command_words.proofs.reading.given.Goals as goal
 
 pub returns : goal.returns

@@ -1,6 +1,4 @@
-use Rattle.std.proofs.Common.{inl, inr, refl, sym, ℕ}
-use Rattle.image_fitting.specs.Plain.{FitsPlainly}
-use Rattle.laden_rows.specs.Laden.{AreOwners}
+use Rattle.{std.proofs.Common.{inl, inr, refl, sym, ℕ}, image_fitting.specs.Plain.{FitsPlainly}, laden_rows.specs.Laden.{AreOwners}}
 use Rattle.desk.{specs.Changes.{HasGround, HasNoGround}, proofs.Grounding.{ground_by, none_by, none_fits, plainly_loads}}
 use Rattle.desk.proofs.changing.has_ground.Goals.{then-not-is_as_long-via-then-not-is_as_long, then-not-is_as_long-via-else-not-is_as_long+then-not-have_places}
 use Rattle.desk.proofs.changing.has_ground.Goals.{then-not-is_as_long-via-else-not-is_as_long+else-not-have_places+then-not-have_names}

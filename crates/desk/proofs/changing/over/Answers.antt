@@ -1,6 +1,4 @@
-use Rattle.std.proofs.Common.{ℕ, List, Option, Some, subst}
-use Rattle.change_rules.specs.Staying.{place_in}
-use Rattle.image_making.specs.Change.{IsVerdictOf}
+use Rattle.{std.proofs.Common.{ℕ, List, Option, Some, subst}, change_rules.specs.Staying.{place_in}, image_making.specs.Change.{IsVerdictOf}}
 use Rattle.desk.proofs.Outcomes.{refused_so, taken_so}
 use Rattle.desk.proofs.changing.over.Goals as goal
 

@@ -1,6 +1,4 @@
-use Rattle.std.proofs.Common.{◌∙◌, ◌++◌, ap, arith}
-use Rattle.checkpoint.specs.Pieces.{bytes_left}
-use Rattle.desk.proofs.Adding.{added_behind, left_behind, room_behind}
+use Rattle.{std.proofs.Common.{◌∙◌, ◌++◌, ap, arith}, checkpoint.specs.Pieces.{bytes_left}, desk.proofs.Adding.{added_behind, left_behind, room_behind}}
 use Rattle.desk.proofs.ending.add_pieces.Goals as goal
 
 pub next-preserved : goal.next-preserved

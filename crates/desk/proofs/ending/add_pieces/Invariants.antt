@@ -1,6 +1,5 @@
-use Rattle.std.proofs.Common.{◌≡◌, ◌++◌, ◌+◌, ◌≤◌, ℕ, List, [], length}
-use Rattle.checkpoint.specs.{Bytes.{image_bytes, IsImage}, Pieces.{bytes_left, fit_left, pieces_left, whole}}
-use Rattle.fx_store.specs.Puts.{IsDraft}
+use Rattle.{std.proofs.Common.{◌≡◌, ◌++◌, ◌+◌, ◌≤◌, ℕ, List, [], length}, checkpoint.specs.{Bytes.{image_bytes, IsImage}, Pieces.{bytes_left, fit_left}}}
+use Rattle.{checkpoint.specs.Pieces.{pieces_left, whole}, fx_store.specs.Puts.{IsDraft}}
 use Rattle.desk.proofs.ending.add_pieces.Given as goal
 
 abbrev pub invariant-next : goal.invariant-next

@@ -1,5 +1,4 @@
-use Rattle.std.proofs.{Common.{◌⊎◌, inl, inr}, lemmas.Result.{on_err_weaker, on_ok_weaker}}
-use Rattle.checkpoint.specs.Pieces.{whole}
+use Rattle.{std.proofs.{Common.{◌⊎◌, inl, inr}, lemmas.Result.{on_err_weaker, on_ok_weaker}}, checkpoint.specs.Pieces.{whole}}
 use Rattle.desk.proofs.ending.keep.Goals as goal
 
 pub returns-clause-put : goal.returns-clause-put

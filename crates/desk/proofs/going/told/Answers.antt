@@ -1,7 +1,6 @@
 use Rattle.std.{proofs.{Common.{◌≡◌, ◌∙◌, List, true, false, refl, ap, sym}, lemmas.Bool.Decides.{Decides-int_eq}}, specs.Bool.{Decides}}
-use Rattle.std.proofs.lemmas.Slice.Eq.{slice_eq-Decides}
-use Rattle.rule_model.specs.{contracts.life.LifePartialEq.TheImpl.{ghosts as life_equality}, declared.life.Life.{Life, TheVariants.{Plain, Explicit, Finite}}}
-use Rattle.rule_model.specs.declared.life.{Life.TheVariants.{Infinite}, LifeTable.{LifeTable}}
+use Rattle.{std.proofs.lemmas.Slice.Eq.{slice_eq-Decides}, rule_model.specs.contracts.life.LifePartialEq.TheImpl.{ghosts as life_equality}}
+use Rattle.rule_model.specs.declared.life.{Life.{Life, TheVariants.{Plain, Explicit, Finite, Infinite}}, LifeTable.{LifeTable}}
 use Rattle.desk.proofs.going.told.Goals as goal
 
 life_decides : (a b : Life) → Decides (life_equality.eq a b) (a ≡ b)

@@ -1,11 +1,7 @@
-use Rattle.std.{proofs.Common.{◌≡◌, ◌∙◌, Err, Option, Some, None, sym, ap, arith}, specs.Prelude.{IfSome}}
-use Rattle.checkpoint.specs.declared.image.RunPart.{RunPart}
-use Rattle.fx_io.specs.Outside.{append}
-use Rattle.line_run.{specs.Parts.{run_part_at}, proofs.Ahead.{if_told}}
-use Rattle.replay.specs.Beginnings.{part_of}
-use Rattle.script_run.specs.{Doors.{engine_of}, Live.{most_firings}}
-use Rattle.desk.{specs.Meanings.{Meanings}, proofs.Living.{alike_front, alike_put, alike_refused, alike_stopped, ended, reached, refused, stopped, unfit}}
-use Rattle.desk.proofs.Living.{unstarted, used_up}
+use Rattle.{std.{proofs.Common.{◌≡◌, ◌∙◌, Err, Option, Some, None, sym, ap, arith}, specs.Prelude.{IfSome}}, checkpoint.specs.declared.image.RunPart.{RunPart}}
+use Rattle.{fx_io.specs.Outside.{append}, line_run.{specs.Parts.{run_part_at}, proofs.Ahead.{if_told}}, replay.specs.Beginnings.{part_of}}
+use Rattle.{script_run.specs.{Doors.{engine_of}, Live.{most_firings}}, desk.{specs.Meanings.{Meanings}, proofs.Living.{alike_front, alike_put, alike_refused}}}
+use Rattle.desk.proofs.Living.{alike_stopped, ended, reached, refused, stopped, unfit, unstarted, used_up}
 use Rattle.desk.proofs.live.run_by.Goals as goal
 
 -- of each world, where something is told

@@ -1,5 +1,5 @@
-use Rattle.std.proofs.Common.{◌≡◌, ◌≢◌, Err, None, ap, sym}
-use Rattle.desk.{specs.declared.reading.RulesFault.TheVariants.{Refused}, proofs.Wanting.{accepted_to_come, refused_to_come}}
+use Rattle.{std.proofs.Common.{◌≡◌, ◌≢◌, Err, None, ap, sym}, desk.{specs.declared.reading.RulesFault.TheVariants.{Refused}, proofs.Wanting.{accepted_to_come}}}
+use Rattle.desk.proofs.Wanting.{refused_to_come}
 use Rattle.desk.proofs.reading.later_rules.Goals as goal
 
 pub returns-in_err-rules-in-Some-clause-refused : goal.returns-in_err-rules-in-Some-clause-refused

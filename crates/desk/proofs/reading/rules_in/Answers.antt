@@ -1,6 +1,5 @@
-use Rattle.std.proofs.{Common.{List, ℕ, subst}, lemmas.Result.{IfOk-weaker}}
-use Rattle.drl_parse.specs.Parsed.{file_limit}
-use Rattle.desk.{specs.Rules.{AreAccepted, AreRefused}, proofs.Wanting.{accepted_in, refused_in}}
+use Rattle.{std.proofs.{Common.{List, ℕ, subst}, lemmas.Result.{IfOk-weaker}}, drl_parse.specs.Parsed.{file_limit}, desk.specs.Rules.{AreAccepted, AreRefused}}
+use Rattle.desk.proofs.Wanting.{accepted_in, refused_in}
 use Rattle.desk.proofs.reading.rules_in.Goals as goal
 
 pub returns-in-Ok-clause-accepted : goal.returns-in-Ok-clause-accepted

@@ -1,6 +1,5 @@
-use Rattle.std.proofs.Common.{inl, inr, refl, arith}
-use Rattle.line_run.proofs.Ahead.{if_told}
-use Rattle.desk.{specs.Meanings.{Meanings}, proofs.Goings.{for_all, is_going, is_prompt, is_stopped, kept_out}}
+use Rattle.{std.proofs.Common.{inl, inr, refl, arith}, line_run.proofs.Ahead.{if_told}, desk.{specs.Meanings.{Meanings}, proofs.Goings.{for_all, is_going}}}
+use Rattle.desk.proofs.Goings.{is_prompt, is_stopped, kept_out}
 use Rattle.desk.proofs.running.run.Goals as goal
 
 pub run_by-requires-clause-prompt : goal.run_by-requires-clause-prompt

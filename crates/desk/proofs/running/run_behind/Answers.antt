@@ -1,6 +1,5 @@
-use Rattle.std.proofs.Common.{inl, inr, refl, sym, arith}
-use Rattle.line_run.proofs.Ahead.{append_nothing, if_told}
-use Rattle.desk.{specs.Meanings.{Meanings}, proofs.{Fronts.{no_front}, Goings.{for_all, is_going, is_prompt, is_stopped, kept_out}}}
+use Rattle.{std.proofs.Common.{inl, inr, refl, sym, arith}, line_run.proofs.Ahead.{append_nothing, if_told}, desk.specs.Meanings.{Meanings}}
+use Rattle.desk.proofs.{Fronts.{no_front}, Goings.{for_all, is_going, is_prompt, is_stopped, kept_out}}
 use Rattle.desk.proofs.running.run_behind.Goals as goal
 
 pub run_by-requires-clause-prompt : goal.run_by-requires-clause-prompt

@@ -1,10 +1,7 @@
-use Rattle.std.{proofs.Common.{ℕ, List, inl, inr, refl, sym, subst, arith}, specs.Prelude.{IfSome}}
-use Rattle.fx_io.specs.Outside.{append}
-use Rattle.line_run.proofs.Ahead.{if_told}
-use Rattle.replay.specs.{Checkpoints.{checkpoint_text}, declared.refused_checkpoint.CheckpointCode.TheVariants.{Unfit}}
-use Rattle.rule_world.specs.Programs.{IsRunnable}
-use Rattle.desk.{specs.{declared.wanted.Begun.{Begun}, Meanings.{Meanings}, Report.{IsPromptRun, IsSaid, IsStoppedRun}}, proofs.Goings.{GoesBehind, by_change}}
-use Rattle.desk.proofs.{Goings.{for_all}, Said.{said}}
+use Rattle.{std.{proofs.Common.{ℕ, List, inl, inr, refl, sym, subst, arith}, specs.Prelude.{IfSome}}, fx_io.specs.Outside.{append}}
+use Rattle.{line_run.proofs.Ahead.{if_told}, replay.specs.{Checkpoints.{checkpoint_text}, declared.refused_checkpoint.CheckpointCode.TheVariants.{Unfit}}}
+use Rattle.{rule_world.specs.Programs.{IsRunnable}, desk.specs.{declared.wanted.Begun.{Begun}, Meanings.{Meanings}, Report.{IsPromptRun, IsSaid, IsStoppedRun}}}
+use Rattle.desk.proofs.{Goings.{GoesBehind, by_change, for_all}, Said.{said}}
 use Rattle.desk.proofs.running.run_over.Goals as goal
 
 pub run_behind-requires : goal.run_behind-requires

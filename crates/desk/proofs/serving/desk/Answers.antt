@@ -1,6 +1,5 @@
-use Rattle.std.proofs.Common.{Option, subst, arith}
-use Rattle.command_words.specs.declared.desk.DeskWords.{DeskWords}
-use Rattle.desk.{specs.{Meanings.{both}, Report.{IsPrompt, IsServed, IsStopped, usage}, Wanted.{help, version, wanted, wanted_by}}, proofs.Said.{said}}
+use Rattle.{std.proofs.Common.{Option, subst, arith}, command_words.specs.declared.desk.DeskWords.{DeskWords}, desk.specs.{Meanings.{both}, Report.{IsPrompt}}}
+use Rattle.desk.{specs.{Report.{IsServed, IsStopped, usage}, Wanted.{help, version, wanted, wanted_by}}, proofs.Said.{said}}
 use Rattle.desk.proofs.serving.desk.Goals as goal
 
 pub serve-requires : goal.serve-requires

@@ -1,5 +1,4 @@
-use Rattle.std.proofs.Common.{◌≡◌, ◌∙◌, sym, subst, arith}
-use Rattle.replay.specs.{declared.refusal.Refusal.{Refusal}, Refusals.{refusal_text}}
+use Rattle.{std.proofs.Common.{◌≡◌, ◌∙◌, sym, subst, arith}, replay.specs.{declared.refusal.Refusal.{Refusal}, Refusals.{refusal_text}}}
 use Rattle.desk.{specs.{declared.reading.RulesFault.TheVariants.{Refused}, Report.{IsSaid}}, proofs.Said.{said}}
 use Rattle.desk.proofs.serving.refuse_rules.Goals as goal
 

@@ -1,6 +1,4 @@
-use Rattle.std.{proofs.Common.{inl, sym, subst}, specs.Prelude.{IfSome}}
-use Rattle.line_run.proofs.Ahead.{if_told}
-use Rattle.script_run.specs.declared.form.Form.{Form}
+use Rattle.{std.{proofs.Common.{inl, sym, subst}, specs.Prelude.{IfSome}}, line_run.proofs.Ahead.{if_told}, script_run.specs.declared.form.Form.{Form}}
 use Rattle.desk.specs.{Meanings.{both, meanings}, Report.{IsRun, IsStoppedRun}}
 use Rattle.desk.proofs.serving.run_by_form.Goals as goal
 

@@ -1,6 +1,6 @@
 use Rattle.std.{proofs.Common.{Err, ap, sym, subst, arith}, specs.Prelude.{IfSome}}
-use Rattle.replay.specs.{declared.refused_checkpoint.CheckpointCode.TheVariants.{Unfit}, Checkpoints.{checkpoint_text}}
-use Rattle.desk.{specs.{Meanings.{both}, Report.{IsPrompt, IsServed, IsStopped}, Wanted.{Wanted, over_old}}, proofs.{Goings.{for_all}, Said.{said, unbegun}}}
+use Rattle.{replay.specs.{declared.refused_checkpoint.CheckpointCode.TheVariants.{Unfit}, Checkpoints.{checkpoint_text}}, desk.specs.Meanings.{both}}
+use Rattle.desk.{specs.{Report.{IsPrompt, IsServed, IsStopped}, Wanted.{Wanted, over_old}}, proofs.{Goings.{for_all}, Said.{said, unbegun}}}
 use Rattle.desk.proofs.serving.run_changed.Goals as goal
 
 pub run_over_by_form-requires-clause-prompt : goal.run_over_by_form-requires-clause-prompt

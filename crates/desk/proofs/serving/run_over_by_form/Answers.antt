@@ -1,7 +1,5 @@
-use Rattle.std.{proofs.Common.{inl, sym, subst}, specs.Prelude.{IfSome}}
-use Rattle.fx_io.specs.Outside.{append}
-use Rattle.desk.specs.{Changes.{Changed, begun_over}, Meanings.{both, meanings}, Report.{IsChange, IsPromptRun, IsStoppedRun}}
-use Rattle.line_run.proofs.Ahead.{if_told}
+use Rattle.{std.{proofs.Common.{inl, sym, subst}, specs.Prelude.{IfSome}}, fx_io.specs.Outside.{append}, desk.specs.Changes.{Changed, begun_over}}
+use Rattle.{desk.specs.{Meanings.{both, meanings}, Report.{IsChange, IsPromptRun, IsStoppedRun}}, line_run.proofs.Ahead.{if_told}}
 use Rattle.script_run.specs.declared.form.Form.{Form}
 use Rattle.desk.proofs.serving.run_over_by_form.Goals as goal
 

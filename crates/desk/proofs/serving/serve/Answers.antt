@@ -1,7 +1,6 @@
-use Rattle.std.proofs.Common.{◌∙◌, Err, ap, inl, inr, sym, subst, arith}
-use Rattle.replay.specs.Checkpoints.{checkpoint_text}
-use Rattle.desk.{specs.{Meanings.{both}, Report.{IsPrompt, IsServed, IsStopped}, Wanted.{Wanted}}, proofs.Said.{rose_behind, said, unasked, unbegun, unruled}}
-use Rattle.desk.proofs.Wanting.{begun, has_rules, image_refused, later_refused, refused_wanted}
+use Rattle.{std.proofs.Common.{◌∙◌, Err, ap, inl, inr, sym, subst, arith}, replay.specs.Checkpoints.{checkpoint_text}, desk.specs.Meanings.{both}}
+use Rattle.desk.{specs.{Report.{IsPrompt, IsServed, IsStopped}, Wanted.{Wanted}}, proofs.{Said.{rose_behind, said, unasked, unbegun, unruled}, Wanting.{begun}}}
+use Rattle.desk.proofs.Wanting.{has_rules, image_refused, later_refused, refused_wanted}
 use Rattle.desk.proofs.serving.serve.Goals as goal
 
 pub returns-in-Err-clause-served : goal.returns-in-Err-clause-served

@@ -1,5 +1,4 @@
-use Rattle.std.proofs.{Common.{◌∙◌, ap, subst, sym}, lemmas.Result.{IfErr-weaker, IfOk-weaker}}
-use Rattle.replay.specs.Checkpoints.{image_limit}
+use Rattle.{std.proofs.{Common.{◌∙◌, ap, subst, sym}, lemmas.Result.{IfErr-weaker, IfOk-weaker}}, replay.specs.Checkpoints.{image_limit}}
 use Rattle.desk.{specs.{Starts.{TellsStartFault}, Wanted.{Start, start_of}}, proofs.Starts.{start_found}}
 use Rattle.desk.proofs.start.start_named.Goals as goal
 

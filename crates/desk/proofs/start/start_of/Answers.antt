@@ -1,5 +1,4 @@
-use Rattle.std.{proofs.Common.{◌≡◌, ◌∙◌, None, ap₂, arith, sym}, specs.Str.{bytes_eq}}
-use Rattle.desk_image.specs.Reading.{desk_decoded}
+use Rattle.{std.{proofs.Common.{◌≡◌, ◌∙◌, None, ap₂, arith, sym}, specs.Str.{bytes_eq}}, desk_image.specs.Reading.{desk_decoded}}
 use Rattle.desk.proofs.Starts.{by_decoded, of_others, of_same, too_long}
 use Rattle.desk.proofs.start.start_of.Goals as goal
 

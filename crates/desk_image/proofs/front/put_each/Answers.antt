@@ -1,7 +1,5 @@
-use Rattle.desk_image.proofs.Common.{IsImageLife, Life, life_bytes}
-use Rattle.checkpoint.proofs.Loops.{writes_on, fits_on}
-use Rattle.rule_model.specs.declared.life.Life.TheVariants.{Plain}
-use Rattle.std.proofs.{Common.{get_or}, lemmas.List.{get_or_default}}
+use Rattle.{desk_image.proofs.Common.{IsImageLife, Life, life_bytes}, checkpoint.proofs.Loops.{writes_on, fits_on}}
+use Rattle.{rule_model.specs.declared.life.Life.TheVariants.{Plain}, std.proofs.{Common.{get_or}, lemmas.List.{get_or_default}}}
 use Rattle.desk_image.proofs.front.put_each.Goals as goal
 
 pub loop-life-preserved : goal.loop-life-preserved

@@ -1,6 +1,4 @@
-use Rattle.desk_image.proofs.Common.{◌++◌, ◌≡◌, IsImageLife, life_bytes}
-use Rattle.checkpoint.specs.Bytes.{Each, each_bytes}
-use Rattle.std.proofs.Common.{drop, take}
+use Rattle.{desk_image.proofs.Common.{◌++◌, ◌≡◌, IsImageLife, life_bytes}, checkpoint.specs.Bytes.{Each, each_bytes}, std.proofs.Common.{drop, take}}
 use Rattle.desk_image.proofs.front.put_each.Given as goal
 
 abbrev pub invariant-loop-life : goal.invariant-loop-life

@@ -1,5 +1,5 @@
-use Rattle.desk_image.{proofs.Common.{arith, TellsDecodeFault}, specs.Reading.{life_at}}
-use Rattle.checkpoint.{proofs.Loops.{begins, goes_on, stops, passed_on, ends}, specs.Reading.{read_items}}
+use Rattle.{desk_image.{proofs.Common.{arith, TellsDecodeFault}, specs.Reading.{life_at}}, checkpoint.proofs.Loops.{begins, goes_on, stops, passed_on, ends}}
+use Rattle.checkpoint.specs.Reading.{read_items}
 use Rattle.desk_image.proofs.reading.each_at.Goals as goal
 
 pub loop-init : goal.loop-init

@@ -1,5 +1,4 @@
-use Rattle.desk_image.{proofs.Common.{◌≡◌, ◌-◌, ◌≤◌}, specs.Reading.{life_at}}
-use Rattle.std.proofs.Common.{vec_len, vec_capacity}
+use Rattle.{desk_image.{proofs.Common.{◌≡◌, ◌-◌, ◌≤◌}, specs.Reading.{life_at}}, std.proofs.Common.{vec_len, vec_capacity}}
 use Rattle.checkpoint.{proofs.Loops.{with_front}, specs.Reading.{read_items}}
 use Rattle.desk_image.proofs.reading.each_at.Given as goal
 

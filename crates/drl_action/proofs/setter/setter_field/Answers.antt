@@ -1,5 +1,4 @@
-use Rattle.drl_action.proofs.{Common.{◌≡◌, ◌∷◌, drop, get_or, arith, to_ascii_lowercase}, Setters.{renamed_is_text}}
-use Rattle.std.proofs.lemmas.Grind.{common_steps}
+use Rattle.{drl_action.proofs.{Common.{◌≡◌, ◌∷◌, drop, get_or, arith, to_ascii_lowercase}, Setters.{renamed_is_text}}, std.proofs.lemmas.Grind.{common_steps}}
 use Rattle.drl_action.proofs.setter.setter_field.Goals as goal
 
 pub unwrap-name-requires : goal.unwrap-name-requires

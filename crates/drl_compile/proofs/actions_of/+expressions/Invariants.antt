@@ -1,5 +1,4 @@
-use Rattle.drl_compile.proofs.Common.{◌+◌, ◌*◌}
-use Rattle.drl_expr.specs.Tree.{height}
+use Rattle.{drl_compile.proofs.Common.{◌+◌, ◌*◌}, drl_expr.specs.Tree.{height}}
 use Rattle.drl_compile.proofs.actions_of.+expressions.Given as goal
 
 abbrev pub decreases-expression : goal.decreases-expression

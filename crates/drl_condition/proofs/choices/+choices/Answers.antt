@@ -1,7 +1,6 @@
 use Rattle.drl_condition.proofs.{Common.{sym, ◌∙◌, arith, IfOk-weaker}, ChoiceSteps.{all_begins, any_begins, all_stops, all_ends, all_goes_on, all_no_turn}}
 use Rattle.drl_condition.proofs.ChoiceSteps.{any_stops, any_ends, any_goes_on, any_no_turn, no_first, no_other, no_more, still_open, closes, too_deep, deeper}
-use Rattle.drl_condition.proofs.ChoiceSteps.{no_condition, one_condition}
-use Rattle.fx_base.proofs.Sequences.{map-none, map-some}
+use Rattle.{drl_condition.proofs.ChoiceSteps.{no_condition, one_condition}, fx_base.proofs.Sequences.{map-none, map-some}}
 use Rattle.drl_condition.proofs.choices.+choices.Goals as goal
 
 pub all-loop-init : goal.all-loop-init

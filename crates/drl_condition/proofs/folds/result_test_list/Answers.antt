@@ -1,5 +1,4 @@
-use Rattle.drl_condition.proofs.Common.{sym, no_first, begins, goes_on, ends, stops, no_turn_left}
-use Rattle.fx_base.proofs.Sequences.{map-none, map-some}
+use Rattle.{drl_condition.proofs.Common.{sym, no_first, begins, goes_on, ends, stops, no_turn_left}, fx_base.proofs.Sequences.{map-none, map-some}}
 use Rattle.drl_condition.proofs.folds.result_test_list.Goals as goal
 
 pub returns-in-None : goal.returns-in-None

@@ -1,5 +1,4 @@
-use Rattle.std.proofs.Common.{◌+◌, ◌*◌}
-use Rattle.drl_expr.specs.Tree.{height}
+use Rattle.{std.proofs.Common.{◌+◌, ◌*◌}, drl_expr.specs.Tree.{height}}
 use Rattle.drl_expr.proofs.copying.+copies.Given as goal
 
 abbrev pub decreases-expression : goal.decreases-expression

@@ -1,7 +1,6 @@
 use Rattle.drl_expr.proofs.{Common.{◌≤◌, ◌-◌, sym, arith, operator_at, operand_at, inside_at}, Steps.{is_opening, negative_none, negative_some, too_deep}}
 use Rattle.drl_expr.proofs.Steps.{parenthesis_none, parenthesis_open, parenthesis_some, no_operand, begins, ends, too_high, no_turn_left, stops, goes_on}
-use Rattle.drl_expr.specs.Reading.{expr_at}
-use Rattle.fx_base.proofs.Sequences.{map-none, map-some}
+use Rattle.{drl_expr.specs.Reading.{expr_at}, fx_base.proofs.Sequences.{map-none, map-some}}
 use Rattle.drl_expr.proofs.reading.+operations.Goals as goal
 
 pub factor-returns-in-None-2-clause-reads : goal.factor-returns-in-None-2-clause-reads

@@ -1,5 +1,4 @@
-use Rattle.drl_expr.{specs.Reading.{expression_at, expr_at}, proofs.Laws.{expression_found, expression_again}}
-use Rattle.fx_base.proofs.Sequences.{map-none, map-some}
+use Rattle.{drl_expr.{specs.Reading.{expression_at, expr_at}, proofs.Laws.{expression_found, expression_again}}, fx_base.proofs.Sequences.{map-none, map-some}}
 use Rattle.drl_expr.proofs.reading.expression.Goals as goal
 
 pub returns-in-Some-clause-found : goal.returns-in-Some-clause-found

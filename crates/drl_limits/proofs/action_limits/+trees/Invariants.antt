@@ -1,5 +1,4 @@
-use Rattle.drl_limits.proofs.Common.{◌+◌, ◌*◌, max}
-use Rattle.drl_expr.specs.Tree.{height}
+use Rattle.{drl_limits.proofs.Common.{◌+◌, ◌*◌, max}, drl_expr.specs.Tree.{height}}
 use Rattle.drl_limits.proofs.action_limits.+trees.Given as goal
 
 abbrev pub decreases-is_tree_within : goal.decreases-is_tree_within

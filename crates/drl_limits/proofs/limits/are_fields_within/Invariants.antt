@@ -1,5 +1,4 @@
-use Rattle.drl_limits.proofs.Common.{◌≡◌, ℕ, List, map, drop, list_all, is_name}
-use Rattle.drl_scope.specs.Declarations.{field_names}
+use Rattle.{drl_limits.proofs.Common.{◌≡◌, ℕ, List, map, drop, list_all, is_name}, drl_scope.specs.Declarations.{field_names}}
 use Rattle.drl_limits.proofs.limits.are_fields_within.Given as goal
 
 abbrev pub invariant-loop-field : goal.invariant-loop-field

@@ -1,5 +1,4 @@
-use Rattle.drl_limits.proofs.Common.{◌≡◌, List, length, drop, sum_by, left_of}
-use Rattle.drl_grammar.specs.declared.condition.Cmp.{Cmp}
+use Rattle.{drl_limits.proofs.Common.{◌≡◌, List, length, drop, sum_by, left_of}, drl_grammar.specs.declared.condition.Cmp.{Cmp}}
 use Rattle.drl_limits.proofs.room.behind_groups.Given as goal
 
 abbrev pub invariant-loop-group : goal.invariant-loop-group

@@ -1,6 +1,4 @@
-use Rattle.std.{proofs.Common.{◌≡◌, ◌++◌, drop}, specs.Prelude.{map}}
-use Rattle.drl_scope.specs.Declarations.{rules_of}
-use Rattle.drl_names.specs.Names.{names_of_rule}
+use Rattle.{std.{proofs.Common.{◌≡◌, ◌++◌, drop}, specs.Prelude.{map}}, drl_scope.specs.Declarations.{rules_of}, drl_names.specs.Names.{names_of_rule}}
 use Rattle.drl_names.proofs.rule_names.names.Given as goal
 
 abbrev pub invariant-loop-item : goal.invariant-loop-item

@@ -1,5 +1,4 @@
-use Rattle.std.{proofs.Common.{◌≡◌, ◌++◌, drop}, specs.List.{flat_map}}
-use Rattle.drl_names.specs.Names.{fact_name}
+use Rattle.{std.{proofs.Common.{◌≡◌, ◌++◌, drop}, specs.List.{flat_map}}, drl_names.specs.Names.{fact_name}}
 use Rattle.drl_names.proofs.rule_names.names_of_facts.Given as goal
 
 abbrev pub invariant-loop-condition : goal.invariant-loop-condition

@@ -1,5 +1,4 @@
-use Rattle.drl_phrase.proofs.{Common.{arith}, Turns.{many_begins, many_goes_on, many_ends, many_no_turn_left}}
-use Rattle.fx_base.proofs.Sequences.{map-none, map-some}
+use Rattle.{drl_phrase.proofs.{Common.{arith}, Turns.{many_begins, many_goes_on, many_ends, many_no_turn_left}}, fx_base.proofs.Sequences.{map-none, map-some}}
 use Rattle.drl_phrase.proofs.shapes.many.Goals as goal
 
 pub loop-init : goal.loop-init

@@ -1,5 +1,4 @@
-use Rattle.drl_phrase.proofs.{Common.{sym}, Turns.{no_first, begins, goes_on, ends, stops, no_turn_left}}
-use Rattle.fx_base.proofs.Sequences.{map-none, map-some}
+use Rattle.{drl_phrase.proofs.{Common.{sym}, Turns.{no_first, begins, goes_on, ends, stops, no_turn_left}}, fx_base.proofs.Sequences.{map-none, map-some}}
 use Rattle.drl_phrase.proofs.shapes.separated.Goals as goal
 
 pub returns-in-None : goal.returns-in-None

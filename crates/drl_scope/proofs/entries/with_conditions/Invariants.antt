@@ -1,5 +1,4 @@
-use Rattle.drl_scope.proofs.Common.{◌≡◌, drop, flat_map, source_of, given_name, with_names}
-use Rattle.drl_grammar.specs.declared.condition.CondTree.{CondTree}
+use Rattle.{drl_scope.proofs.Common.{◌≡◌, drop, flat_map, source_of, given_name, with_names}, drl_grammar.specs.declared.condition.CondTree.{CondTree}}
 use Rattle.drl_scope.proofs.entries.with_conditions.Given as goal
 
 abbrev pub invariant-loop-condition : goal.invariant-loop-condition

@@ -1,5 +1,4 @@
-use Rattle.drl_scope.proofs.Common.{◌+◌, ◌*◌, max}
-use Rattle.drl_expr.specs.Tree.{height}
+use Rattle.{drl_scope.proofs.Common.{◌+◌, ◌*◌, max}, drl_expr.specs.Tree.{height}}
 use Rattle.drl_scope.proofs.operands.+leaves.Given as goal
 
 abbrev pub decreases-some_in_tree : goal.decreases-some_in_tree

@@ -1,5 +1,4 @@
-use Rattle.drl_show.proofs.{Common.{arith, on_ok_weaker}, Added.{parted_turn}}
-use Rattle.std.proofs.lemmas.Grind.{common_steps}
+use Rattle.{drl_show.proofs.{Common.{arith, on_ok_weaker}, Added.{parted_turn}}, std.proofs.lemmas.Grind.{common_steps}}
 use Rattle.drl_show.proofs.shapes.write_parted.Goals as goal
 
 pub returns-in_ok-write-in-len1-up : goal.returns-in_ok-write-in-len1-up

@@ -1,5 +1,4 @@
-use Rattle.drl_typing.proofs.Common.{◌+◌, ◌*◌, max}
-use Rattle.drl_expr.specs.Tree.{height}
+use Rattle.{drl_typing.proofs.Common.{◌+◌, ◌*◌, max}, drl_expr.specs.Tree.{height}}
 use Rattle.drl_typing.proofs.action_kinds.+trees.Given as goal
 
 abbrev pub decreases-kind_of_tree : goal.decreases-kind_of_tree

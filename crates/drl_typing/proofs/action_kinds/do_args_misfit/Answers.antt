@@ -1,6 +1,5 @@
 use Rattle.drl_typing.proofs.Common.{◌≡◌, ◌-◌, ◌∷◌, ℕ, suc, true, List, [], Option, length, drop, nat_lt, refl, sym, ap, ◌∙◌, arith, length-drop, drop_all}
-use Rattle.drl_typing.{proofs.Common.{Kind, Sight}, specs.Kinds.{args_misfit}}
-use Rattle.std.proofs.lemmas.Bool.Decides.{nat_tests}
+use Rattle.{drl_typing.{proofs.Common.{Kind, Sight}, specs.Kinds.{args_misfit}}, std.proofs.lemmas.Bool.Decides.{nat_tests}}
 use Rattle.drl_typing.proofs.action_kinds.do_args_misfit.Goals as goal
 
 is_positive : (n : ℕ) → true ≡ nat_lt 0 (suc n)

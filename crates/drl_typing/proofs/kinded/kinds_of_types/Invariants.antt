@@ -1,5 +1,4 @@
-use Rattle.drl_typing.proofs.Common.{◌≡◌, ◌++◌, map, drop, taken_by}
-use Rattle.drl_scope.specs.Declarations.{types_of}
+use Rattle.{drl_typing.proofs.Common.{◌≡◌, ◌++◌, map, drop, taken_by}, drl_scope.specs.Declarations.{types_of}}
 use Rattle.drl_typing.proofs.kinded.kinds_of_types.Given as goal
 
 abbrev pub invariant-loop-item : goal.invariant-loop-item

@@ -1,5 +1,4 @@
-use Rattle.due_queue.proofs.{Common.{◌∙◌, sym}, Orders.{gt_first, past_later}}
-use Rattle.std.proofs.lemmas.Option.{IfSome_then}
+use Rattle.{due_queue.proofs.{Common.{◌∙◌, sym}, Orders.{gt_first, past_later}}, std.proofs.lemmas.Option.{IfSome_then}}
 use Rattle.due_queue.proofs.pairs.take_first_due.Goals as goal
 
 pub returns-then-is_past-clause-none : goal.returns-then-is_past-clause-none

@@ -1,5 +1,4 @@
-use Rattle.due_queue.proofs.Common.{◌≡◌, ◌||◌, has_pair}
-use Rattle.std.specs.Prelude.{take}
+use Rattle.{due_queue.proofs.Common.{◌≡◌, ◌||◌, has_pair}, std.specs.Prelude.{take}}
 use Rattle.due_queue.proofs.rising_map.insert_all.Given as goal
 
 abbrev pub invariant-loop-one : goal.invariant-loop-one

@@ -1,5 +1,4 @@
-use Rattle.expiry_infer.proofs.{Common.{◌∙◌, arith}, Given.{event_here, expiry_here}}
-use Rattle.std.proofs.lemmas.Int.{to_z-of_z}
+use Rattle.{expiry_infer.proofs.{Common.{◌∙◌, arith}, Given.{event_here, expiry_here}}, std.proofs.lemmas.Int.{to_z-of_z}}
 use Rattle.expiry_infer.proofs.lifetimes.life.Goals as goal
 
 pub returns-then-not-ty-clause-life : goal.returns-then-not-ty-clause-life

@@ -1,5 +1,4 @@
-use Rattle.expiry_infer.proofs.Common.{◌≡◌, ℕ, List, length, Some, sym, ◌∙◌, ap, arith, slice_get, Life, TypeInfo}
-use Rattle.life_meaning.proofs.Safe.{lives_are_safe}
+use Rattle.{expiry_infer.proofs.Common.{◌≡◌, ℕ, List, length, Some, sym, ◌∙◌, ap, arith, slice_get, Life, TypeInfo}, life_meaning.proofs.Safe.{lives_are_safe}}
 use Rattle.expiry_infer.proofs.lifetimes.lives.Goals as goal
 
 pub returns-clause-safe : goal.returns-clause-safe

@@ -1,6 +1,4 @@
-use Rattle.expiry_infer.proofs.Common.{◌≡◌, ℕ, Some, length, slice_get, Life}
-use Rattle.life_meaning.specs.Tables.{IsLifeOf}
-use Rattle.rule_model.specs.Lives.{IsShortLife}
+use Rattle.{expiry_infer.proofs.Common.{◌≡◌, ℕ, Some, length, slice_get, Life}, life_meaning.specs.Tables.{IsLifeOf}, rule_model.specs.Lives.{IsShortLife}}
 use Rattle.expiry_infer.proofs.lifetimes.lives.Given as goal
 
 abbrev pub invariant-loop-place : goal.invariant-loop-place

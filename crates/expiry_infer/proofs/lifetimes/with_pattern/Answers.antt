@@ -1,6 +1,5 @@
 use Rattle.expiry_infer.proofs.Common.{Pattern, finite, limit_of, HaveLives, IsSmallLimit, ◌≡◌, ap, subst, sym, ◌∙◌, lent, HasShortWindow, StandsIn}
-use Rattle.expiry_infer.proofs.Tops.{top_small, span_small, span_whole}
-use Rattle.life_edges.proofs.Scopes.{scope_lives, scope_at}
+use Rattle.{expiry_infer.proofs.Tops.{top_small, span_small, span_whole}, life_edges.proofs.Scopes.{scope_lives, scope_at}}
 use Rattle.expiry_infer.proofs.lifetimes.with_pattern.Goals as goal
 
 pub with_all_added-requires-clause-conditions : goal.with_all_added-requires-clause-conditions

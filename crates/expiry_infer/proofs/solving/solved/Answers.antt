@@ -1,5 +1,4 @@
-use Rattle.expiry_infer.proofs.Common.{◌∙◌, edges_of_conditions, all_small}
-use Rattle.std.proofs.lemmas.List.Elements.{All-same}
+use Rattle.{expiry_infer.proofs.Common.{◌∙◌, edges_of_conditions, all_small}, std.proofs.lemmas.List.Elements.{All-same}}
 use Rattle.temporal_net.specs.Networks.{IsSmallEdge}
 use Rattle.expiry_infer.proofs.solving.solved.Goals as goal
 

@@ -1,5 +1,5 @@
-use Rattle.fan_join.proofs.{Common.{◌∙◌, sym, refl}, Whole.{kept_more, unkept_here}}
-use Rattle.std.proofs.lemmas.{Option.{none-some, slice_get_past, slice_get_read}, Result.{on_ok_weaker}}
+use Rattle.{fan_join.proofs.{Common.{◌∙◌, sym, refl}, Whole.{kept_more, unkept_here}}, std.proofs.lemmas.Option.{none-some, slice_get_past, slice_get_read}}
+use Rattle.std.proofs.lemmas.Result.{on_ok_weaker}
 use Rattle.fan_join.proofs.asking.ask.Goals as goal
 
 pub returns-in_ok-delta-in-Some-clause-kept : goal.returns-in_ok-delta-in-Some-clause-kept

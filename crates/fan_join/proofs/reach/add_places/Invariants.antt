@@ -1,5 +1,4 @@
-use Rattle.fan_join.proofs.Common.{◌≡◌, ◌||◌, ℕ, true, is_some, nat_cmp, has_place}
-use Rattle.alpha_memory.specs.Bucket.{found}
+use Rattle.{fan_join.proofs.Common.{◌≡◌, ◌||◌, ℕ, true, is_some, nat_cmp, has_place}, alpha_memory.specs.Bucket.{found}}
 use Rattle.fan_join.proofs.reach.add_places.Given as goal
 
 -- with those to come all are there

@@ -1,7 +1,5 @@
 use Rattle.fan_join.proofs.Common.{◌≡◌, ◌∙◌, ap, subst, true, List, eq_by_cmp, Row, row_cmp, value_by, has_place, is_member_under, AreAmong}
-use Rattle.fan_join.proofs.Reaches.{among_more}
-use Rattle.std.proofs.lemmas.List.{take_all}
-use Rattle.join_memory.proofs.Joining.{row_decides}
+use Rattle.{fan_join.proofs.Reaches.{among_more}, std.proofs.lemmas.List.{take_all}, join_memory.proofs.Joining.{row_decides}}
 use Rattle.fan_join.proofs.reach.add_reached.Goals as goal
 
 pub loop-row-init : goal.loop-row-init

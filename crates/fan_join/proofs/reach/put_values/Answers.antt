@@ -1,6 +1,5 @@
 use Rattle.fan_join.proofs.{Common.{◌≡◌, ◌∙◌, sym, ap, refl, true, eq_by_cmp, Named, name_cmp, candidate_value, is_member_under}, Reaches.{among_more}}
-use Rattle.fan_join.proofs.Reaches.{under_here, under_stays}
-use Rattle.join_memory.proofs.{Joining.{name_decides}, Turning.{any_name}}
+use Rattle.{fan_join.proofs.Reaches.{under_here, under_stays}, join_memory.proofs.{Joining.{name_decides}, Turning.{any_name}}}
 use Rattle.fan_join.proofs.reach.put_values.Goals as goal
 
 pub loop-who-preserved : goal.loop-who-preserved

@@ -1,5 +1,4 @@
-use Rattle.std.proofs.Common.{◌≡◌, ◌++◌, sym, ◌∙◌}
-use Rattle.fed_desk.{specs.Runs.{setting_of}, proofs.Coming.{come_on, where_ok}}
+use Rattle.{std.proofs.Common.{◌≡◌, ◌++◌, sym, ◌∙◌}, fed_desk.{specs.Runs.{setting_of}, proofs.Coming.{come_on, where_ok}}}
 use Rattle.fed_desk.proofs.desk.feed.Goals as goal
 
 pub returns-clause-fed : goal.returns-clause-fed

@@ -1,5 +1,4 @@
-use Rattle.std.{proofs.Common.{Err, List, ℕ, ap, arith, sym, ◌∙◌}, specs.Str.{bytes_eq}}
-use Rattle.fed_desk.specs.Openings.{start_behind}
+use Rattle.{std.{proofs.Common.{Err, List, ℕ, ap, arith, sym, ◌∙◌}, specs.Str.{bytes_eq}}, fed_desk.specs.Openings.{start_behind}}
 use Rattle.replay.proofs.ImagesRead.{bad_image_is, image_is, other_rules_is, too_long_is}
 use Rattle.fed_desk.proofs.opening.image_of.Goals as goal
 

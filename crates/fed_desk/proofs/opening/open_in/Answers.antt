@@ -1,5 +1,4 @@
-use Rattle.std.proofs.Common.{Err, ap, inr, refl}
-use Rattle.replay.specs.declared.refused_checkpoint.CheckpointCode.TheVariants.{Unfit}
+use Rattle.{std.proofs.Common.{Err, ap, inr, refl}, replay.specs.declared.refused_checkpoint.CheckpointCode.TheVariants.{Unfit}}
 use Rattle.fed_desk.proofs.opening.open_in.Goals as goal
 
 pub returns-in-Err-Unfit-clause-refused : goal.returns-in-Err-Unfit-clause-refused

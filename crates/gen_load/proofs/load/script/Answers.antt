@@ -1,5 +1,4 @@
-use Rattle.std.proofs.Common.{string_bytes, ◌∙◌}
-use Rattle.gen_load.{specs.Script.{turns_text}, proofs.Turns.{turns_step, turns_done}}
+use Rattle.{std.proofs.Common.{string_bytes, ◌∙◌}, gen_load.{specs.Script.{turns_text}, proofs.Turns.{turns_step, turns_done}}}
 use Rattle.gen_load.proofs.load.script.Goals as goal
 
 pub loop-preserved : goal.loop-preserved

@@ -1,5 +1,4 @@
-use Rattle.std.proofs.Common.{◌≡◌, ◌-◌, ◌++◌, string_bytes}
-use Rattle.gen_load.specs.Script.{turns_text}
+use Rattle.{std.proofs.Common.{◌≡◌, ◌-◌, ◌++◌, string_bytes}, gen_load.specs.Script.{turns_text}}
 use Rattle.gen_load.proofs.load.script.Given as goal
 
 -- what is written, with the turns that are to come, is the whole script

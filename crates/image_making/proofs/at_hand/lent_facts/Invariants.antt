@@ -1,5 +1,4 @@
-use Rattle.std.proofs.Common.{take, ◌≡◌}
-use Rattle.rule_model.specs.Lent.{lent}
+use Rattle.{std.proofs.Common.{take, ◌≡◌}, rule_model.specs.Lent.{lent}}
 use Rattle.image_making.proofs.at_hand.lent_facts.Given as goal
 
 abbrev pub invariant-loop-fact : goal.invariant-loop-fact

@@ -1,6 +1,4 @@
-use Rattle.std.proofs.Common.{Some, slice_get, ℕ, ◌<◌, ◌≡◌}
-use Rattle.rule_model.specs.declared.program.Rule.{Rule}
-use Rattle.image_making.specs.Moved.{Begins}
+use Rattle.{std.proofs.Common.{Some, slice_get, ℕ, ◌<◌, ◌≡◌}, rule_model.specs.declared.program.Rule.{Rule}, image_making.specs.Moved.{Begins}}
 use Rattle.image_making.proofs.extras.first_moved.Given as goal
 
 abbrev pub invariant-loop-place : goal.invariant-loop-place

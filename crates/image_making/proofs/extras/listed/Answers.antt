@@ -1,7 +1,5 @@
 use Rattle.std.{proofs.Common.{List, [], refl, rules, subst, sym, ◌++◌, ◌↔◌, ◌∷◌, ◌≡◌}, specs.List.Sorted.{IsStrictlySortedBy}}
-use Rattle.fx_base.{proofs.Sequences.{empty_from_length}, specs.Lists.{In}}
-use Rattle.laden_rows.specs.Extras.{extra_cmp}
-use Rattle.row_delta.specs.declared.extra.Extra.{Extra}
+use Rattle.{fx_base.{proofs.Sequences.{empty_from_length}, specs.Lists.{In}}, laden_rows.specs.Extras.{extra_cmp}, row_delta.specs.declared.extra.Extra.{Extra}}
 use Rattle.image_making.{proofs.Going.{all_listed, extra_of, in_listed, listed_in_order, one_listed}, specs.Moved.{extra_in}}
 use Rattle.image_making.proofs.extras.listed.Goals as goal
 

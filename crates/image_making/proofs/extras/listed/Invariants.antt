@@ -1,5 +1,4 @@
-use Rattle.std.proofs.Common.{map, ◌++◌, ◌≡◌}
-use Rattle.image_making.proofs.Going.{extra_of}
+use Rattle.{std.proofs.Common.{map, ◌++◌, ◌≡◌}, image_making.proofs.Going.{extra_of}}
 use Rattle.image_making.proofs.extras.listed.Given as goal
 
 abbrev pub invariant-loop-entry : goal.invariant-loop-entry

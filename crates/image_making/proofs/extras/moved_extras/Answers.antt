@@ -1,6 +1,4 @@
-use Rattle.std.proofs.lemmas.Result.{IfOk-weaker}
-use Rattle.fx_base.proofs.Sequences.{empty_from_length}
-use Rattle.image_making.proofs.Going.{all_going, one_going}
+use Rattle.{std.proofs.lemmas.Result.{IfOk-weaker}, fx_base.proofs.Sequences.{empty_from_length}, image_making.proofs.Going.{all_going, one_going}}
 use Rattle.image_making.proofs.extras.moved_extras.Goals as goal
 
 pub loop-extra-preserved : goal.loop-extra-preserved

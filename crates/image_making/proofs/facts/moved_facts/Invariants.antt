@@ -1,5 +1,4 @@
-use Rattle.std.proofs.Common.{map, ◌++◌, ◌≡◌}
-use Rattle.rule_change.specs.Changed.{moved_fact}
+use Rattle.{std.proofs.Common.{map, ◌++◌, ◌≡◌}, rule_change.specs.Changed.{moved_fact}}
 use Rattle.image_making.proofs.facts.moved_facts.Given as goal
 
 abbrev pub invariant-loop-fact : goal.invariant-loop-fact

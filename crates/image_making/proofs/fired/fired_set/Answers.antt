@@ -1,9 +1,6 @@
 use Rattle.std.{proofs.Common.{List, map, subst, sym, take, true, cond, ◌≡◌}, specs.Ordering.{eq_by_cmp}}
-use Rattle.checkpoint.specs.declared.image.FiredMatch.{FiredMatch}
-use Rattle.image_laws.specs.Images.{match_fired}
-use Rattle.row_delta.specs.declared.row.Row.{Row}
-use Rattle.rule_model.specs.{declared.matched.Match.{Match}, Matches.{has_match, match_cmp}}
-use Rattle.image_making.proofs.{Adding.{next_taken}, Marking.{one_fired}}
+use Rattle.{checkpoint.specs.declared.image.FiredMatch.{FiredMatch}, image_laws.specs.Images.{match_fired}, row_delta.specs.declared.row.Row.{Row}}
+use Rattle.{rule_model.specs.{declared.matched.Match.{Match}, Matches.{has_match, match_cmp}}, image_making.proofs.{Adding.{next_taken}, Marking.{one_fired}}}
 use Rattle.image_making.proofs.fired.fired_set.Goals as goal
 
 pub loop-matched-preserved : goal.loop-matched-preserved

@@ -1,6 +1,4 @@
-use Rattle.std.proofs.Common.{map, take, ◌≡◌}
-use Rattle.image_laws.specs.Images.{match_fired}
-use Rattle.rule_model.specs.{declared.matched.Match.{Match}, Matches.{has_match}}
+use Rattle.{std.proofs.Common.{map, take, ◌≡◌}, image_laws.specs.Images.{match_fired}, rule_model.specs.{declared.matched.Match.{Match}, Matches.{has_match}}}
 use Rattle.image_making.proofs.fired.fired_set.Given as goal
 
 abbrev pub invariant-loop-matched : goal.invariant-loop-matched

@@ -1,8 +1,5 @@
-use Rattle.std.{proofs.Common.{Bool, List, ap, map, subst, sym, ◌++◌, ◌≡◌}, specs.List.{filter}}
-use Rattle.change_rules.specs.Staying.{place_in}
-use Rattle.image_laws.specs.Images.{match_fired}
-use Rattle.rule_change.specs.Changed.{is_marked, was_fired}
-use Rattle.rule_model.specs.declared.matched.Match.{Match}
+use Rattle.{std.{proofs.Common.{Bool, List, ap, map, subst, sym, ◌++◌, ◌≡◌}, specs.List.{filter}}, change_rules.specs.Staying.{place_in}}
+use Rattle.{image_laws.specs.Images.{match_fired}, rule_change.specs.Changed.{is_marked, was_fired}, rule_model.specs.declared.matched.Match.{Match}}
 use Rattle.image_making.proofs.Marking.{one_marked}
 use Rattle.image_making.proofs.fired.marked_matches.Goals as goal
 

@@ -1,6 +1,4 @@
-use Rattle.std.{proofs.Common.{map, ◌++◌, ◌≡◌}, specs.List.{filter}}
-use Rattle.change_rules.specs.Staying.{place_in}
-use Rattle.image_laws.specs.Images.{match_fired}
+use Rattle.{std.{proofs.Common.{map, ◌++◌, ◌≡◌}, specs.List.{filter}}, change_rules.specs.Staying.{place_in}, image_laws.specs.Images.{match_fired}}
 use Rattle.rule_change.specs.Changed.{is_marked}
 use Rattle.image_making.proofs.fired.marked_matches.Given as goal
 

@@ -1,7 +1,5 @@
-use Rattle.std.proofs.Common.{List, ap, sym, ◌&&◌, ◌==◌, ◌||◌, ◌∙◌}
-use Rattle.row_delta.specs.{declared.row.Row.{Row}, Rows.{has}}
-use Rattle.rule_model.specs.{declared.matched.Match.{Match}, Matches.{has_match}}
-use Rattle.image_making.proofs.Adding.{one_added}
+use Rattle.{std.proofs.Common.{List, ap, sym, ◌&&◌, ◌==◌, ◌||◌, ◌∙◌}, row_delta.specs.{declared.row.Row.{Row}, Rows.{has}}}
+use Rattle.{rule_model.specs.{declared.matched.Match.{Match}, Matches.{has_match}}, image_making.proofs.Adding.{one_added}}
 use Rattle.image_making.proofs.laden.add_matches.Goals as goal
 
 pub loop-row-preserved : goal.loop-row-preserved

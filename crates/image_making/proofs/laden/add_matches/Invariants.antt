@@ -1,6 +1,4 @@
-use Rattle.std.proofs.Common.{◌&&◌, ◌==◌, ◌||◌, ◌≡◌}
-use Rattle.row_delta.specs.Rows.{has}
-use Rattle.rule_model.specs.{declared.matched.Match.{Match}, Matches.{has_match}}
+use Rattle.{std.proofs.Common.{◌&&◌, ◌==◌, ◌||◌, ◌≡◌}, row_delta.specs.Rows.{has}, rule_model.specs.{declared.matched.Match.{Match}, Matches.{has_match}}}
 use Rattle.image_making.proofs.laden.add_matches.Given as goal
 
 abbrev pub invariant-loop-row : goal.invariant-loop-row

@@ -1,7 +1,5 @@
-use Rattle.std.proofs.Common.{Err, ap, subst, sym, ◌∙◌}
-use Rattle.fx_base.specs.Lists.{In}
-use Rattle.rule_model.specs.Lent.{lent}
-use Rattle.image_making.{proofs.Loadable.{no_row, residual_no_row, rows_come}, specs.AtHand.{fact_at}}
+use Rattle.{std.proofs.Common.{Err, ap, subst, sym, ◌∙◌}, fx_base.specs.Lists.{In}, rule_model.specs.Lent.{lent}, image_making.proofs.Loadable.{no_row}}
+use Rattle.image_making.{proofs.Loadable.{residual_no_row, rows_come}, specs.AtHand.{fact_at}}
 use Rattle.image_making.proofs.laden.loaded.Goals as goal
 
 pub returns-in_err-changes-clause-no_row : goal.returns-in_err-changes-clause-no_row

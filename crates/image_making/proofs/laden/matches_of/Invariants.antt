@@ -1,6 +1,4 @@
-use Rattle.std.proofs.Common.{◌||◌, ◌≡◌}
-use Rattle.rule_model.specs.{declared.matched.Match.{Match}, Matches.{has_match}}
-use Rattle.image_making.specs.Loads.{comes_by}
+use Rattle.{std.proofs.Common.{◌||◌, ◌≡◌}, rule_model.specs.{declared.matched.Match.{Match}, Matches.{has_match}}, image_making.specs.Loads.{comes_by}}
 use Rattle.image_making.proofs.laden.matches_of.Given as goal
 
 abbrev pub invariant-loop-change : goal.invariant-loop-change

@@ -1,9 +1,6 @@
 use Rattle.std.proofs.{Common.{List, ap, arith, length, map, subst, sym, ◌<◌, ◌∙◌, Err}, lemmas.Option.{slice_get_within}}
-use Rattle.change_rules.specs.Staying.{place_in}
-use Rattle.checkpoint.specs.declared.image.FiredMatch.{FiredMatch}
-use Rattle.image_change.specs.Images.{IsChangedImage}
-use Rattle.image_laws.specs.Images.{match_fired}
-use Rattle.rule_model.specs.{declared.matched.Match.{Match}, Matches.{has_match}}
+use Rattle.{change_rules.specs.Staying.{place_in}, checkpoint.specs.declared.image.FiredMatch.{FiredMatch}, image_change.specs.Images.{IsChangedImage}}
+use Rattle.{image_laws.specs.Images.{match_fired}, rule_model.specs.{declared.matched.Match.{Match}, Matches.{has_match}}}
 use Rattle.image_making.proofs.{Made.{changed_is}, Loadable.{residual_no_row}, Missing.{none_missing}}
 use Rattle.image_making.proofs.making.changed_image.Goals as goal
 

@@ -1,7 +1,5 @@
-use Rattle.std.{proofs.Common.{ap, map, refl, rules, subst, sym, ◌∙◌}, specs.List.Sorted.{IsStrictlySortedBy}}
-use Rattle.laden_rows.specs.Extras.{extra_cmp}
-use Rattle.rule_change.specs.Changed.{moved_fact}
-use Rattle.image_making.proofs.Made.{made_extras, made_moments}
+use Rattle.{std.{proofs.Common.{ap, map, refl, rules, subst, sym, ◌∙◌}, specs.List.Sorted.{IsStrictlySortedBy}}, laden_rows.specs.Extras.{extra_cmp}}
+use Rattle.{rule_change.specs.Changed.{moved_fact}, image_making.proofs.Made.{made_extras, made_moments}}
 use Rattle.image_making.proofs.making.moved_image.Goals as goal
 
 pub returns-clause-moved : goal.returns-clause-moved

@@ -1,7 +1,6 @@
-use Rattle.std.proofs.Common.{List, [], ap, arith, length, rules, subst, sym, ℕ, ℤ, ◌++◌, ◌+◌, ◌∙◌, ◌∷◌, ◌≡◌}
-use Rattle.rule_change.specs.Changed.{entry_in, moment_or_zero}
-use Rattle.rule_model.specs.Moments.{moment_in}
-use Rattle.image_making.proofs.Firsts.{AreFirst, all_first, none_first, one_first}
+use Rattle.{std.proofs.Common.{List, [], ap, arith, length, rules, subst, sym, ℕ, ℤ, ◌++◌, ◌+◌, ◌∙◌, ◌∷◌, ◌≡◌}, rule_change.specs.Changed.{entry_in}}
+use Rattle.{rule_change.specs.Changed.{moment_or_zero}, rule_model.specs.Moments.{moment_in}, image_making.proofs.Firsts.{AreFirst, all_first, none_first}}
+use Rattle.image_making.proofs.Firsts.{one_first}
 use Rattle.image_making.proofs.moments.moved_moments.Goals as goal
 
 pub loop-entry-init : goal.loop-entry-init

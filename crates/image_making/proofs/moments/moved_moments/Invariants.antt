@@ -1,6 +1,4 @@
-use Rattle.rule_change.specs.Changed.{entry_in, moment_or_zero}
-use Rattle.rule_model.specs.Moments.{moment_in}
-use Rattle.image_making.proofs.Firsts.{AreFirst}
+use Rattle.{rule_change.specs.Changed.{entry_in, moment_or_zero}, rule_model.specs.Moments.{moment_in}, image_making.proofs.Firsts.{AreFirst}}
 use Rattle.image_making.proofs.moments.moved_moments.Given as goal
 
 abbrev pub invariant-loop-entry : goal.invariant-loop-entry

@@ -1,10 +1,6 @@
-use Rattle.std.{proofs.Common.{List, ap, map, sym, ◌∙◌, ◌≡◌}, specs.List.{list_all}}
-use Rattle.change_rules.specs.Staying.{place_in}
-use Rattle.image_change.proofs.Owners.{owners}
-use Rattle.checkpoint.specs.declared.image.FiredMatch.{FiredMatch}
-use Rattle.image_laws.specs.Images.{match_fired}
-use Rattle.rule_model.specs.{Matches.{has_match}, declared.matched.Match.{Match}}
-use Rattle.image_making.{proofs.Marking.{from_told, to_told}, specs.Marks.{is_told}}
+use Rattle.{std.{proofs.Common.{List, ap, map, sym, ◌∙◌, ◌≡◌}, specs.List.{list_all}}, change_rules.specs.Staying.{place_in}}
+use Rattle.{image_change.proofs.Owners.{owners}, checkpoint.specs.declared.image.FiredMatch.{FiredMatch}, image_laws.specs.Images.{match_fired}}
+use Rattle.{rule_model.specs.{Matches.{has_match}, declared.matched.Match.{Match}}, image_making.{proofs.Marking.{from_told, to_told}, specs.Marks.{is_told}}}
 use Rattle.image_making.proofs.pending.none_pending.Goals as goal
 
 pub returns-clause-none : goal.returns-clause-none

@@ -1,7 +1,6 @@
-use Rattle.std.{proofs.Common.{Err, Option, ap, refl, subst}, specs.Prelude.{IfNone}}
-use Rattle.change_rules.specs.Staying.{place_in}
-use Rattle.rule_change.specs.{declared.code.ChangeCode.{ChangeCode}, Refused.{HaveEntries, HaveTypes}}
-use Rattle.image_making.{proofs.{Loadable.{residual_no_row}, Missing.{none_missing_there}, Taken.{are_over, taken_over}}, specs.Change.{IsVerdictOf}}
+use Rattle.{std.{proofs.Common.{Err, Option, ap, refl, subst}, specs.Prelude.{IfNone}}, change_rules.specs.Staying.{place_in}}
+use Rattle.{rule_change.specs.{declared.code.ChangeCode.{ChangeCode}, Refused.{HaveEntries, HaveTypes}}, image_making.proofs.Loadable.{residual_no_row}}
+use Rattle.image_making.{proofs.{Missing.{none_missing_there}, Taken.{are_over, taken_over}}, specs.Change.{IsVerdictOf}}
 use Rattle.image_making.proofs.taking.change.Goals as goal
 
 pub returns-in_ok-carried-in-None-clause-taken : goal.returns-in_ok-carried-in-None-clause-taken

@@ -1,5 +1,4 @@
-use Rattle.join_memory.proofs.{Common.{◌∙◌, sym, ap, ◌∷◌, IfOk-weaker, Option, Value, option_map}, Found.{rows_alone, rows_both}}
-use Rattle.std.proofs.Common.{Bor}
+use Rattle.{join_memory.proofs.{Common.{◌∙◌, sym, ap, ◌∷◌, IfOk-weaker, Option, Value, option_map}, Found.{rows_alone, rows_both}}, std.proofs.Common.{Bor}}
 use Rattle.join_tests.specs.Kept.{one_or_none}
 use Rattle.join_memory.proofs.making.made_with_name.Goals as goal
 

@@ -1,7 +1,6 @@
 use Rattle.join_memory.proofs.Common.{cond, ◌≡◌, ◌∙◌, sym, ap, subst, arith, List, [], ◌∷◌, ◌++◌, ◌&&◌, Vec, Global, common_steps, IsStrictlySortedBy-filter}
 use Rattle.join_memory.proofs.Common.{is_member-filter, is_some-lookup, is_at, filter, option_map, keys_of, Row, row_cmp, has, same_equiv, entries, Bucket}
-use Rattle.join_memory.proofs.{Common.{row_joins}, Joining.{row_decides}}
-use Rattle.std.specs.List.Sorted.{IsStrictlySortedBy}
+use Rattle.{join_memory.proofs.{Common.{row_joins}, Joining.{row_decides}}, std.specs.List.Sorted.{IsStrictlySortedBy}}
 use Rattle.join_memory.proofs.partners.rows_passed.Goals as goal
 use Rattle.join_memory.proofs.partners.rows_passed.Goals.{in-One+in_ok-add_passed-in-One, in-Many+in-None}
 

@@ -1,5 +1,4 @@
-use Rattle.join_tests.proofs.{Common.{◌++◌, sym}, Counting.{next_test}}
-use Rattle.std.proofs.lemmas.List.{append_assoc}
+use Rattle.{join_tests.proofs.{Common.{◌++◌, sym}, Counting.{next_test}}, std.proofs.lemmas.List.{append_assoc}}
 use Rattle.join_tests.proofs.key.keys_of_tests.Goals as goal
 
 pub loop-test-preserved : goal.loop-test-preserved

@@ -1,5 +1,4 @@
-use Rattle.life_proof.proofs.Common.{◌∙◌, ◌∷◌, [], All-same, edges_for, IsSmallEdge}
-use Rattle.life_edges.proofs.Fitting.{all_small}
+use Rattle.{life_proof.proofs.Common.{◌∙◌, ◌∷◌, [], All-same, edges_for, IsSmallEdge}, life_edges.proofs.Fitting.{all_small}}
 use Rattle.life_proof.proofs.certifying.part_among.Goals as goal
 
 pub solve-requires-clause-small : goal.solve-requires-clause-small

@@ -1,5 +1,4 @@
-use Rattle.life_proof.proofs.{Common.{SFits, to_z-of_z, arith, ints}, Sums.{added}}
-use Rattle.std.specs.Int.{w128}
+use Rattle.{life_proof.proofs.{Common.{SFits, to_z-of_z, arith, ints}, Sums.{added}}, std.specs.Int.{w128}}
 use Rattle.life_proof.proofs.confirming.total.Goals as goal
 
 pub loop-edge-preserved : goal.loop-edge-preserved

@@ -8,8 +8,7 @@ use Rattle.line_run.proofs.{Ahead.{long_heard, told_err, if_told, at_start, move
 use Rattle.line_run.proofs.Asking.{asks_mid_line, asks_turned, nothing_said, said_flushed, said_hushed, said_stays, said_front, quiet_first, quiet_so}
 use Rattle.line_run.proofs.{Asking.{quiet_flushed, quiet_front, quiet_all}, Stops.{err_of, given_since, takes_stop, takes_unkept, refused_so, long_stop}}
 use Rattle.line_run.proofs.Stops.{read_stop, long_taken, exhausted, none_given, stops_mid_line, no_memory_at_read, no_memory_at_length, none_kept, has_at_most}
-use Rattle.line_run.proofs.Stops.{first_to_come, last_to_come, some_to_come}
-use Rattle.fx_io.specs.Reader.{Reader}
+use Rattle.{line_run.proofs.Stops.{first_to_come, last_to_come, some_to_come}, fx_io.specs.Reader.{Reader}}
 use Rattle.line_run.proofs.running.run_lines.Goals as goal
 use Rattle.line_run.proofs.running.run_lines.Goals.{then-not-is_ready, else-not-is_ready}
 

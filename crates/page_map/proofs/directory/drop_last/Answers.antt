@@ -1,6 +1,5 @@
 use Rattle.page_map.proofs.Common.{rules, ◌≡◌, ◌∙◌, sym, ap, ◌<◌, ◌≤◌, ◌++◌, ◌-◌, Some, length, get_or, vec_len, option_to_list, slice_get, number_in}
-use Rattle.page_map.proofs.Written.{lengthened, shortened}
-use Rattle.std.proofs.lemmas.Option.{get_or_from_slice_get}
+use Rattle.{page_map.proofs.Written.{lengthened, shortened}, std.proofs.lemmas.Option.{get_or_from_slice_get}}
 use Rattle.page_map.proofs.directory.drop_last.Goals as goal
 
 pub loop-last-preserved-else-not-is_empty : goal.loop-last-preserved-else-not-is_empty

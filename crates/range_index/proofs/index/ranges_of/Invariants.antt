@@ -1,5 +1,4 @@
-use Rattle.std.proofs.Common.{◌≡◌, take}
-use Rattle.range_index.specs.Nodes.{leaves}
+use Rattle.{std.proofs.Common.{◌≡◌, take}, range_index.specs.Nodes.{leaves}}
 use Rattle.range_index.proofs.index.ranges_of.Given as goal
 
 abbrev pub invariant-loop-node : goal.invariant-loop-node

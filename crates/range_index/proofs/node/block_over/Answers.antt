@@ -1,5 +1,4 @@
-use Rattle.std.proofs.Common.{◌∙◌}
-use Rattle.range_index.proofs.Trees.{bounds_more}
+use Rattle.{std.proofs.Common.{◌∙◌}, range_index.proofs.Trees.{bounds_more}}
 use Rattle.range_index.proofs.node.block_over.Goals as goal
 
 pub loop-range-preserved : goal.loop-range-preserved

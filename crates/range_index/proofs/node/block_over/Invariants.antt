@@ -1,5 +1,4 @@
-use Rattle.std.proofs.Common.{◌≡◌, take}
-use Rattle.range_index.specs.Nodes.{Bounds}
+use Rattle.{std.proofs.Common.{◌≡◌, take}, range_index.specs.Nodes.{Bounds}}
 use Rattle.range_index.proofs.node.block_over.Given as goal
 
 abbrev pub invariant-loop-range : goal.invariant-loop-range

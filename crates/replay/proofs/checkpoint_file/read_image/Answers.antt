@@ -1,6 +1,5 @@
 use Rattle.replay.{proofs.Common.{sym, ap, subst, ◌∙◌, Checkpoint, checkpoint_of, TellsCheckpointFault}, specs.Checkpoints.{image_limit}}
-use Rattle.replay.proofs.Reports.{image_found}
-use Rattle.std.proofs.lemmas.Result.{IfOk-weaker, IfErr-weaker}
+use Rattle.{replay.proofs.Reports.{image_found}, std.proofs.lemmas.Result.{IfOk-weaker, IfErr-weaker}}
 use Rattle.replay.proofs.checkpoint_file.read_image.Goals as goal
 
 pub returns-clause-found : goal.returns-clause-found

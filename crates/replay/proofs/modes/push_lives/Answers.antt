@@ -1,5 +1,5 @@
-use Rattle.replay.proofs.{Common.{rules, refl, length}, LivesText.{next_life, last_life, one_more, one_empty}}
-use Rattle.std.proofs.lemmas.Slice.Zip.{zip_turn, Zip-so_far, either_empty_from_Zip}
+use Rattle.{replay.proofs.{Common.{rules, refl, length}, LivesText.{next_life, last_life, one_more, one_empty}}, std.proofs.lemmas.Slice.Zip.{zip_turn}}
+use Rattle.std.proofs.lemmas.Slice.Zip.{Zip-so_far, either_empty_from_Zip}
 use Rattle.replay.proofs.modes.push_lives.Goals as goal
 
 pub loop-ty-init : goal.loop-ty-init

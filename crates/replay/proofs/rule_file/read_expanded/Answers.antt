@@ -1,5 +1,4 @@
-use Rattle.replay.{proofs.{Common.{refl, sym, ap, ◌∙◌}, Expanding.{refused_of}}, specs.Refusals.{of_checked_with}}
-use Rattle.drl_check.specs.Outcomes.{checked}
+use Rattle.{replay.{proofs.{Common.{refl, sym, ap, ◌∙◌}, Expanding.{refused_of}}, specs.Refusals.{of_checked_with}}, drl_check.specs.Outcomes.{checked}}
 use Rattle.replay.proofs.rule_file.read_expanded.Goals as goal
 
 pub returns-in_ok-check_refusal-in-Err-clause-reading : goal.returns-in_ok-check_refusal-in-Err-clause-reading

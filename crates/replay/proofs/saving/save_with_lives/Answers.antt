@@ -1,8 +1,7 @@
 use Rattle.replay.proofs.Common.{ℕ, List, true, inl, inr, refl, ap, Err, arith, Save, Script, Limit, run_on, setting_of, limit_text, lines_of, part_of, Unfit}
 use Rattle.replay.proofs.{Common.{image_report, wanted_at}, Calls.{checkpoint_done, nothing_done, rose_since, says_low}, Prompting.{prompt_save}}
 use Rattle.replay.proofs.Runs.{ends_limited, ends_saved, failing, image_status, limited_told, may_save, not_nine_limited, refused_so, save_done, save_failed}
-use Rattle.replay.proofs.Runs.{saved_told, unfit_save}
-use Rattle.line_run.specs.Prompt.{heard}
+use Rattle.{replay.proofs.Runs.{saved_told, unfit_save}, line_run.specs.Prompt.{heard}}
 use Rattle.replay.proofs.saving.save_with_lives.Goals as goal
 
 pub returns-in-Ok-None-clause-run : goal.returns-in-Ok-None-clause-run

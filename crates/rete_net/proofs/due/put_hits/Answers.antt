@@ -1,5 +1,4 @@
-use Rattle.rete_net.proofs.{Common.{◌≡◌, ◌∙◌, ap, sym, subst, ◌||◌, true, slice_get, has_place, is_in}, Ranged.{hit_put}}
-use Rattle.std.proofs.Math.Bool.{or-false}
+use Rattle.{rete_net.proofs.{Common.{◌≡◌, ◌∙◌, ap, sym, subst, ◌||◌, true, slice_get, has_place, is_in}, Ranged.{hit_put}}, std.proofs.Math.Bool.{or-false}}
 use Rattle.rete_net.proofs.due.put_hits.Goals as goal
 
 pub hits-preserved : goal.hits-preserved

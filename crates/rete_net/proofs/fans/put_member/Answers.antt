@@ -1,7 +1,5 @@
 use Rattle.rete_net.proofs.{Common.{◌≡◌, ◌∙◌, sym, ap, length, None, Some, slice_get, slice_get-get_or, has_place}, Fanned.{none_past}, Places.{put_stays}}
-use Rattle.rete_net.proofs.Places.{put_there}
-use Rattle.std.proofs.lemmas.Bool.{ltb-false, ltb-true}
-use Rattle.fx_base.proofs.Sequences.{one_value}
+use Rattle.{rete_net.proofs.Places.{put_there}, std.proofs.lemmas.Bool.{ltb-false, ltb-true}, fx_base.proofs.Sequences.{one_value}}
 use Rattle.rete_net.proofs.fans.put_member.Goals as goal
 
 pub returns-in_ok-insert-in-Some-clause-still : goal.returns-in_ok-insert-in-Some-clause-still

@@ -1,5 +1,4 @@
-use Rattle.rete_net.proofs.Common.{◌≡◌, ℕ, Some, true, false, slice_get, is_in, has_place}
-use Rattle.std.specs.Map.{keys_of}
+use Rattle.{rete_net.proofs.Common.{◌≡◌, ℕ, Some, true, false, slice_get, is_in, has_place}, std.specs.Map.{keys_of}}
 use Rattle.rete_net.proofs.fans.put_members.Given as goal
 
 abbrev pub invariant-loop-member : goal.invariant-loop-member

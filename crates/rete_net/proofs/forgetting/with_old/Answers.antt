@@ -1,6 +1,5 @@
 use Rattle.rete_net.proofs.Common.{◌≡◌, ◌∙◌, sym, ap, subst, true, false, inl, inr, ◌<◌, length, arith, take, get_or, [], ◌∷◌, take_more, take_all, In, Named}
-use Rattle.rete_net.proofs.Common.{name_in, is_listed}
-use Rattle.fx_base.proofs.Sequences.{In-append}
+use Rattle.{rete_net.proofs.Common.{name_in, is_listed}, fx_base.proofs.Sequences.{In-append}}
 use Rattle.rete_net.proofs.forgetting.with_old.Goals as goal
 
 abbrev no_name : Named

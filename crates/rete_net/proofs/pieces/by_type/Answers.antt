@@ -1,6 +1,5 @@
 use Rattle.rete_net.proofs.Common.{◌∙◌, ap, sym, cond, List, [], ◌∷◌, ◌++◌, take_all, filter, Fact, lent, grouped_facts_at, is_fact_of_type}
-use Rattle.rete_net.proofs.Searched.{filter_more}
-use Rattle.std.specs.Borrow.{Bor}
+use Rattle.{rete_net.proofs.Searched.{filter_more}, std.specs.Borrow.{Bor}}
 use Rattle.rete_net.proofs.pieces.by_type.Goals as goal
 
 pub loop-fact-init : goal.loop-fact-init

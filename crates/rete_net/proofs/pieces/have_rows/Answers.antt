@@ -1,6 +1,5 @@
 use Rattle.rete_net.proofs.Common.{◌≡◌, ◌∙◌, ap, sym, subst, ◌∷◌, [], ◌++◌, ◌+◌, inl, inr, true, Some, slice_get, take, take_more, take_all, slice_get-get_or}
-use Rattle.rete_net.proofs.Common.{In, Extra, has, in_place}
-use Rattle.fx_base.proofs.Sequences.{In-append}
+use Rattle.{rete_net.proofs.Common.{In, Extra, has, in_place}, fx_base.proofs.Sequences.{In-append}}
 use Rattle.rete_net.proofs.pieces.have_rows.Goals as goal
 
 pub loop-extra-init : goal.loop-extra-init

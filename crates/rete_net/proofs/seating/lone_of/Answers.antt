@@ -1,6 +1,5 @@
 use Rattle.rete_net.proofs.Common.{◌≡◌, ◌∙◌, sym, ap, subst, ◌<◌, inl, inr, ℕ, Some, true, slice_get, length, arith, slice_get_within, slice_get-get_or}
-use Rattle.rete_net.proofs.Common.{NetNode, is_listed, seat_at}
-use Rattle.fx_base.proofs.Orders.{below_or_last}
+use Rattle.{rete_net.proofs.Common.{NetNode, is_listed, seat_at}, fx_base.proofs.Orders.{below_or_last}}
 use Rattle.rete_net.proofs.seating.lone_of.Goals as goal
 
 pub loop-place-init : goal.loop-place-init

@@ -1,7 +1,5 @@
 use Rattle.rete_net.proofs.{Common.{subst, sym, ◌∙◌, IsBefore, IsGateStill}, Gating.{gate_still}, Stillness.{if_before}, Scheduling.{told_lead, told_none}}
-use Rattle.rete_net.proofs.Scheduling.{told_own}
-use Rattle.fx_base.proofs.Sequences.{map-none, map-some}
-use Rattle.candidate_source.specs.Sources.{source_at}
+use Rattle.{rete_net.proofs.Scheduling.{told_own}, fx_base.proofs.Sequences.{map-none, map-some}, candidate_source.specs.Sources.{source_at}}
 use Rattle.rete_net.proofs.sourcing.gate_until.Goals as goal
 
 pub returns-then-is_lead : goal.returns-then-is_lead

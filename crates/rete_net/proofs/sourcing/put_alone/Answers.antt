@@ -1,5 +1,4 @@
-use Rattle.rete_net.proofs.{Common.{ap}, Kinship.{node_alone}}
-use Rattle.candidate_source.proofs.Moving.{ok_three}
+use Rattle.{rete_net.proofs.{Common.{ap}, Kinship.{node_alone}}, candidate_source.proofs.Moving.{ok_three}}
 use Rattle.rete_net.proofs.sourcing.put_alone.Goals as goal
 
 pub returns : goal.returns

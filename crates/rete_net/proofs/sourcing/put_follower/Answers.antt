@@ -1,5 +1,4 @@
-use Rattle.rete_net.proofs.{Common.{ap, refl, None}, Kinship.{node_follows}}
-use Rattle.std.proofs.lemmas.Option.{slice_get_within}
+use Rattle.{rete_net.proofs.{Common.{ap, refl, None}, Kinship.{node_follows}}, std.proofs.lemmas.Option.{slice_get_within}}
 use Rattle.candidate_source.proofs.Moving.{ok_three}
 use Rattle.rete_net.proofs.sourcing.put_follower.Goals as goal
 

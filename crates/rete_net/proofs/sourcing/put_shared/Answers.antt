@@ -1,5 +1,4 @@
-use Rattle.rete_net.proofs.{Common.{refl, None}, Kinship.{node_leads}}
-use Rattle.candidate_source.proofs.Moving.{ok_three}
+use Rattle.{rete_net.proofs.{Common.{refl, None}, Kinship.{node_leads}}, candidate_source.proofs.Moving.{ok_three}}
 use Rattle.rete_net.proofs.sourcing.put_shared.Goals as goal
 
 pub returns-in_ok-own-in-None : goal.returns-in_ok-own-in-None

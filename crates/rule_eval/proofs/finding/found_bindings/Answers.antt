@@ -1,5 +1,5 @@
-use Rattle.rule_eval.proofs.{Common.{◌∙◌, ap, drop, arith, flat_map, lent, extended, over}, Stepwise.{next, end}}
-use Rattle.fx_base.proofs.Sequences.{drop_at, drop_past}
+use Rattle.{rule_eval.proofs.{Common.{◌∙◌, ap, drop, arith, flat_map, lent, extended, over}, Stepwise.{next, end}}, fx_base.proofs.Sequences.{drop_at}}
+use Rattle.fx_base.proofs.Sequences.{drop_past}
 use Rattle.rule_eval.proofs.finding.found_bindings.Goals as goal
 
 pub loop-condition-preserved : goal.loop-condition-preserved

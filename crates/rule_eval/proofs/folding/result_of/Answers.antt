@@ -1,8 +1,6 @@
 use Rattle.rule_eval.proofs.Common.{◌≡◌, ◌+◌, ◌++◌, ◌∷◌, [], map, length, drop, to_z, of_z, sym, ◌∙◌, ap, subst, arith, ints, append-nil, HaveSame}
-use Rattle.rule_eval.proofs.{Common.{insert_rising, lent, w64}, Folds.{taken}}
-use Rattle.fold_fn.{specs.Results.{fold_result}, proofs.ResultLemmas.{length-insert, result_same}}
-use Rattle.rule_model.specs.Rows.{argument as argument_of}
-use Rattle.fx_base.proofs.Sequences.{drop_at, drop_past}
+use Rattle.{rule_eval.proofs.{Common.{insert_rising, lent, w64}, Folds.{taken}}, fold_fn.{specs.Results.{fold_result}, proofs.ResultLemmas.{length-insert}}}
+use Rattle.{fold_fn.proofs.ResultLemmas.{result_same}, rule_model.specs.Rows.{argument as argument_of}, fx_base.proofs.Sequences.{drop_at, drop_past}}
 use Rattle.rule_eval.proofs.folding.result_of.Goals as goal
 
 pub loop-fact-preserved : goal.loop-fact-preserved

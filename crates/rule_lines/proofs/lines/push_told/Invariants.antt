@@ -1,6 +1,4 @@
-use Rattle.std.proofs.Common.{◌++◌, ◌≡◌, take}
-use Rattle.change_rules.specs.Told.{told_list}
-use Rattle.rule_lines.specs.Told.{told_lines}
+use Rattle.{std.proofs.Common.{◌++◌, ◌≡◌, take}, change_rules.specs.Told.{told_list}, rule_lines.specs.Told.{told_lines}}
 use Rattle.rule_lines.proofs.lines.push_told.Given as goal
 
 abbrev pub invariant-loop-rule : goal.invariant-loop-rule

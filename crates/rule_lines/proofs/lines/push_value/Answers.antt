@@ -1,5 +1,4 @@
-use Rattle.std.{proofs.Common.{◌++◌, ◌≡◌, ◌∙◌, ◌∷◌, List, [], ap, append_assoc, ℕ}, specs.Prelude.{string_bytes}}
-use Rattle.answer_json.specs.Objects.{json_line}
+use Rattle.{std.{proofs.Common.{◌++◌, ◌≡◌, ◌∙◌, ◌∷◌, List, [], ap, append_assoc, ℕ}, specs.Prelude.{string_bytes}}, answer_json.specs.Objects.{json_line}}
 use Rattle.serde_json.specs.{View.{view}, Written.{compact_text}}
 use Rattle.rule_lines.proofs.lines.push_value.Goals as goal
 

@@ -1,5 +1,4 @@
-use Rattle.rule_model.proofs.Common.{◌≡◌, ◌-ℤ◌, ℤ, to_z, of_z, sym, ◌∙◌, ap, arith, ints, is_within}
-use Rattle.std.specs.{Prelude.{int_lt}, Int.{w128}}
+use Rattle.{rule_model.proofs.Common.{◌≡◌, ◌-ℤ◌, ℤ, to_z, of_z, sym, ◌∙◌, ap, arith, ints, is_within}, std.specs.{Prelude.{int_lt}, Int.{w128}}}
 use Rattle.rule_model.proofs.program.is_young.Goals as goal
 
 pub returns-in-Some : goal.returns-in-Some

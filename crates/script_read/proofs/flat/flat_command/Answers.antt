@@ -1,6 +1,6 @@
 use Rattle.script_read.proofs.Common.{◌≡◌, Some, option_and_then, sym, ap, ◌∙◌, value_view, members_view, of_json, read, max_depth, reading, object, if_last}
-use Rattle.script_read.proofs.{Common.{tree_command}, Forms.{same_command, asked_by}, Readings.{reading_of_text}}
-use Rattle.json.{specs.{Json.{value as value_in}, Lex.{tokens}}, proofs.Trees.{view-Object}}
+use Rattle.{script_read.proofs.{Common.{tree_command}, Forms.{same_command, asked_by}, Readings.{reading_of_text}}, json.specs.Json.{value as value_in}}
+use Rattle.json.{specs.Lex.{tokens}, proofs.Trees.{view-Object}}
 use Rattle.script_read.proofs.flat.flat_command.Goals as goal
 
 pub returns-in-Object : goal.returns-in-Object

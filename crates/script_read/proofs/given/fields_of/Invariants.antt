@@ -1,5 +1,4 @@
-use Rattle.script_read.proofs.Common.{◌≡◌, ◌++◌, givens}
-use Rattle.serde_json.specs.View.{members_view}
+use Rattle.{script_read.proofs.Common.{◌≡◌, ◌++◌, givens}, serde_json.specs.View.{members_view}}
 use Rattle.script_read.proofs.given.fields_of.Given as goal
 
 -- the fields so far and those of the members that are left are those of all

@@ -1,6 +1,5 @@
 use Rattle.script_read.proofs.{Common.{◌≡◌, Some, refl, sym, ap, subst, ◌∙◌, insert, value_view, put_given, tree_given, IsRising}, Fields.{one_field}}
-use Rattle.script_read.proofs.Rising.{none_rise, put_rises}
-use Rattle.serde_json.specs.Data.{no_members}
+use Rattle.{script_read.proofs.Rising.{none_rise, put_rises}, serde_json.specs.Data.{no_members}}
 use Rattle.script_read.proofs.tree.fields_in.Goals as goal
 
 pub loop-name-init : goal.loop-name-init

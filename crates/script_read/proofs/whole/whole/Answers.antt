@@ -1,6 +1,5 @@
 use Rattle.script_read.proofs.{Common.{◌≡◌, ◌==◌, true, false, drop, get_or, sym, ap, ◌∙◌, arith, take_all, length-drop, number_from}, Numbers.{same_number}}
-use Rattle.serde_json.specs.Read.{number_of}
-use Rattle.fast_float.specs.Text.{scan}
+use Rattle.{serde_json.specs.Read.{number_of}, fast_float.specs.Text.{scan}}
 use Rattle.script_read.proofs.whole.whole.Goals as goal
 
 pub returns-then-has_minus : goal.returns-then-has_minus

@@ -1,5 +1,4 @@
-use Rattle.script_run.proofs.Common.{◌≡◌, drop}
-use Rattle.change_resolve.specs.Changes.{type_named}
+use Rattle.{script_run.proofs.Common.{◌≡◌, drop}, change_resolve.specs.Changes.{type_named}}
 use Rattle.script_run.proofs.live.place_of_type.Given as goal
 
 abbrev pub invariant-loop-place : goal.invariant-loop-place

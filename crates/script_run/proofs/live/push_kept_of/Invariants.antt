@@ -1,5 +1,4 @@
-use Rattle.script_run.{proofs.Common.{◌≡◌, ◌++◌, drop, written_kept}, specs.Live.{of_type}}
-use Rattle.rule_model.specs.Lent.{lent}
+use Rattle.{script_run.{proofs.Common.{◌≡◌, ◌++◌, drop, written_kept}, specs.Live.{of_type}}, rule_model.specs.Lent.{lent}}
 use Rattle.script_run.proofs.live.push_kept_of.Given as goal
 
 abbrev pub invariant-loop-fact : goal.invariant-loop-fact

@@ -1,5 +1,4 @@
-use Rattle.script_run.proofs.{Common.{ap, ◌∙◌, append, empty_world}, Faults.{err_as}}
-use Rattle.line_run.proofs.Ahead.{if_told}
+use Rattle.{script_run.proofs.{Common.{ap, ◌∙◌, append, empty_world}, Faults.{err_as}}, line_run.proofs.Ahead.{if_told}}
 use Rattle.script_run.proofs.running.run.Goals as goal
 
 pub returns-in-Ok-clause-done : goal.returns-in-Ok-clause-done

@@ -1,5 +1,4 @@
-use Rattle.script_run.proofs.Common.{◌≡◌, ◌++◌, drop, written_kept}
-use Rattle.rule_model.specs.Lent.{lent}
+use Rattle.{script_run.proofs.Common.{◌≡◌, ◌++◌, drop, written_kept}, rule_model.specs.Lent.{lent}}
 use Rattle.script_run.proofs.written.push_kept.Given as goal
 
 abbrev pub invariant-loop-fact : goal.invariant-loop-fact

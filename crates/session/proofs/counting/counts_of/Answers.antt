@@ -1,5 +1,4 @@
-use Rattle.session.proofs.Common.{◌<◌, length, take_more, TypeId}
-use Rattle.session_model.proofs.Counting_on.{one_more_count}
+use Rattle.{session.proofs.Common.{◌<◌, length, take_more, TypeId}, session_model.proofs.Counting_on.{one_more_count}}
 use Rattle.session.proofs.counting.counts_of.Goals as goal
 
 pub loop-ty-preserved : goal.loop-ty-preserved

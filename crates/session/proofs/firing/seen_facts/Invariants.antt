@@ -1,5 +1,4 @@
-use Rattle.session.proofs.Common.{◌≡◌, ◌++◌, drop, filter_map}
-use Rattle.session_model.specs.Places.{seen_at}
+use Rattle.{session.proofs.Common.{◌≡◌, ◌++◌, drop, filter_map}, session_model.specs.Places.{seen_at}}
 use Rattle.session.proofs.firing.seen_facts.Given as goal
 
 abbrev pub invariant-loop-named : goal.invariant-loop-named

@@ -1,5 +1,4 @@
-use Rattle.session.proofs.Common.{FitsSigned, to_z-of_z, w64, held_again, released_free}
-use Rattle.session_model.proofs.Inserting.{on_ok_weaker}
+use Rattle.{session.proofs.Common.{FitsSigned, to_z-of_z, w64, held_again, released_free}, session_model.proofs.Inserting.{on_ok_weaker}}
 use Rattle.session.proofs.moving.hold.Goals as goal
 
 pub hold-requires : goal.hold-requires

@@ -1,5 +1,4 @@
-use Rattle.session.proofs.Common.{◌≡◌, ◌==◌, ◌||◌, ℕ, take, list_any, is_tag_among}
-use Rattle.row_delta.specs.declared.row.Named.{Named as NamedData}
+use Rattle.{session.proofs.Common.{◌≡◌, ◌==◌, ◌||◌, ℕ, take, list_any, is_tag_among}, row_delta.specs.declared.row.Named.{Named as NamedData}}
 use Rattle.session.proofs.refreshing.add_names.Given as goal
 
 abbrev pub invariant-loop-name : goal.invariant-loop-name

@@ -1,5 +1,5 @@
-use Rattle.session.proofs.Common.{◌≡◌, ◌==◌, ◌||◌, ℕ, take, list_any, is_tag_among}
-use Rattle.row_delta.specs.declared.row.{Named.{Named as NamedData}, Row.{Row as RowData}}
+use Rattle.{session.proofs.Common.{◌≡◌, ◌==◌, ◌||◌, ℕ, take, list_any, is_tag_among}, row_delta.specs.declared.row.Named.{Named as NamedData}}
+use Rattle.row_delta.specs.declared.row.Row.{Row as RowData}
 use Rattle.session.proofs.refreshing.add_rows.Given as goal
 
 abbrev pub invariant-loop-row : goal.invariant-loop-row

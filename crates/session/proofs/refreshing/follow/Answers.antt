@@ -1,7 +1,6 @@
 use Rattle.session.proofs.Common.{◌≡◌, ◌∙◌, List, filter_map, option_map, refl, sym, subst, Fact, lent, clean_rows, facts_at, instant_at}
-use Rattle.pattern_gate.specs.Moves.{MovesSnapshot}
-use Rattle.rete_net.specs.{Doors.{rule_count}, Forgetting.{AreNotNeeded}}
-use Rattle.session_model.proofs.Leads.{found_going, has_before, has_behind, leads_move, on_ok}
+use Rattle.{pattern_gate.specs.Moves.{MovesSnapshot}, rete_net.specs.{Doors.{rule_count}, Forgetting.{AreNotNeeded}}, session_model.proofs.Leads.{found_going}}
+use Rattle.session_model.proofs.Leads.{has_before, has_behind, leads_move, on_ok}
 use Rattle.session.proofs.refreshing.follow.Goals as goal
 use Rattle.std.specs.FinMap as map
 

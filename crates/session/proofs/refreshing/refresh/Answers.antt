@@ -1,6 +1,5 @@
 use Rattle.session.proofs.Common.{◌≡◌, ◌∙◌, ◌||◌, List, [], ap, sym, subst, In, Row, is_tag_among, none_left, all_made, change_turn, none_ahead, names_in}
-use Rattle.session.proofs.Common.{left_turn, none_made, rules_turn}
-use Rattle.fx_base.proofs.Sequences.{empty_from_length}
+use Rattle.{session.proofs.Common.{left_turn, none_made, rules_turn}, fx_base.proofs.Sequences.{empty_from_length}}
 use Rattle.session.proofs.refreshing.refresh.Goals as goal
 
 pub loop-change-init : goal.loop-change-init

@@ -1,5 +1,4 @@
-use Rattle.session.proofs.Common.{◌∙◌, refl, added_pending, added_turn, none_added}
-use Rattle.fx_base.proofs.Sequences.{empty_from_length}
+use Rattle.{session.proofs.Common.{◌∙◌, refl, added_pending, added_turn, none_added}, fx_base.proofs.Sequences.{empty_from_length}}
 use Rattle.session.proofs.restoring.put_rows.Goals as goal
 
 pub loop-change-init : goal.loop-change-init

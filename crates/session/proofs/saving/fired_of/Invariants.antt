@@ -1,5 +1,4 @@
-use Rattle.session.proofs.Common.{◌≡◌, ◌++◌, IsStrictlySortedBy, match_cmp, match_fired}
-use Rattle.std.proofs.Common.{map as list_map}
+use Rattle.{session.proofs.Common.{◌≡◌, ◌++◌, IsStrictlySortedBy, match_cmp, match_fired}, std.proofs.Common.{map as list_map}}
 use Rattle.session.proofs.saving.fired_of.Given as goal
 
 abbrev pub invariant-loop-matched : goal.invariant-loop-matched

@@ -1,6 +1,5 @@
 use Rattle.session.proofs.Common.{◌≡◌, ◌∙◌, ◌<◌, ◌&&◌, ◌==◌, not, ap, refl, List, arith, Row, has, has_match, all_ahead, drop_turn, nothing_ahead, place_within}
-use Rattle.std.proofs.Common.{rules as std_rules}
-use Rattle.session_model.proofs.Dropping.{none_ahead}
+use Rattle.{std.proofs.Common.{rules as std_rules}, session_model.proofs.Dropping.{none_ahead}}
 use Rattle.session.proofs.settling.drop_fired.Goals as goal
 
 pub loop-answer-init : goal.loop-answer-init

@@ -1,6 +1,4 @@
-use Rattle.session.proofs.Common.{◌≡◌, ◌<◌, ◌^◌, ℕ}
-use Rattle.rete_net.specs.Dropped.{AreListed}
-use Rattle.session_model.proofs.Dropping.{AreAhead}
+use Rattle.{session.proofs.Common.{◌≡◌, ◌<◌, ◌^◌, ℕ}, rete_net.specs.Dropped.{AreListed}, session_model.proofs.Dropping.{AreAhead}}
 use Rattle.session.proofs.settling.drop_fired.Given as goal
 
 abbrev pub invariant-loop-answer : goal.invariant-loop-answer

@@ -1,5 +1,4 @@
-use Rattle.session.proofs.Common.{◌≡◌, ◌++◌, drop, filter_map, option_map}
-use Rattle.rule_model.specs.Tuples.{name_of}
+use Rattle.{session.proofs.Common.{◌≡◌, ◌++◌, drop, filter_map, option_map}, rule_model.specs.Tuples.{name_of}}
 use Rattle.std.specs.FinMap as map
 use Rattle.session.proofs.settling.names_at.Given as goal
 

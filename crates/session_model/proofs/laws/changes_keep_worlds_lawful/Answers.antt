@@ -1,5 +1,4 @@
-use Rattle.answer_lines.specs.declared.lines.Detail.TheVariants.{Brief}
-use Rattle.session_model.proofs.Asking.{gives_lawful}
+use Rattle.{answer_lines.specs.declared.lines.Detail.TheVariants.{Brief}, session_model.proofs.Asking.{gives_lawful}}
 use Rattle.session_model.proofs.laws.changes_keep_worlds_lawful.Goals as goal
 
 pub returns : goal.returns

@@ -1,5 +1,4 @@
-use Rattle.std.proofs.Common.{ap}
-use Rattle.session_model.proofs.Detailed.{fires_alike, gives_briefly}
+use Rattle.{std.proofs.Common.{ap}, session_model.proofs.Detailed.{fires_alike, gives_briefly}}
 use Rattle.session_model.proofs.laws.worlds_do_not_depend_on_the_detail.Goals as goal
 
 pub returns-clause-changes : goal.returns-clause-changes

@@ -1,5 +1,4 @@
-use Rattle.subrules.proofs.Common.{◌≡◌, ◌++◌, map, at_line}
-use Rattle.drl_grammar.specs.declared.file.Body.TheVariants.{Rule}
+use Rattle.{subrules.proofs.Common.{◌≡◌, ◌++◌, map, at_line}, drl_grammar.specs.declared.file.Body.TheVariants.{Rule}}
 use Rattle.subrules.proofs.expanding.add_rules.Given as goal
 
 abbrev pub invariant-loop-rule : goal.invariant-loop-rule

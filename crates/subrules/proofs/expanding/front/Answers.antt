@@ -1,6 +1,5 @@
 use Rattle.subrules.{proofs.Common.{◌+◌, ◌++◌, ◌∙◌, sym, ap, map, take, arith, plain_items, titles_in, origins_from}, specs.Expanded.{plain_bodies}}
-use Rattle.subrules.proofs.FrontLaws.{each_next, origins_next}
-use Rattle.drl_grammar.specs.declared.{file.Body.{Body}, written.WrittenItem.{WrittenItem}}
+use Rattle.{subrules.proofs.FrontLaws.{each_next, origins_next}, drl_grammar.specs.declared.{file.Body.{Body}, written.WrittenItem.{WrittenItem}}}
 use Rattle.subrules.proofs.expanding.front.Goals as goal
 
 pub loop-item-preserved : goal.loop-item-preserved

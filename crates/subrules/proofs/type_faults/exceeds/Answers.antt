@@ -1,5 +1,4 @@
-use Rattle.subrules.{proofs.{Common.{◌&&◌, ◌∙◌, nat_lt, sym, ap, subst}, KnownLaws.{many_counted}}, specs.Known.{IsCount}}
-use Rattle.std.specs.Prelude.{IfSome}
+use Rattle.{subrules.{proofs.{Common.{◌&&◌, ◌∙◌, nat_lt, sym, ap, subst}, KnownLaws.{many_counted}}, specs.Known.{IsCount}}, std.specs.Prelude.{IfSome}}
 use Rattle.subrules.proofs.type_faults.exceeds.Goals as goal
 
 pub returns-then-is_some : goal.returns-then-is_some

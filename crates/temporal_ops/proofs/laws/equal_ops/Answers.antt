@@ -1,8 +1,7 @@
 use Rattle.temporal_ops.proofs.Common.{◌≡◌, ℕ, ◌-◌, ◌++◌, ◌&&◌, List, length, take, int_eq, refl, sym, ◌∙◌, ap, replicate, take-append_seam, Corner, AStart}
 use Rattle.temporal_ops.{proofs.Common.{AEnd, BStart, BEnd, OpEdge, blank}, specs.contracts.edge.CornerPartialEq.TheImpl.{ghosts as corner_equality}}
-use Rattle.temporal_ops.specs.contracts.edge.OpEdgePartialEq.TheImpl.{ghosts as edge_equality}
-use Rattle.std.{specs.{Bool.{Decides}, Cmp.Lexicographic.{pointwise_decides}}, proofs.lemmas.Bool.{eqb-true, eq-eqb, and_from, and_parts}}
-use Rattle.std.proofs.lemmas.Bool.Decides.{Decides-int_eq}
+use Rattle.{temporal_ops.specs.contracts.edge.OpEdgePartialEq.TheImpl.{ghosts as edge_equality}, std.specs.Bool.{Decides}}
+use Rattle.std.{specs.Cmp.Lexicographic.{pointwise_decides}, proofs.lemmas.Bool.{eqb-true, eq-eqb, and_from, and_parts, Decides.{Decides-int_eq}}}
 use Rattle.temporal_ops.proofs.laws.equal_ops.Goals as goal
 
 corner_decides : (x y : Corner) → Decides (corner_equality.eq x y) (x ≡ y)

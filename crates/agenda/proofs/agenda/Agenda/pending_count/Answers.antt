@@ -1,5 +1,4 @@
-use Rattle.agenda.proofs.{Common.{subst, Marks, fire_cmp}, Ranks.{sorted_matches}}
-use Rattle.std.specs.List.Sorted.{IsStrictlySortedBy}
+use Rattle.{agenda.proofs.{Common.{subst, Marks, fire_cmp}, Ranks.{sorted_matches}}, std.specs.List.Sorted.{IsStrictlySortedBy}}
 use Rattle.agenda.proofs.agenda.Agenda.pending_count.Goals as goal
 
 pub returns-clause-order : goal.returns-clause-order

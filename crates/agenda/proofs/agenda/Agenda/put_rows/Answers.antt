@@ -1,5 +1,4 @@
-use Rattle.agenda.proofs.{Common.{◌∙◌, ◌==◌}, Steps.{put_next, all_put}}
-use Rattle.fx_base.proofs.Sequences.{empty_from_length}
+use Rattle.{agenda.proofs.{Common.{◌∙◌, ◌==◌}, Steps.{put_next, all_put}}, fx_base.proofs.Sequences.{empty_from_length}}
 use Rattle.agenda.proofs.agenda.Agenda.put_rows.Goals as goal
 
 pub loop-row-preserved : goal.loop-row-preserved

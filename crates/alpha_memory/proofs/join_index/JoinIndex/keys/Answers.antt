@@ -1,5 +1,4 @@
-use Rattle.alpha_memory.proofs.{Common.{◌≡◌, arith}, Keys.{keys_in, are_keys}}
-use Rattle.std.proofs.lemmas.Grind.{common_steps}
+use Rattle.{alpha_memory.proofs.{Common.{◌≡◌, arith}, Keys.{keys_in, are_keys}}, std.proofs.lemmas.Grind.{common_steps}}
 use Rattle.alpha_memory.proofs.join_index.JoinIndex.keys.Goals as goal
 
 pub returns : goal.returns

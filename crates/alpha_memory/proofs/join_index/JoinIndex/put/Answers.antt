@@ -1,6 +1,5 @@
 use Rattle.alpha_memory.{proofs.Common.{sym, ap, cond, Some, None, is_some, on_ok_weaker, on_err_weaker}, specs.declared.bucket.Bucket.TheVariants.{One}}
-use Rattle.alpha_memory.proofs.Buckets.{one_kept, same_buckets}
-use Rattle.std.proofs.lemmas.Cmp.{eq_by_cmp_equiv}
+use Rattle.{alpha_memory.proofs.Buckets.{one_kept, same_buckets}, std.proofs.lemmas.Cmp.{eq_by_cmp_equiv}}
 use Rattle.alpha_memory.proofs.join_index.JoinIndex.put.Goals as goal
 
 pub returns-in-Some-clause-kept : goal.returns-in-Some-clause-kept

@@ -1,5 +1,4 @@
-use Rattle.beta_join.proofs.{Common.{refl, made, sharing}, Turns.{handed_lead}}
-use Rattle.join_memory.proofs.Handed.{stepped_shared}
+use Rattle.{beta_join.proofs.{Common.{refl, made, sharing}, Turns.{handed_lead}}, join_memory.proofs.Handed.{stepped_shared}}
 use Rattle.beta_join.proofs.join.BetaJoin.advance_turned.Goals as goal
 
 pub returns-clause-kept : goal.returns-clause-kept

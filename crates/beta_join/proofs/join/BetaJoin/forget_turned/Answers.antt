@@ -1,5 +1,4 @@
-use Rattle.beta_join.proofs.{Common.{made, sharing, keeps_shared}, Turns.{handed_leave}}
-use Rattle.join_memory.proofs.Handed.{forgone_handed}
+use Rattle.{beta_join.proofs.{Common.{made, sharing, keeps_shared}, Turns.{handed_leave}}, join_memory.proofs.Handed.{forgone_handed}}
 use Rattle.beta_join.proofs.join.BetaJoin.forget_turned.Goals as goal
 
 pub returns-clause-kept : goal.returns-clause-kept

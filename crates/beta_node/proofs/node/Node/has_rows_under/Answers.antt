@@ -1,5 +1,4 @@
-use Rattle.beta_node.{proofs.Common.{◌≡◌, sym, ap, subst, false, Node}, specs.Lending.{node_has_under, node_keeps_under}}
-use Rattle.std.specs.Option.{is_some}
+use Rattle.{beta_node.{proofs.Common.{◌≡◌, sym, ap, subst, false, Node}, specs.Lending.{node_has_under, node_keeps_under}}, std.specs.Option.{is_some}}
 use Rattle.beta_node.proofs.node.Node.has_rows_under.Goals as goal
 
 pub returns-in-Join : goal.returns-in-Join

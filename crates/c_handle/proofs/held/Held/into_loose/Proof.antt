@@ -1,26 +1,15 @@
 -- `into_loose` tests the pointer, which is null where nothing is held.
 use Rattle.std.{proofs.Common.{◌≡◌, List, [], ◌∷◌, ◌++◌, refl, sym, ap, ◌∙◌, subst, lit<}, specs.declared.option.Option.TheVariants.{None, Some}}
 use Rattle.std.proofs.{alloc.{Calls.{Goes-blank, handle_tells}, Shapes.{after}}, cell.Inside.{Good}, option.Made.{Some-of, none_of}, ResultValues.{and_tt}}
-use mir.Syntax.{a_type, ty_ptr}
-use mir.Val.{Val, vnull, vptr, vcons, vnil}
-use mir.MapTy.{inst_fn}
-use base.Logic.{SProp, ent, emp, id⊢}
-use base.Fml.{ftrue, flft}
+use mir.{Syntax.{a_type, ty_ptr}, Val.{Val, vnull, vptr, vcons, vnil}, MapTy.{inst_fn}}
+use base.{Logic.{SProp, ent, emp, id⊢}, Fml.{ftrue, flft}}
 use prog.Wp.{WpFn}
-use types.Kit.{‵, raw, ◌⊛◌, at_ret, ◌$◌, ◌∵◌, !, qed, by, move, keep, drop, split, fsplit, fjoin, suffices, use0, use1}
-use types.Run.{stop, fld, lit, of_opd, bin, no_more, and_then, first, branches, exec, returns, enter}
-use types.ByLocal.{alloc_all, pass_all, free_all, look_at, get, get_in, sets, sets_last, env}
-use types.Part.{agg, sub, whole}
-use types.Match.{live}
-use contract.Monad.{fact, fact_i}
-use contract.Running.{tables}
-use denote.Exit.{yes, no}
-use denote.RattleType.{RattleType, owns}
-use denote.RawPtr.{Ptr, block_ptr, null_ptr, ptr_val, tests_null}
-use denote.Signature.{types_at, type_at, plain}
-use denote.Steps.{nothing}
-use denote.Param.{param, layout, layouts}
-use denote.Triple.Walked.{Stays, stay_dropped, walk_of, Goes-dropped}
+use types.{Kit.{‵, raw, ◌⊛◌, at_ret, ◌$◌, ◌∵◌, !, qed, by, move, keep, drop, split, fsplit, fjoin, suffices, use0, use1}, Run.{stop, fld, lit, of_opd, bin}}
+use types.{Run.{no_more, and_then, first, branches, exec, returns, enter}, ByLocal.{alloc_all, pass_all, free_all, look_at, get, get_in, sets, sets_last, env}}
+use types.{Part.{agg, sub, whole}, Match.{live}}
+use contract.{Monad.{fact, fact_i}, Running.{tables}}
+use denote.{Exit.{yes, no}, RattleType.{RattleType, owns}, RawPtr.{Ptr, block_ptr, null_ptr, ptr_val, tests_null}, Signature.{types_at, type_at, plain}}
+use denote.{Steps.{nothing}, Param.{param, layout, layouts}, Triple.Walked.{Stays, stay_dropped, walk_of, Goes-dropped}}
 use Rattle.std.specs.contracts.alloc.Global as heap
 use Rattle.std.proofs.alloc.Global.TheLaws as heap_laws
 use Rattle.std.{specs.contracts.impls.GlobalAllocator.TheImpl.{ghosts}, proofs.raw_atomic.Walks.{proved_at, leaves}}

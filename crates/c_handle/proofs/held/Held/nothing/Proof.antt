@@ -1,21 +1,12 @@
 -- `nothing` makes the pointer null.
 use Rattle.std.{proofs.{Common.{◌≡◌, [], ◌∷◌, refl, lit<}, raw_atomic.Walks.{proved, leaves}}, specs.declared.option.Option.TheVariants.{None}}
-use mir.Syntax.{a_type}
-use mir.Val.{Val, vnull}
-use mir.MapTy.{inst_fn}
+use mir.{Syntax.{a_type}, Val.{Val, vnull}, MapTy.{inst_fn}}
 use base.Logic.{SProp, emp}
-use types.Kit.{‵, raw, ◌⊛◌, ◌$◌, ◌∵◌, !, qed, by, keep, split, use0}
-use types.Run.{lit, no_more, and_then, returns, enter}
-use types.ByLocal.{alloc_all, pass_all, free_all, look_at, sets}
-use types.Part.{agg}
-use contract.Monad.{fact, fact_i}
-use contract.Running.{tables}
-use denote.RattleType.{RattleType, owns}
-use denote.RawPtr.{null_ptr}
-use denote.Signature.{types_at}
-use denote.Steps.{nothing}
-use denote.Param.{param, layouts}
-use denote.Triple.{Entry.{alive}, Walked.{Stays, walk_of}}
+use types.{Kit.{‵, raw, ◌⊛◌, ◌$◌, ◌∵◌, !, qed, by, keep, split, use0}, Run.{lit, no_more, and_then, returns, enter}, ByLocal.{alloc_all, pass_all, free_all}}
+use types.{ByLocal.{look_at, sets}, Part.{agg}}
+use contract.{Monad.{fact, fact_i}, Running.{tables}}
+use denote.{RattleType.{RattleType, owns}, RawPtr.{null_ptr}, Signature.{types_at}, Steps.{nothing}, Param.{param, layouts}, Triple.Entry.{alive}}
+use denote.Triple.Walked.{Stays, walk_of}
 use Rattle.c_handle.specs.contracts.held.Held as held
 use Rattle.c_handle.{proofs.Values.{alone, held_in}, specs.contracts.held.Held.nothing.{ended, clauses, Key.{name as #self}}}
 use Rattle.c_handle.proofs.held.Held.nothing.Statement.{statement}

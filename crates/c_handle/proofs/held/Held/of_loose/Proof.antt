@@ -1,23 +1,12 @@
 -- `of_loose` keeps the pointer.
 use Rattle.std.{proofs.{Common.{◌≡◌, List, [], ◌∷◌, ◌++◌, refl, sym, subst}, alloc.Calls.{Goes-blank}}, specs.declared.option.Option.TheVariants.{Some}}
-use mir.Syntax.{a_type}
-use mir.Val.{Val, vptr}
-use mir.MapTy.{inst_fn}
-use base.Logic.{SProp, ent, emp, id⊢}
-use base.Fml.{ftrue, flft}
+use mir.{Syntax.{a_type}, Val.{Val, vptr}, MapTy.{inst_fn}}
+use base.{Logic.{SProp, ent, emp, id⊢}, Fml.{ftrue, flft}}
 use prog.Wp.{WpFn}
-use types.Kit.{‵, raw, ◌⊛◌, ◌$◌, ◌∵◌, !, qed, by, move, keep, split, fsplit, fjoin, suffices, use0}
-use types.Run.{stop, fld, of_opd, no_more, and_then, returns, enter}
-use types.ByLocal.{alloc_all, pass_all, free_all, look_at, get, get_in, sets}
-use types.Part.{agg, sub, whole}
-use contract.Monad.{fact, fact_i}
-use contract.Running.{tables}
-use denote.Exit.{no}
-use denote.RattleType.{RattleType, owns}
-use denote.RawPtr.{block_ptr}
-use denote.Signature.{types_at, plain}
-use denote.Steps.{nothing}
-use denote.Param.{param, layouts}
+use types.{Kit.{‵, raw, ◌⊛◌, ◌$◌, ◌∵◌, !, qed, by, move, keep, split, fsplit, fjoin, suffices, use0}, Run.{stop, fld, of_opd, no_more, and_then, returns}}
+use types.{Run.{enter}, ByLocal.{alloc_all, pass_all, free_all, look_at, get, get_in, sets}, Part.{agg, sub, whole}}
+use contract.{Monad.{fact, fact_i}, Running.{tables}}
+use denote.{Exit.{no}, RattleType.{RattleType, owns}, RawPtr.{block_ptr}, Signature.{types_at, plain}, Steps.{nothing}, Param.{param, layouts}}
 use denote.Triple.Walked.{Stays, stay_dropped, walk_of}
 use Rattle.std.specs.contracts.alloc.Global as heap
 use Rattle.std.proofs.alloc.Global.TheLaws as heap_laws

@@ -1,32 +1,20 @@
 -- `into_box` makes the box again.
 use Rattle.std.proofs.{Common.{◌≡◌, List, [], ◌∷◌, ◌++◌, refl, sym, ap, subst}, alloc.{Calls.{Goes-blank}, Shapes.{after}}, cell.Inside.{Good}}
-use mir.Syntax.{a_type, dcons, dnil}
-use mir.Val.{Val, vptr}
-use mir.MapTy.{inst_fn}
-use base.Logic.{SProp, ent, id⊢}
-use base.Fml.{ftrue, flft}
+use mir.{Syntax.{a_type, dcons, dnil}, Val.{Val, vptr}, MapTy.{inst_fn}}
+use base.{Logic.{SProp, ent, id⊢}, Fml.{ftrue, flft}}
 use prog.Wp.{WpFn}
 use types.Kit.{‵, raw, ◌⊛◌, some, later, at_ret, ◌$◌, ◌∵◌, !, qed, by, move, keep, drop, split, split3, join, fsplit, fjoin, pick, suffices, use1, await}
-use types.Kit.{rewrite, feq_i}
-use types.Run.{stop, fld, of_opd, no_more, and_then, first, blocks, exec, returns, enter}
-use types.ByLocal.{alloc_all, pass_all, free_all, look_at, get, get_in, sets, lands_last, env}
-use types.Part.{sub, whole}
-use contract.Monad.{fact}
-use contract.BorrowLft.{◌⊑◌}
-use contract.Running.{tables}
-use denote.Exit.{no}
-use denote.RattleType.{RattleType, owns}
-use denote.Signature.{types_at, plain}
-use denote.RawPtr.{block_ptr}
-use denote.Steps.{nothing, only}
-use denote.Param.{param, layout, bounded, Laws.{param_laws}}
-use denote.Triple.{Clauses.{Lasts, lasts}, Spec.{triple_of}, Call.{calls_at_last}, Walked.{Stays, stay_dropped, walk_of}, Table.{framed}}
+use types.{Kit.{rewrite, feq_i}, Run.{stop, fld, of_opd, no_more, and_then, first, blocks, exec, returns, enter}, ByLocal.{alloc_all, pass_all, free_all}}
+use types.{ByLocal.{look_at, get, get_in, sets, lands_last, env}, Part.{sub, whole}}
+use contract.{Monad.{fact}, BorrowLft.{◌⊑◌}, Running.{tables}}
+use denote.{Exit.{no}, RattleType.{RattleType, owns}, Signature.{types_at, plain}, RawPtr.{block_ptr}, Steps.{nothing, only}, Param.{param, layout, bounded}}
+use denote.{Param.Laws.{param_laws}, Triple.{Clauses.{Lasts, lasts}, Spec.{triple_of}, Call.{calls_at_last}, Walked.{Stays, stay_dropped, walk_of}}}
+use denote.Triple.Table.{framed}
 use Rattle.std.proofs.BoxSteps.Form as box
-use Rattle.std.proofs.{BoxSteps.Steps.{box_out, box_in}, raw_atomic.Walks.{proved_at, leaves}}
-use Rattle.c_handle.proofs.Values.{both, Loose, loose_good, loose_out}
+use Rattle.{std.proofs.{BoxSteps.Steps.{box_out, box_in}, raw_atomic.Walks.{proved_at, leaves}}, c_handle.proofs.Values.{both, Loose, loose_good, loose_out}}
 use Rattle.std.specs.contracts.boxed.Box.from_raw as callee
-use Rattle.std.proofs.boxed.Box.from_raw.Met.{met}
-use Rattle.c_handle.{specs.contracts.loose.Loose.into_box.{ended, clauses, Key.{name as #self}}, proofs.loose.Loose.into_box.Statement.{statement}}
+use Rattle.{std.proofs.boxed.Box.from_raw.Met.{met}, c_handle.specs.contracts.loose.Loose.into_box.{ended, clauses, Key.{name as #self}}}
+use Rattle.c_handle.proofs.loose.Loose.into_box.Statement.{statement}
 use Rattle.c_handle.proofs.loose.Loose.into_box.Code as code
 
 pub into_box_spec : {M : Type 1} → statement M

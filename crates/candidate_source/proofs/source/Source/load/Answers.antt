@@ -1,6 +1,5 @@
 use Rattle.candidate_source.proofs.{Common.{◌∙◌, ap, List, Named, Row, is_some, has, has_name, row_naming}, Steps.{loaded_names, loaded_listed, loaded_agrees}}
-use Rattle.std.proofs.Common.{to_z-of_z}
-use Rattle.condition_rows.specs.Sets.{candidates_of}
+use Rattle.{std.proofs.Common.{to_z-of_z}, condition_rows.specs.Sets.{candidates_of}}
 use Rattle.candidate_source.proofs.source.Source.load.Goals as goal
 
 pub returns-clause-gate : goal.returns-clause-gate

@@ -1,5 +1,4 @@
-use Rattle.candidate_source.proofs.Common.{◌∙◌, ap, is_some, ◌&&◌, eq_by_cmp, nat_cmp, same_value, at}
-use Rattle.join_memory.proofs.Keeping.{some_taken}
+use Rattle.{candidate_source.proofs.Common.{◌∙◌, ap, is_some, ◌&&◌, eq_by_cmp, nat_cmp, same_value, at}, join_memory.proofs.Keeping.{some_taken}}
 use Rattle.candidate_source.proofs.source.Source.take_reached.Goals as goal
 
 pub returns-clause-reached : goal.returns-clause-reached

@@ -1,5 +1,5 @@
-use Rattle.candidate_source.proofs.{Common.{◌∙◌, ap, List, Named, Row, has, has_name, row_naming}, Steps.{turned, others_kept}}
-use Rattle.std.proofs.{Common.{to_z-of_z}, lemmas.Result.{on_ok_weaker}}
+use Rattle.{candidate_source.proofs.{Common.{◌∙◌, ap, List, Named, Row, has, has_name, row_naming}, Steps.{turned, others_kept}}, std.proofs.Common.{to_z-of_z}}
+use Rattle.std.proofs.lemmas.Result.{on_ok_weaker}
 use Rattle.candidate_source.proofs.source.Source.turn.Goals as goal
 
 pub returns-clause-turned : goal.returns-clause-turned

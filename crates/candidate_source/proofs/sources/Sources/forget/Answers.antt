@@ -1,5 +1,4 @@
-use Rattle.std.proofs.lemmas.Result.{on_ok_weaker}
-use Rattle.candidate_source.proofs.Resting.{begun_apart, have_forgotten, unhanded_empty}
+use Rattle.{std.proofs.lemmas.Result.{on_ok_weaker}, candidate_source.proofs.Resting.{begun_apart, have_forgotten, unhanded_empty}}
 use Rattle.candidate_source.proofs.sources.Sources.forget.Goals as goal
 
 pub returns-clause-forgotten : goal.returns-clause-forgotten

@@ -1,5 +1,5 @@
-use Rattle.candidate_source.proofs.{Common.{◌≡◌, Some, HaveLeft}, Moving.{lent_there, missing_none, one_moved}}
-use Rattle.std.proofs.{Common.{slice_get}, lemmas.Result.{on_ok_weaker}}
+use Rattle.{candidate_source.proofs.{Common.{◌≡◌, Some, HaveLeft}, Moving.{lent_there, missing_none, one_moved}}, std.proofs.Common.{slice_get}}
+use Rattle.std.proofs.lemmas.Result.{on_ok_weaker}
 use Rattle.candidate_source.proofs.sources.Sources.forget_if_led.Goals as goal
 
 pub returns-in-Some-get_mut-clause-moved : goal.returns-in-Some-get_mut-clause-moved

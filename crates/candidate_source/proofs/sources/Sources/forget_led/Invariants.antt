@@ -1,6 +1,5 @@
 use Rattle.candidate_source.{proofs.Common.{has_place, nat_cmp, HaveLeft}, specs.{declared.sources.Sources.{Sources}, Moving.{HaveMoved}, Sources.{AreApart}}}
-use Rattle.candidate_source.specs.Sources.{AreLaidAs, AreReachedAs}
-use Rattle.std.specs.List.Sorted.{IsStrictlySortedBy}
+use Rattle.{candidate_source.specs.Sources.{AreLaidAs, AreReachedAs}, std.specs.List.Sorted.{IsStrictlySortedBy}}
 use Rattle.candidate_source.proofs.sources.Sources.forget_led.Given as goal
 
 -- what the places that are left move, all move

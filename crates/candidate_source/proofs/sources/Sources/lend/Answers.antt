@@ -1,6 +1,6 @@
 use Rattle.candidate_source.{proofs.{Common.{◌∙◌, ap, sym, ℕ, Option}, Moving.{lent_item}}, specs.{Lending.{with_given}, Sources.{in_list}}}
-use borrow.Follows.Closed.{read_of}
 use Rattle.std.specs.Option.{ghost_name_of}
+use borrow.Follows.Closed.{read_of}
 use Rattle.candidate_source.proofs.sources.Sources.lend.Goals as goal
 
 pub returns-in-Some : goal.returns-in-Some

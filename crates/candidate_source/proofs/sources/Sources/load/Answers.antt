@@ -1,6 +1,6 @@
 use Rattle.candidate_source.proofs.{Common.{◌∙◌, ap, sym, refl, subst, ◌≡◌, ◌+◌, [], ◌∷◌, length, Some}, Growing.{AreAllLoaded, loaded_apart, loaded_each}}
-use Rattle.candidate_source.proofs.Growing.{loaded_laid, loaded_more, loaded_none}
-use Rattle.std.proofs.{Common.{to_z-of_z, arith, length-append, slice_get}, lemmas.Option.{slice_get-get_or}}
+use Rattle.{candidate_source.proofs.Growing.{loaded_laid, loaded_more, loaded_none}, std.proofs.Common.{to_z-of_z, arith, length-append, slice_get}}
+use Rattle.std.proofs.lemmas.Option.{slice_get-get_or}
 use Rattle.candidate_source.proofs.sources.Sources.load.Goals as goal
 
 pub loop-source-init : goal.loop-source-init

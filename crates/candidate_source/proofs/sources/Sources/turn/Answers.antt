@@ -1,6 +1,5 @@
-use Rattle.candidate_source.proofs.{Common.{option_map}, Resting.{begun_apart, have_turned, unhanded_empty}}
-use Rattle.std.proofs.{Common.{to_z-of_z}, lemmas.Result.{on_ok_weaker}}
-use Rattle.rule_model.specs.Lent.{lent}
+use Rattle.{candidate_source.proofs.{Common.{option_map}, Resting.{begun_apart, have_turned, unhanded_empty}}, std.proofs.Common.{to_z-of_z}}
+use Rattle.{std.proofs.lemmas.Result.{on_ok_weaker}, rule_model.specs.Lent.{lent}}
 use Rattle.candidate_source.proofs.sources.Sources.turn.Goals as goal
 
 pub returns-clause-turned : goal.returns-clause-turned

@@ -1,6 +1,5 @@
 use Rattle.candidate_source.{proofs.{Common.{◌≡◌, Some, option_map}, Moving.{ok_both, lent_there, missing_none, one_moved}}, specs.Moving.{TurnStep}}
-use Rattle.std.proofs.Common.{slice_get, to_z-of_z}
-use Rattle.rule_model.specs.Lent.{lent}
+use Rattle.{std.proofs.Common.{slice_get, to_z-of_z}, rule_model.specs.Lent.{lent}}
 use Rattle.candidate_source.proofs.sources.Sources.turn_if_led.Goals as goal
 
 pub returns-in-Some-get_mut-clause-moved : goal.returns-in-Some-get_mut-clause-moved

@@ -1,6 +1,5 @@
 use Rattle.candidate_source.proofs.{Common.{subst, nat_cmp, option_map}, Moving.{laid_then, more_moved, none_move, reached_then, still_apart}}
-use Rattle.candidate_source.specs.Moving.{TurnStep}
-use Rattle.std.{proofs.{Common.{to_z-of_z}, lemmas.Map.Keys.{sorted_tail}}, specs.List.Sorted.{IsStrictlySortedBy}}
+use Rattle.{candidate_source.specs.Moving.{TurnStep}, std.{proofs.{Common.{to_z-of_z}, lemmas.Map.Keys.{sorted_tail}}, specs.List.Sorted.{IsStrictlySortedBy}}}
 use Rattle.rule_model.specs.Lent.{lent}
 use Rattle.candidate_source.proofs.sources.Sources.turn_led.Goals as goal
 

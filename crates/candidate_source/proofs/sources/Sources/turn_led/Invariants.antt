@@ -1,7 +1,5 @@
 use Rattle.candidate_source.{proofs.Common.{has_place, nat_cmp, option_map}, specs.{declared.sources.Sources.{Sources}, Moving.{HaveMoved, TurnStep}}}
-use Rattle.candidate_source.specs.Sources.{AreApart, AreLaidAs, AreReachedAs}
-use Rattle.std.specs.List.Sorted.{IsStrictlySortedBy}
-use Rattle.rule_model.specs.Lent.{lent}
+use Rattle.{candidate_source.specs.Sources.{AreApart, AreLaidAs, AreReachedAs}, std.specs.List.Sorted.{IsStrictlySortedBy}, rule_model.specs.Lent.{lent}}
 use Rattle.candidate_source.proofs.sources.Sources.turn_led.Given as goal
 
 -- what the places that are left move, all move

@@ -1,5 +1,4 @@
-use Rattle.std.proofs.{Common.{◌≡◌, ◌+◌, ◌++◌, ℕ, List, take, drop, Some, sym, ap, subst, ◌∙◌}, lemmas.List.{take_rest}}
-use Rattle.fx_io.proofs.Told.{read_more}
+use Rattle.{std.proofs.{Common.{◌≡◌, ◌+◌, ◌++◌, ℕ, List, take, drop, Some, sym, ap, subst, ◌∙◌}, lemmas.List.{take_rest}}, fx_io.proofs.Told.{read_more}}
 use Rattle.cases.{specs.Answered.{IsAnswered}, proofs.Given.{given_on}}
 use Rattle.cases.proofs.waiting.WaitingSourceChunkSink.read.Goals as goal
 

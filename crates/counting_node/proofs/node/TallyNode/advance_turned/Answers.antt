@@ -1,6 +1,5 @@
 use Rattle.counting_node.proofs.{Common.{◌≡◌, ◌∙◌, ap, refl, cond, List, None, Named, Row, has, has_right, left_at, shown, keeps_then}, Handing.{stays_handed}}
-use Rattle.counting_node.proofs.Handing.{fresh_handed}
-use Rattle.join_memory.proofs.Handed.{stepped_shared}
+use Rattle.{counting_node.proofs.Handing.{fresh_handed}, join_memory.proofs.Handed.{stepped_shared}}
 use Rattle.counting_node.proofs.node.TallyNode.advance_turned.Goals as goal
 
 pub returns-clause-kept : goal.returns-clause-kept

@@ -1,6 +1,5 @@
 use Rattle.counting_node.proofs.{Common.{◌≡◌, ◌∙◌, ◌&&◌, sym, ap, refl, List, Named, has_name, has_right, joins, passing, option_map}, Beside.{none_beyond}}
-use Rattle.counting_node.proofs.Beside.{positive, beyond_is, pattern_over, left_over}
-use Rattle.rule_model.specs.declared.condition.Pattern.{Pattern}
+use Rattle.{counting_node.proofs.Beside.{positive, beyond_is, pattern_over, left_over}, rule_model.specs.declared.condition.Pattern.{Pattern}}
 use Rattle.join_memory.specs.Shared.{over}
 use Rattle.counting_node.proofs.node.TallyNode.extra_beside.Goals as goal
 

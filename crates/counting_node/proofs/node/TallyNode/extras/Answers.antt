@@ -1,6 +1,5 @@
 use Rattle.counting_node.proofs.Common.{◌∙◌, sym, ap, subst, ◌++◌, ◌∷◌, [], take, List, take_more, Row, has, InOrder, TellsBeside, is_some, option_map}
-use Rattle.counting_node.proofs.{Beside.{extras_of, left_over}, Following.{take_all}, Searching.{AreListed, listed_more}}
-use Rattle.join_memory.specs.Shared.{over}
+use Rattle.{counting_node.proofs.{Beside.{extras_of, left_over}, Following.{take_all}, Searching.{AreListed, listed_more}}, join_memory.specs.Shared.{over}}
 use Rattle.counting_node.proofs.node.TallyNode.extras.Goals as goal
 
 pub loop-row-init : goal.loop-row-init

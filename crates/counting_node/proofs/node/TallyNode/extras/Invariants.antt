@@ -1,5 +1,4 @@
-use Rattle.counting_node.proofs.{Common.{take, TellsBeside, option_map}, Searching.{AreListed}}
-use Rattle.join_memory.specs.Shared.{over}
+use Rattle.{counting_node.proofs.{Common.{take, TellsBeside, option_map}, Searching.{AreListed}}, join_memory.specs.Shared.{over}}
 use Rattle.counting_node.proofs.node.TallyNode.extras.Given as goal
 
 abbrev pub invariant-loop-row : goal.invariant-loop-row

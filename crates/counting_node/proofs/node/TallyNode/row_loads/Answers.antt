@@ -1,8 +1,7 @@
 use Rattle.counting_node.proofs.Common.{◌≡◌, ◌∙◌, sym, ap, refl, subst, cond, List, Some, None, ◌||◌, true, Bool, Bor, fun_ext, option_map, eq_by_cmp, Extra}
 use Rattle.counting_node.proofs.Common.{Named, Row, row_cmp, leads_alike, joins, has_name, left_at, has_left, has_right, KeepsMemories, row_decides}
 use Rattle.counting_node.proofs.{Common.{row_present, IsTallyLaden, shown, passing, AllLoaded}, Following.{arrives_there, arrives_one}, Parts.{unmoved}}
-use Rattle.counting_node.proofs.Turning.{put_shown, shown_from, none_output}
-use Rattle.fx_base.proofs.Tests.{and_first}
+use Rattle.{counting_node.proofs.Turning.{put_shown, shown_from, none_output}, fx_base.proofs.Tests.{and_first}}
 use Rattle.counting_node.proofs.node.TallyNode.row_loads.Goals as goal
 
 pub returns-then-has_left-clause-turned : goal.returns-then-has_left-clause-turned

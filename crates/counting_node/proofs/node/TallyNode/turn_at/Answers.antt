@@ -1,7 +1,6 @@
 use Rattle.counting_node.proofs.Common.{◌∙◌, sym, ap, refl, eq_by_cmp, row_cmp, leads_alike, left_at, has_left, has_right, keeps_then, shown, output_some}
 use Rattle.counting_node.proofs.{Common.{AllTurned}, Parts.{unmoved}, Turning.{shown_from, steps_one, steps_absent, absent, exchanged, was_there}}
-use Rattle.counting_node.proofs.Turning.{exchanged_shown}
-use Rattle.std.proofs.lemmas.Result.{on_ok_weaker}
+use Rattle.{counting_node.proofs.Turning.{exchanged_shown}, std.proofs.lemmas.Result.{on_ok_weaker}}
 use Rattle.counting_node.proofs.node.TallyNode.turn_at.Goals as goal
 
 pub returns-then-not-has_left-clause-turned : goal.returns-then-not-has_left-clause-turned

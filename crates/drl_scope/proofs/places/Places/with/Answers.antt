@@ -1,6 +1,5 @@
 use Rattle.drl_scope.proofs.{Common.{◌≡◌, Option, Some, None, not, ℕ, is_some, refl, ap, sym, ◌∙◌, arith, place_of_name}, NameLemmas.{kept, added}}
-use Rattle.drl_scope.proofs.places.Places.with.Goals.{then-is_none+in_ok-copy-2+in_ok-insert, else-is_none}
-use Rattle.std.specs.{Borrow.{Bor}, Option.{option_copied}}
+use Rattle.{drl_scope.proofs.places.Places.with.Goals.{then-is_none+in_ok-copy-2+in_ok-insert, else-is_none}, std.specs.{Borrow.{Bor}, Option.{option_copied}}}
 use Rattle.drl_scope.proofs.places.Places.with.Goals as goal
 
 copied : (o : Option (Bor ℕ)) → is_some (option_copied o) ≡ is_some o

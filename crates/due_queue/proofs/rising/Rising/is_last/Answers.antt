@@ -1,5 +1,4 @@
-use Rattle.due_queue.proofs.{Common.{refl, arith}, Entries.{all_behind}, Orders.{is_less, not_greater}}
-use Rattle.std.specs.Prelude.{◌-◌}
+use Rattle.{due_queue.proofs.{Common.{refl, arith}, Entries.{all_behind}, Orders.{is_less, not_greater}}, std.specs.Prelude.{◌-◌}}
 use Rattle.due_queue.proofs.rising.Rising.is_last.Goals as goal
 
 pub returns-then-is_lt : goal.returns-then-is_lt

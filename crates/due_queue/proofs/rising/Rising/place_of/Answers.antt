@@ -1,5 +1,5 @@
-use Rattle.std.{proofs.{Common.{rules, of_calls}, lemmas.Fn.{always_returns_same}}, specs.Prelude.{◌-◌}}
-use Rattle.due_queue.{specs.declared.rising.Entry.{Entry}, proofs.{Common.{refl, arith}, Entries.{indexes_rise, none_between, none_above}, Orders.{is_less}}}
+use Rattle.{std.{proofs.{Common.{rules, of_calls}, lemmas.Fn.{always_returns_same}}, specs.Prelude.{◌-◌}}, due_queue.specs.declared.rising.Entry.{Entry}}
+use Rattle.due_queue.proofs.{Common.{refl, arith}, Entries.{indexes_rise, none_between, none_above}, Orders.{is_less}}
 use Rattle.due_queue.proofs.rising.Rising.place_of.Goals as goal
 
 pub returns-in-Ok-clause-there : goal.returns-in-Ok-clause-there

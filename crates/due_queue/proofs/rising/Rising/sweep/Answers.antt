@@ -1,6 +1,5 @@
-use Rattle.std.{proofs.{Common.{rules, of_calls}, lemmas.Fn.{filter_same}}, specs.Prelude.{is_some}}
-use Rattle.due_queue.{proofs.{Common.{◌∙◌, sym, ap, subst}, Entries.{live_kept, front_kept, rises_kept}}, specs.Rising.{live, is_front_live, Rises}}
-use Rattle.due_queue.specs.declared.rising.Entry.{Entry}
+use Rattle.{std.{proofs.{Common.{rules, of_calls}, lemmas.Fn.{filter_same}}, specs.Prelude.{is_some}}, due_queue.proofs.Common.{◌∙◌, sym, ap, subst}}
+use Rattle.due_queue.{proofs.Entries.{live_kept, front_kept, rises_kept}, specs.{Rising.{live, is_front_live, Rises}, declared.rising.Entry.{Entry}}}
 use Rattle.due_queue.proofs.rising.Rising.sweep.Goals as goal
 
 pub returns-then-self-len-clause-stands : goal.returns-then-self-len-clause-stands

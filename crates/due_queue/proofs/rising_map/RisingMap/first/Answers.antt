@@ -1,6 +1,5 @@
 use Rattle.due_queue.proofs.{Common.{◌∙◌, sym, ap, found, is_moment}, Together.{moment_in_some, moment_in_other, split, split_back, least_of_both}}
-use Rattle.due_queue.specs.Rising.{live}
-use Rattle.std.proofs.lemmas.Option.{IfSome_then}
+use Rattle.{due_queue.specs.Rising.{live}, std.proofs.lemmas.Option.{IfSome_then}}
 use Rattle.due_queue.proofs.rising_map.RisingMap.first.Goals as goal
 
 pub returns-then-leads-clause-waits : goal.returns-then-leads-clause-waits

@@ -1,7 +1,7 @@
 use Rattle.due_queue.{proofs.Common.{◌∙◌, sym, ap, refl, subst, None, cond, is_at, length, found, is_moment, is_due}, specs.Rising.{live, AreApart}}
 use Rattle.due_queue.proofs.{Entries.{kept_none}, Together.{in_some, in_other, not_some, not_other, both_change, stay_apart, split, split_back, first_of_both}}
-use Rattle.due_queue.proofs.Together.{none_of_both, if_both, if_none, either_way, fewer_some, fewer_others}
-use Rattle.std.{specs.Prelude.{◌++◌}, proofs.lemmas.Option.{IfSome_then}}
+use Rattle.{due_queue.proofs.Together.{none_of_both, if_both, if_none, either_way, fewer_some, fewer_others}, std.specs.Prelude.{◌++◌}}
+use Rattle.std.proofs.lemmas.Option.{IfSome_then}
 use Rattle.due_queue.proofs.rising_map.RisingMap.take_due.Goals as goal
 
 pub invariant_of-self : goal.invariant_of-self

@@ -1,6 +1,5 @@
 use Rattle.fact_store.proofs.{Common.{◌∙◌, sym, ap, subst, cond, true, ℕ, is_at, id_tag_cmp, has_pair, LeadsToNewest}, Newer.{either, on_some, has_first}}
-use Rattle.fact_store.proofs.Newer.{has_newer, has_older, leads_first, leads_newer, leads_older}
-use Rattle.std.proofs.lemmas.Result.{on_ok_weaker}
+use Rattle.{fact_store.proofs.Newer.{has_newer, has_older, leads_first, leads_newer, leads_older}, std.proofs.lemmas.Result.{on_ok_weaker}}
 use Rattle.fact_store.proofs.versions.Versions.add.Goals as goal
 
 pub invariant_of-self-then-newest-tag : goal.invariant_of-self-then-newest-tag

@@ -1,5 +1,4 @@
-use Rattle.std.proofs.Common.{refl}
-use Rattle.image_making.proofs.Held.{one_held}
+use Rattle.{std.proofs.Common.{refl}, image_making.proofs.Held.{one_held}}
 use Rattle.image_making.proofs.at_hand.AtHand.of.Goals as goal
 
 pub loop-fact-preserved : goal.loop-fact-preserved

@@ -1,6 +1,4 @@
-use Rattle.std.proofs.Common.{Some, take, ◌≡◌}
-use Rattle.fx_base.specs.{Lists.{In}, declared.fact.Fact.{Fact}}
-use Rattle.image_making.specs.AtHand.{fact_in}
+use Rattle.{std.proofs.Common.{Some, take, ◌≡◌}, fx_base.specs.{Lists.{In}, declared.fact.Fact.{Fact}}, image_making.specs.AtHand.{fact_in}}
 use Rattle.image_making.proofs.at_hand.AtHand.of.Given as goal
 
 abbrev pub invariant-loop-fact : goal.invariant-loop-fact

@@ -1,6 +1,5 @@
 use Rattle.join_memory.proofs.{Common.{◌∙◌, Some, ap, cond, ◌&&◌, eq_by_cmp, same_value, at, row_cmp, is_some, beside}, Keeping.{left_keeps, some_put}}
-use Rattle.join_memory.proofs.{Keeping.{at_changed}, Joining.{row_decides}, Sharing.{value_beside}}
-use Rattle.join_tests.specs.RowKeys.{value_by}
+use Rattle.{join_memory.proofs.{Keeping.{at_changed}, Joining.{row_decides}, Sharing.{value_beside}}, join_tests.specs.RowKeys.{value_by}}
 use Rattle.join_memory.proofs.left_rows.LeftRows.put.Goals as goal
 
 pub returns-clause-keeps : goal.returns-clause-keeps

@@ -1,6 +1,5 @@
 use Rattle.join_memory.proofs.{Common.{◌∙◌, ap, None, is_some, eq_by_cmp, same_value, at, row_cmp, beside}, Keeping.{left_keeps, some_taken, at_changed}}
-use Rattle.join_memory.proofs.{Joining.{row_decides}, Sharing.{value_beside}}
-use Rattle.join_tests.specs.RowKeys.{value_by}
+use Rattle.{join_memory.proofs.{Joining.{row_decides}, Sharing.{value_beside}}, join_tests.specs.RowKeys.{value_by}}
 use Rattle.join_memory.proofs.left_rows.LeftRows.take.Goals as goal
 
 pub returns-clause-keeps : goal.returns-clause-keeps

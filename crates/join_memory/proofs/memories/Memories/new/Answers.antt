@@ -1,5 +1,4 @@
-use Rattle.join_memory.proofs.Common.{◌∙◌, sym, ap, is_some}
-use Rattle.std.proofs.lemmas.Bool.{false≢true}
+use Rattle.{join_memory.proofs.Common.{◌∙◌, sym, ap, is_some}, std.proofs.lemmas.Bool.{false≢true}}
 use Rattle.join_memory.proofs.memories.Memories.new.Goals as goal
 
 pub returns-clause-nothing : goal.returns-clause-nothing

@@ -1,6 +1,5 @@
 use Rattle.join_memory.proofs.{Common.{◌∙◌, sym, ap, ◌∷◌, IfOk-weaker, Option, Value, option_map}, Found.{partners_alone, partners_both}}
-use Rattle.std.proofs.Common.{Bor}
-use Rattle.join_tests.specs.Kept.{one_or_none}
+use Rattle.{std.proofs.Common.{Bor}, join_tests.specs.Kept.{one_or_none}}
 use Rattle.join_memory.proofs.memories.Memories.partners.Goals as goal
 
 pub returns-in-None-clause-rows : goal.returns-in-None-clause-rows

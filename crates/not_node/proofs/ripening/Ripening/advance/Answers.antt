@@ -1,7 +1,6 @@
 use Rattle.not_node.proofs.Common.{◌≡◌, ◌∙◌, ap, ℤ, int_lt, List, true, not, ◌&&◌, ◌||◌, SFits, to_z, of_z, to_z-of_z, w128, Row, has, without, along}
 use Rattle.not_node.proofs.{Common.{moment_at, waits, waits_at, is_that_moment, mature, ripe}, Ripe.{below_later, awaits_now, own, leaves, comes, ripens}}
-use Rattle.not_node.proofs.Ripe.{after}
-use Rattle.row_change.proofs.Alike.{leads_alike}
+use Rattle.{not_node.proofs.Ripe.{after}, row_change.proofs.Alike.{leads_alike}}
 use Rattle.not_node.proofs.ripening.Ripening.advance.Goals as goal
 
 pub returns-clause-awaits : goal.returns-clause-awaits

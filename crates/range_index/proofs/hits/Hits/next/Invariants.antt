@@ -1,5 +1,4 @@
-use Rattle.std.proofs.Common.{◌≡◌, length}
-use Rattle.range_index.specs.{Nodes.{leaves, AreBlocks}, Ranges.{places_with}}
+use Rattle.{std.proofs.Common.{◌≡◌, length}, range_index.specs.{Nodes.{leaves, AreBlocks}, Ranges.{places_with}}}
 use Rattle.range_index.proofs.hits.Hits.next.Given as goal
 
 abbrev pub invariant-loop-self : goal.invariant-loop-self

@@ -1,6 +1,5 @@
-use Rattle.std.proofs.Common.{◌≡◌, ◌∙◌, ap, subst, sym, ◌++◌, ◌∷◌, []}
-use Rattle.range_index.{specs.{Nodes.{leaves, AreBlocks}, declared.node.Node.TheVariants.{Range}}, proofs.{Finding.{found_more}, Trees.{blocks_append}}}
-use Rattle.range_index.proofs.Trees.{leaves_append}
+use Rattle.{std.proofs.Common.{◌≡◌, ◌∙◌, ap, subst, sym, ◌++◌, ◌∷◌, []}, range_index.specs.{Nodes.{leaves, AreBlocks}, declared.node.Node.TheVariants.{Range}}}
+use Rattle.range_index.proofs.{Finding.{found_more}, Trees.{blocks_append, leaves_append}}
 use Rattle.range_index.proofs.index.RangeIndex.put.Goals as goal
 
 pub invariant_of-self-2 : goal.invariant_of-self-2

@@ -1,5 +1,5 @@
-use Rattle.std.proofs.{Common.{◌∙◌, ap, subst, sym}, lemmas.Int.{to_z-of_z}}
-use Rattle.range_index.{specs.{Nodes.{leaves, AreBlocks}, Ranges.{places_with}}, proofs.Trees.{blocks_behind, passed_over}}
+use Rattle.{std.proofs.{Common.{◌∙◌, ap, subst, sym}, lemmas.Int.{to_z-of_z}}, range_index.specs.{Nodes.{leaves, AreBlocks}, Ranges.{places_with}}}
+use Rattle.range_index.proofs.Trees.{blocks_behind, passed_over}
 use Rattle.range_index.proofs.node.Block.onward.Goals as goal
 
 pub returns-clause-places : goal.returns-clause-places

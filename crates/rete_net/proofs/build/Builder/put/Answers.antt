@@ -1,6 +1,5 @@
 use Rattle.rete_net.proofs.Common.{◌∙◌, inl, inr, sym, ap, refl, subst, List, [], ◌∷◌, ◌++◌, append-nil, slice_get, Condition, Origin, NetNode, AreGrown}
-use Rattle.rete_net.proofs.Growing.{found_node, grown_more, no_node}
-use Rattle.fx_base.proofs.Sequences.{get-last}
+use Rattle.{rete_net.proofs.Growing.{found_node, grown_more, no_node}, fx_base.proofs.Sequences.{get-last}}
 use Rattle.rete_net.proofs.build.Builder.put.Goals as goal
 
 pub returns-in-Some : goal.returns-in-Some

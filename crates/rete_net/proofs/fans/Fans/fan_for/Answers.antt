@@ -1,5 +1,4 @@
-use Rattle.rete_net.proofs.{Common.{◌∙◌, ap, List, ◌++◌, ◌∷◌, [], slice_get, Fan}, Seated.{fan_grows}}
-use Rattle.fx_base.proofs.Sequences.{get-last}
+use Rattle.{rete_net.proofs.{Common.{◌∙◌, ap, List, ◌++◌, ◌∷◌, [], slice_get, Fan}, Seated.{fan_grows}}, fx_base.proofs.Sequences.{get-last}}
 use Rattle.rete_net.proofs.fans.Fans.fan_for.Goals as goal
 
 pub returns-in_ok-put_fan-in-None-clause-grows : goal.returns-in_ok-put_fan-in-None-clause-grows

@@ -1,6 +1,5 @@
 use Rattle.rete_net.proofs.Common.{◌≡◌, ◌∙◌, sym, ap, subst, ◌<◌, ◌≤◌, length, List, Some, slice_get, option_map, slice_get-get_or, Candidates, Fan, in_fan}
-use Rattle.rete_net.proofs.Fanned.{none_past}
-use Rattle.std.proofs.lemmas.Bool.{ltb-false, ltb-true}
+use Rattle.{rete_net.proofs.Fanned.{none_past}, std.proofs.lemmas.Bool.{ltb-false, ltb-true}}
 use Rattle.rete_net.proofs.fans.Fans.has.Goals as goal
 
 at : (c : goal.After-struct_known-1) → slice_get c.args.self.now.list.items c.args.seat.fan ≡ Some c.in-Some.fan.now

@@ -1,5 +1,4 @@
-use Rattle.rete_net.proofs.Common.{◌∙◌, sym, ap, subst, ◌≤◌, ℕ, length, Option, Some, AreGrowing}
-use Rattle.std.specs.Option.{IfSome}
+use Rattle.{rete_net.proofs.Common.{◌∙◌, sym, ap, subst, ◌≤◌, ℕ, length, Option, Some, AreGrowing}, std.specs.Option.{IfSome}}
 use Rattle.rete_net.proofs.fans.Fans.put_node.Goals as goal
 
 pub returns-in_ok-put_member-in-Some-2 : goal.returns-in_ok-put_member-in-Some-2

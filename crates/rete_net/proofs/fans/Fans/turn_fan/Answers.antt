@@ -1,7 +1,6 @@
 use Rattle.rete_net.proofs.Common.{◌≡◌, ◌∙◌, sym, ap, refl, ◌<◌, arith, length, None, Some, slice_get, length-set, slice_get-get_or, get, nat_cmp, half_in}
 use Rattle.rete_net.proofs.{Fanned.{each_like, fan_turned, half_other, half_there, member_other, none_past, rows_like}, Fanning.{laid_same}}
-use Rattle.rete_net.proofs.fans.Fans.turn_fan.Given.{Over}
-use Rattle.fx_base.proofs.Sequences.{one_value}
+use Rattle.{rete_net.proofs.fans.Fans.turn_fan.Given.{Over}, fx_base.proofs.Sequences.{one_value}}
 use Rattle.rete_net.proofs.fans.Fans.turn_fan.Goals as goal
 
 at : (g : Over) (c : goal.Joined-branch-3 g) → slice_get c.args.self.now.list.items c.args.fan ≡ Some c.index_mut.result.now

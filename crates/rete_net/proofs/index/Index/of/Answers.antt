@@ -1,8 +1,6 @@
 use Rattle.rete_net.proofs.Common.{◌≡◌, ◌∙◌, sym, ap, subst, ◌<◌, inl, inr, Some, slice_get, length, arith, ℕ, get_or, true, false, slice_get_within}
-use Rattle.rete_net.proofs.Common.{slice_get-get_or, NetNode, is_in, is_listed, IsNodeFound}
-use Rattle.std.specs.Global.{Vec}
-use Rattle.fx_base.proofs.{Sequences.{one_value}, Orders.{below_or_last}}
-use Rattle.candidate_source.specs.Sources.{is_follower}
+use Rattle.{rete_net.proofs.Common.{slice_get-get_or, NetNode, is_in, is_listed, IsNodeFound}, std.specs.Global.{Vec}, fx_base.proofs.Sequences.{one_value}}
+use Rattle.{fx_base.proofs.Orders.{below_or_last}, candidate_source.specs.Sources.{is_follower}}
 use Rattle.rete_net.proofs.index.Index.of.Goals as goal
 
 -- the node in the place of the loop

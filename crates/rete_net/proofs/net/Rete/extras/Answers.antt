@@ -2,8 +2,7 @@ use Rattle.rete_net.proofs.Common.{◌≡◌, ◌∙◌, ap, sym, subst, ◌+◌
 use Rattle.rete_net.proofs.Common.{at_clock, rising, Condition, AreExtrasBeside, condition_of, node_moves, member_at, showing, shown_nodes, taking, Node}
 use Rattle.rete_net.proofs.{Common.{NodeStands, before}, Stillness.{taking_lends}, Counting.{AreFirst, none_first, one_more_first, all_of_them, beside_seen}}
 use Rattle.rete_net.proofs.{Counting.{same_before}, Seen.{at_hand_at}, Showing.{condition_shown, shown_at, shown_length}, Turning.{held_has}}
-use Rattle.candidate_source.specs.Sources.{source_at}
-use Rattle.fx_base.proofs.Sequences.{get-below}
+use Rattle.{candidate_source.specs.Sources.{source_at}, fx_base.proofs.Sequences.{get-below}}
 use Rattle.rete_net.proofs.net.Rete.extras.Goals as goal
 
 pub loop-place-init : goal.loop-place-init

@@ -1,7 +1,6 @@
 use Rattle.rete_net.proofs.{Common.{◌∙◌, sym, ap, subst, ℕ, List, length, has_name, AreRuled, AreListed, member_at, shown_nodes}, Dropping.{net_forgets}}
 use Rattle.rete_net.proofs.{Dropping.{rules_drop}, Owning.{owned_again}, Fanning.{fans_again}, Fanwise.{wired_under}, Frames.{index_again, net_again}}
-use Rattle.rete_net.proofs.{Showing.{replaced_both}, Sourced.{sources_again}}
-use Rattle.candidate_source.{specs.Sources.{is_other}, proofs.Moving.{lead_alike}}
+use Rattle.{rete_net.proofs.{Showing.{replaced_both}, Sourced.{sources_again}}, candidate_source.{specs.Sources.{is_other}, proofs.Moving.{lead_alike}}}
 use Rattle.rete_net.proofs.net.Rete.forget.Goals as goal
 
 pub returns-clause-stands : goal.returns-clause-stands

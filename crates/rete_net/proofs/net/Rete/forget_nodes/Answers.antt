@@ -2,8 +2,8 @@ use Rattle.rete_net.proofs.Common.{◌≡◌, ◌∙◌, sym, ap, refl, subst, t
 use Rattle.rete_net.proofs.{Common.{slice_get-get_or, Row, Index, left_given, has_place, seat_at, IsAnswerPut, AreFanRowsTurned, AreWoken}, Fading.{set_off}}
 use Rattle.rete_net.proofs.{Fading.{forget_at, come_to_end}, Fanned.{none_of}, Fanning.{fans_again, laid_same, laid_then}, Rescheduled.{scheduled_next}}
 use Rattle.rete_net.proofs.{Rescheduled.{scheduled_undue}, Spared.{may_begin, may_forget_alike, spared_begin}, Walking.{not_replaced, replaced_more}}
-use Rattle.std.proofs.lemmas.Bool.{false_from_ne_true}
-use Rattle.candidate_source.{proofs.Moving.{laid_then as sources_then, still_apart}, specs.Sources.{handed_gone, source_at}}
+use Rattle.{std.proofs.lemmas.Bool.{false_from_ne_true}, candidate_source.{proofs.Moving.{laid_then as sources_then, still_apart}, specs.Sources.{handed_gone}}}
+use Rattle.candidate_source.specs.Sources.{source_at}
 use Rattle.rete_net.proofs.net.Rete.forget_nodes.Goals as goal
 
 pub walk-init : goal.walk-init

@@ -1,6 +1,6 @@
 use Rattle.rete_net.proofs.Common.{◌≡◌, ◌≤◌, ◌-◌, ℕ, length, slice_get, Some, NetNode, AreFans, AreSources, IsLaidAs, AreScheduled, IsReplaced, IsWired}
-use Rattle.rete_net.{specs.Lending.{MayForget}, proofs.{Fading.{IsUnderWay}, Rescheduled.{AreScheduledBut}}}
-use Rattle.candidate_source.specs.Sources.{handed_gone, source_at, AreApart, AreLaidAs}
+use Rattle.{rete_net.{specs.Lending.{MayForget}, proofs.{Fading.{IsUnderWay}, Rescheduled.{AreScheduledBut}}}, candidate_source.specs.Sources.{handed_gone}}
+use Rattle.candidate_source.specs.Sources.{source_at, AreApart, AreLaidAs}
 use Rattle.rete_net.proofs.net.Rete.forget_nodes.Given as goal
 
 abbrev pub invariant-walk : goal.invariant-walk

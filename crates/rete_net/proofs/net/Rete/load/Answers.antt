@@ -2,8 +2,7 @@ use Rattle.rete_net.proofs.Common.{◌≡◌, ◌∙◌, ap, subst, ℕ, ◌<◌
 use Rattle.rete_net.proofs.{Common.{answer_in, AreRuled, changes_from, delta_at, no_change, member_at, member_of, shown_nodes}, Filling.{same_fault}}
 use Rattle.rete_net.proofs.{Fanning.{fans_again}, Fanwise.{net_under, wired_under}, Frames.{net_again}, Fresh.{fresh_each}, Showing.{replaced_both}}
 use Rattle.rete_net.proofs.{Sourced.{sources_again}, Stillness.{all_quiet}, Resumed.{loaded_stands}, Sharing.{extra_missing, extras_there, laden_changes}}
-use Rattle.rete_net.proofs.Starting.{built_shape, shape_owned}
-use Rattle.candidate_source.specs.Sources.{source_at}
+use Rattle.{rete_net.proofs.Starting.{built_shape, shape_owned}, candidate_source.specs.Sources.{source_at}}
 use Rattle.rete_net.proofs.net.Rete.load.Goals as goal
 
 pub returns-clause-net : goal.returns-clause-net

@@ -3,9 +3,8 @@ use Rattle.rete_net.proofs.Common.{Row, ℤ, to_z, of_z, to_z-of_z, w64, SFits, 
 use Rattle.rete_net.proofs.Common.{Index, NoRow, left_given, IsAnswerPut, AreFanRowsTurned, type_of, grouped_facts_at, is_fact_of_type, empty_row_comes}
 use Rattle.rete_net.{specs.Loads.{MayLoad}, proofs.{Filling.{same_fault}, Lading.{set_off, stuck_at, take_one, come_to_end, IsUnderWay}, Fanning.{laid_same}}}
 use Rattle.rete_net.proofs.{Fanning.{laid_then}, Rescheduled.{scheduled_below}, Sourced.{by_both}, Stocked.{has_loaded, may_load_alike}, Walking.{not_replaced}}
-use Rattle.rete_net.proofs.Walking.{replaced_more}
-use Rattle.candidate_source.{proofs.Moving.{laid_then as sources_then}, specs.{declared.source.Source.{Source}, Doors.{source_pattern}}}
-use Rattle.candidate_source.specs.Sources.{facts_of_type, source_at, IsLoadedWith}
+use Rattle.{rete_net.proofs.Walking.{replaced_more}, candidate_source.{proofs.Moving.{laid_then as sources_then}, specs.declared.source.Source.{Source}}}
+use Rattle.candidate_source.specs.{Doors.{source_pattern}, Sources.{facts_of_type, source_at, IsLoadedWith}}
 use Rattle.rete_net.proofs.net.Rete.load_nodes.Goals as goal
 
 pub loop-place-init : goal.loop-place-init

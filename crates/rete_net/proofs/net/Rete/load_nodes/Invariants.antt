@@ -1,7 +1,6 @@
 use Rattle.rete_net.proofs.Common.{◌≡◌, ◌≤◌, ℕ, Some, slice_get, IsStrictlySortedBy, lent, condition_of, pattern_of, extra_cmp, NetNode, AreFans, AreSources}
 use Rattle.rete_net.{proofs.{Common.{IsLaidAs, empty_row_comes, IsReplaced, IsWired}, Lading.{IsUnderWay}}, specs.Loads.{MayLoad}}
-use Rattle.rete_net.proofs.Rescheduled.{AreScheduledBelow}
-use Rattle.candidate_source.specs.Sources.{source_at, AreApart, AreLaidAs}
+use Rattle.{rete_net.proofs.Rescheduled.{AreScheduledBelow}, candidate_source.specs.Sources.{source_at, AreApart, AreLaidAs}}
 use Rattle.rete_net.proofs.net.Rete.load_nodes.Given as goal
 
 abbrev pub invariant-loop-place : goal.invariant-loop-place

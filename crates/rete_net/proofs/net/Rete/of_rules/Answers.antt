@@ -2,8 +2,7 @@ use Rattle.rete_net.proofs.Common.{◌≡◌, ◌∙◌, sym, ap, refl, subst, �
 use Rattle.rete_net.proofs.Common.{nat_tests, slice_get-get_or, unwrap_or, Condition, Rule, IsRunnable, has_conditions, has_windows, AreGrown, HaveEnds}
 use Rattle.rete_net.proofs.{Common.{AreOwnedSoFar, NetNode, member_at, with_fans, AreFans, IsIndexOf, AreScheduled}, Growing.{passes_at, ends_more}}
 use Rattle.rete_net.{proofs.{Frames.{index_again}, Kinship.{are_sources}, Owning.{rule_owned}, Seated.{built_shown}}, specs.Sourcing.{AreSourcesBelow}}
-use Rattle.rete_net.proofs.Showing.{replaced_shown}
-use Rattle.std.proofs.lemmas.Bool.{and_parts}
+use Rattle.{rete_net.proofs.Showing.{replaced_shown}, std.proofs.lemmas.Bool.{and_parts}}
 use Rattle.rete_net.proofs.net.Rete.of_rules.Goals as goal
 
 pub loop-rule-init : goal.loop-rule-init

@@ -1,7 +1,7 @@
 use Rattle.rete_net.proofs.Common.{◌≡◌, ◌∙◌, sym, ap, subst, ℕ, List, length, ◌<◌, ◌^◌, option_map, In, lent, RuleChange, Some, None, member_at, shown_nodes}
 use Rattle.rete_net.proofs.{Common.{seat_at, member_of}, Fanwise.{wired_again}, Frames.{index_again}, Showing.{replaced_both, replaced_shown}}
-use Rattle.rete_net.proofs.{Sourced.{sources_again}, Stillness.{all_quiet}, Turns.{net_step}}
-use Rattle.candidate_source.{specs.Sources.{is_other, source_at}, proofs.Moving.{lead_alike}}
+use Rattle.{rete_net.proofs.{Sourced.{sources_again}, Stillness.{all_quiet}, Turns.{net_step}}, candidate_source.specs.Sources.{is_other, source_at}}
+use Rattle.candidate_source.proofs.Moving.{lead_alike}
 use Rattle.rete_net.proofs.net.Rete.step.Goals as goal
 
 pub returns-clause-sources : goal.returns-clause-sources

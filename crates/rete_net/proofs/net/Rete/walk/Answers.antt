@@ -2,9 +2,8 @@ use Rattle.rete_net.proofs.Common.{◌≡◌, ◌∙◌, sym, ap, refl, subst, t
 use Rattle.rete_net.proofs.Common.{NetNode, has_place, IsAnswerPut, AreFanRowsTurned, AreWoken, seat_at, slice_get_within, ℤ, to_z, of_z, to_z-of_z, w64, SFits}
 use Rattle.rete_net.proofs.{Alone.{may_alike}, Fanning.{fans_again, laid_same, laid_then}, Rescheduled.{scheduled_next, scheduled_undue}, Steady.{set_off}}
 use Rattle.rete_net.proofs.{Steady.{step_at, come_to_end}, Turned.{alone_begin, may_begin}, Walking.{not_replaced, replaced_more}}
-use Rattle.std.proofs.{Common.{option_map}, lemmas.Bool.{false_from_ne_true}}
-use Rattle.candidate_source.{proofs.Moving.{laid_then as sources_then, still_apart}, specs.Sources.{handed_come, handed_gone, source_at, AreApart}}
-use Rattle.candidate_source.specs.Sources.{AreOthersAtRest, HaveTurned}
+use Rattle.{std.proofs.{Common.{option_map}, lemmas.Bool.{false_from_ne_true}}, candidate_source.proofs.Moving.{laid_then as sources_then, still_apart}}
+use Rattle.candidate_source.specs.Sources.{handed_come, handed_gone, source_at, AreApart, AreOthersAtRest, HaveTurned}
 use Rattle.rete_net.proofs.net.Rete.walk.Goals as goal
 
 pub walk-init : goal.walk-init

@@ -1,6 +1,5 @@
 use Rattle.rete_net.proofs.Common.{◌≡◌, ◌≤◌, ◌-◌, ℕ, length, slice_get, Some, lent, NetNode, AreFans, AreSources, IsLaidAs, AreScheduled, IsReplaced, IsWired}
-use Rattle.rete_net.{specs.Lending.{MayTurn}, proofs.{Rescheduled.{AreScheduledBut}, Steady.{IsUnderWay}}}
-use Rattle.std.proofs.Common.{option_map}
+use Rattle.{rete_net.{specs.Lending.{MayTurn}, proofs.{Rescheduled.{AreScheduledBut}, Steady.{IsUnderWay}}}, std.proofs.Common.{option_map}}
 use Rattle.candidate_source.specs.Sources.{handed_come, handed_gone, source_at, AreApart, AreLaidAs}
 use Rattle.rete_net.proofs.net.Rete.walk.Given as goal
 

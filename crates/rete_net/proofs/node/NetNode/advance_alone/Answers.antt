@@ -1,6 +1,5 @@
 use Rattle.rete_net.proofs.{Common.{◌≡◌, ◌∙◌, sym, subst, Option, None, Some, List, Named, lent, TurnStep}, Alone.{may_none, may_some, own_turn}}
-use Rattle.rete_net.{specs.Lending.{MayTurnIn}, proofs.Sourced.{lent_behind, lent_here, lent_none, lent_to_one, source_again}}
-use Rattle.std.proofs.Common.{option_map}
+use Rattle.{rete_net.{specs.Lending.{MayTurnIn}, proofs.Sourced.{lent_behind, lent_here, lent_none, lent_to_one, source_again}}, std.proofs.Common.{option_map}}
 use Rattle.candidate_source.specs.{declared.source.Source.{Source}, Lending.{with_source}, Sources.{source_at, handed_gone, handed_come}}
 use Rattle.rete_net.proofs.node.NetNode.advance_alone.Goals as goal
 

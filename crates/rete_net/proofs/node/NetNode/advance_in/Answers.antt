@@ -1,8 +1,7 @@
 use Rattle.rete_net.proofs.Common.{◌≡◌, ◌∙◌, sym, refl, subst, Option, None, Some, lent, showing, Member, NodeStep, TurnStep, seat_at, half_of, IsHalf}
 use Rattle.rete_net.proofs.{Common.{IsOfSeat, member_at}, Alone.{by_source}, Fanning.{laid_same, laid_then}, Siblings.{left_by, with_seat, without_seat}}
-use Rattle.rete_net.proofs.Sourced.{lent_none}
-use Rattle.std.proofs.Common.{option_map}
-use Rattle.candidate_source.specs.{declared.source.Source.{Source}, Sources.{source_at, handed_gone, handed_come}}
+use Rattle.{rete_net.proofs.Sourced.{lent_none}, std.proofs.Common.{option_map}, candidate_source.specs.{declared.source.Source.{Source}, Sources.{source_at}}}
+use Rattle.candidate_source.specs.Sources.{handed_gone, handed_come}
 use Rattle.rete_net.proofs.node.NetNode.advance_in.Goals as goal
 
 pub returns-in_ok-delta-in-Some-clause-laid : goal.returns-in_ok-delta-in-Some-clause-laid

@@ -1,7 +1,5 @@
 use Rattle.rete_net.{proofs.Common.{◌≡◌, ◌∙◌, sym, subst, List, Named, Row, Candidates, NodeStands, condition_of, lent}, specs.Lending.{IsFoundAnew}}
-use Rattle.rete_net.proofs.Lending.{turn_step}
-use Rattle.std.proofs.Common.{option_map}
-use Rattle.candidate_source.specs.Doors.{source_candidates}
+use Rattle.{rete_net.proofs.Lending.{turn_step}, std.proofs.Common.{option_map}, candidate_source.specs.Doors.{source_candidates}}
 use Rattle.beta_node.specs.Lending.{with_candidates, NodeTakes}
 use Rattle.rete_net.proofs.node.NetNode.advance_lent.Goals as goal
 

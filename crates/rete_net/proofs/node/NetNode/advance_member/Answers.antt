@@ -1,6 +1,5 @@
 use Rattle.rete_net.proofs.Common.{◌≡◌, ◌∙◌, sym, ap, refl, to_z, of_z, to_z-of_z, w64, SFits, List, get, nat_cmp, Named, Row, has, lent, row_naming, has_name}
-use Rattle.rete_net.proofs.{Common.{half_in}, Fanning.{laid_same}, Siblings.{still_steps, names_step}}
-use Rattle.std.proofs.Common.{option_map}
+use Rattle.{rete_net.proofs.{Common.{half_in}, Fanning.{laid_same}, Siblings.{still_steps, names_step}}, std.proofs.Common.{option_map}}
 use Rattle.rete_net.proofs.node.NetNode.advance_member.Goals as goal
 
 pub returns-then-is_still-clause-laid : goal.returns-then-is_still-clause-laid

@@ -1,5 +1,5 @@
-use Rattle.rete_net.proofs.{Common.{sym, subst, List, Named, either, Node, NodeStands}, Lent.{as_turned}}
-use Rattle.beta_node.specs.{Forgetting.{ForgetsIn}, Lending.{with_candidates, NodeForgoes}}
+use Rattle.{rete_net.proofs.{Common.{sym, subst, List, Named, either, Node, NodeStands}, Lent.{as_turned}}, beta_node.specs.Forgetting.{ForgetsIn}}
+use Rattle.beta_node.specs.Lending.{with_candidates, NodeForgoes}
 use Rattle.rete_net.proofs.node.NetNode.drop_lent.Goals as goal
 
 pub returns-clause-stands : goal.returns-clause-stands

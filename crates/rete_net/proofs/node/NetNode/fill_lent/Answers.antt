@@ -1,6 +1,5 @@
 use Rattle.rete_net.proofs.Common.{sym, subst, IsDifference, Condition, Node, NodeStands, IsLoad, Laden, node_rows, no_names, no_rows, empty_snapshot}
-use Rattle.rete_net.proofs.{Common.{extra_for}, Lent.{as_turned, condition_there, lent_instead}}
-use Rattle.beta_node.specs.Lending.{with_candidates, NodeHas}
+use Rattle.{rete_net.proofs.{Common.{extra_for}, Lent.{as_turned, condition_there, lent_instead}}, beta_node.specs.Lending.{with_candidates, NodeHas}}
 use Rattle.rete_net.proofs.node.NetNode.fill_lent.Goals as goal
 
 pub returns-clause-laden : goal.returns-clause-laden

@@ -1,7 +1,5 @@
 use Rattle.rete_net.{proofs.{Common.{◌∙◌, sym, ap, subst, [], List, Row}, Reached.{found_less, found_more, found_still}}, specs.Lending.{IsFoundAnew}}
-use Rattle.std.proofs.lemmas.List.{take_all}
-use Rattle.candidate_source.specs.declared.source.Source.{Source}
-use Rattle.beta_node.specs.Lending.{node_keeps_under}
+use Rattle.{std.proofs.lemmas.List.{take_all}, candidate_source.specs.declared.source.Source.{Source}, beta_node.specs.Lending.{node_keeps_under}}
 use Rattle.fx_base.specs.declared.value.Value.{Value}
 use Rattle.rete_net.proofs.node.NetNode.find_anew.Goals as goal
 use Rattle.rete_net.proofs.node.NetNode.find_anew.Goals.{then-not-has_rows_under, else-not-has_rows_under}

@@ -1,7 +1,6 @@
 use Rattle.rete_net.proofs.Common.{◌≡◌, ◌∙◌, sym, ap, refl, half_at, Option, Some, None, [], has_name, NodeForgets, TurnForgets, showing, Member, member_at}
 use Rattle.rete_net.proofs.{Common.{seat_at}, Alone.{forgets_by}, Fanning.{laid_same, laid_then}, Siblings.{left_by, names_forget, with_seat, without_seat}}
-use Rattle.rete_net.proofs.Sourced.{lent_none}
-use Rattle.candidate_source.specs.Sources.{source_at, handed_gone}
+use Rattle.{rete_net.proofs.Sourced.{lent_none}, candidate_source.specs.Sources.{source_at, handed_gone}}
 use Rattle.rete_net.proofs.node.NetNode.forget_in.Goals as goal
 
 pub returns-in_ok-delta-in-Some-clause-laid : goal.returns-in_ok-delta-in-Some-clause-laid

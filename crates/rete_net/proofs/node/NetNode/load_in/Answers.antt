@@ -1,7 +1,6 @@
 use Rattle.rete_net.proofs.Common.{◌≡◌, ◌∙◌, sym, ap, refl, [], Err, Option, None, Some, showing, Member, NodeLoad, NoRow, seat_at, member_at, condition_of}
 use Rattle.rete_net.proofs.{Common.{pattern_of}, Fanning.{laid_same, laid_then}, Filling.{same_fault}, Siblings.{left_by, with_seat, without_seat}}
-use Rattle.rete_net.{specs.Loads.{TurnLoads}, proofs.{Sourced.{lent_none}, Stocked.{load_by}}}
-use Rattle.candidate_source.specs.Sources.{source_at}
+use Rattle.{rete_net.{specs.Loads.{TurnLoads}, proofs.{Sourced.{lent_none}, Stocked.{load_by}}}, candidate_source.specs.Sources.{source_at}}
 use Rattle.rete_net.proofs.node.NetNode.load_in.Goals as goal
 
 pub returns-in_ok-delta-in-Some-clause-laid : goal.returns-in_ok-delta-in-Some-clause-laid

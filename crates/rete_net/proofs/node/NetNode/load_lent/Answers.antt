@@ -1,6 +1,5 @@
 use Rattle.rete_net.{proofs.{Common.{◌∙◌, sym, subst, Candidates, Laden, IsDifference, node_rows, extra_for}, Stocked.{stocked}}, specs.Lending.{IsFoundAnew}}
-use Rattle.candidate_source.specs.Doors.{source_candidates}
-use Rattle.beta_node.specs.Lending.{with_candidates, NodeHas}
+use Rattle.{candidate_source.specs.Doors.{source_candidates}, beta_node.specs.Lending.{with_candidates, NodeHas}}
 use Rattle.rete_net.proofs.node.NetNode.load_lent.Goals as goal
 
 pub returns-clause-anew : goal.returns-clause-anew

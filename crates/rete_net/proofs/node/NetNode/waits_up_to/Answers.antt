@@ -1,5 +1,4 @@
-use Rattle.rete_net.proofs.{Common.{sym, subst, Node, IsStillAt}, Scheduling.{none_below}}
-use Rattle.not_node.specs.Doors.{waiting_rows}
+use Rattle.{rete_net.proofs.{Common.{sym, subst, Node, IsStillAt}, Scheduling.{none_below}}, not_node.specs.Doors.{waiting_rows}}
 use Rattle.rete_net.proofs.node.NetNode.waits_up_to.Goals as goal
 
 pub returns-in-Not : goal.returns-in-Not

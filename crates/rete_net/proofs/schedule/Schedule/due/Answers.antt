@@ -1,7 +1,6 @@
 use Rattle.rete_net.proofs.Common.{◌≡◌, ◌∙◌, ◌<◌, sym, ap, subst, inl, inr, ℕ, true, false, List, Some, slice_get, length, arith, slice_get_within}
 use Rattle.rete_net.proofs.{Common.{slice_get-get_or, snapshot_at, floor, has_place, IsFrom, IsSet, EntryTimers}, Scheduling.{undue}}
-use Rattle.std.proofs.lemmas.Bool.{false_from_ne_true}
-use Rattle.fx_base.proofs.{Orders.{below_or_last}, Sequences.{one_value}}
+use Rattle.{std.proofs.lemmas.Bool.{false_from_ne_true}, fx_base.proofs.{Orders.{below_or_last}, Sequences.{one_value}}}
 use Rattle.rete_net.proofs.schedule.Schedule.due.Goals as goal
 
 pub loop-line-init : goal.loop-line-init

@@ -1,6 +1,5 @@
 use Rattle.rete_net.proofs.Common.{◌≡◌, ◌∙◌, ◌<◌, sym, ap, subst, inl, inr, ℕ, true, Some, slice_get, length, arith, slice_get_within, slice_get-get_or}
-use Rattle.rete_net.proofs.Common.{is_changed_by_clock, IsScheduled, NetNode}
-use Rattle.fx_base.proofs.Orders.{below_or_last}
+use Rattle.{rete_net.proofs.Common.{is_changed_by_clock, IsScheduled, NetNode}, fx_base.proofs.Orders.{below_or_last}}
 use Rattle.rete_net.proofs.schedule.Schedule.of.Goals as goal
 
 pub loop-place-preserved : goal.loop-place-preserved

@@ -1,7 +1,6 @@
 use Rattle.rete_net.proofs.Common.{◌≡◌, ◌∙◌, ◌<◌, sym, ap, refl, subst, Some, slice_get, length, slice_get_within, slice_get-get_or, EntryTimers, Timers, IsSet}
 use Rattle.rete_net.{specs.Schedules.{gate_told}, proofs.Scheduling.{if_some, kept_beside, quiet_sooner, scheduled_still}}
-use Rattle.beta_node.specs.Lending.{with_candidates}
-use Rattle.fx_base.proofs.Sequences.{get-set_same, one_value}
+use Rattle.{beta_node.specs.Lending.{with_candidates}, fx_base.proofs.Sequences.{get-set_same, one_value}}
 use Rattle.rete_net.proofs.schedule.Schedule.put.Goals as goal
 
 -- the timers of the entry point as they were

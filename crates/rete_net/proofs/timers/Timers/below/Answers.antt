@@ -1,5 +1,4 @@
-use Rattle.std.proofs.lemmas.Int.{to_z-of_z}
-use Rattle.rete_net.proofs.Timing.{all_from}
+use Rattle.{std.proofs.lemmas.Int.{to_z-of_z}, rete_net.proofs.Timing.{all_from}}
 use Rattle.rete_net.proofs.timers.Timers.below.Goals as goal
 
 pub returns : goal.returns

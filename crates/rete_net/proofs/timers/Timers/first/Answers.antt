@@ -1,5 +1,4 @@
-use Rattle.rete_net.proofs.{Common.{rules, Some, None, FitsSigned, w128}, Timing.{before_first}}
-use Rattle.std.proofs.lemmas.Int.{to_z-of_z}
+use Rattle.{rete_net.proofs.{Common.{rules, Some, None, FitsSigned, w128}, Timing.{before_first}}, std.proofs.lemmas.Int.{to_z-of_z}}
 use Rattle.rete_net.proofs.timers.Timers.first.Goals as goal
 
 pub returns-in-Some : goal.returns-in-Some

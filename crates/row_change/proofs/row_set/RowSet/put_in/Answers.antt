@@ -1,7 +1,6 @@
 use Rattle.row_change.proofs.{Common.{◌∙◌, ap, Bool, ◌||◌, eq_by_cmp, row_cmp}, Parts.{seen}}
 use Rattle.row_change.proofs.row_set.RowSet.put_in.Goals as goal
-use Rattle.row_change.proofs.row_set.RowSet.put_in.Goals.{in-Listed+in_ok-put-in-Listed, in-Tree+in_ok-insert-in-Tree}
-use Rattle.fx_base.proofs.Tests.{cond_true_first}
+use Rattle.{row_change.proofs.row_set.RowSet.put_in.Goals.{in-Listed+in_ok-put-in-Listed, in-Tree+in_ok-insert-in-Tree}, fx_base.proofs.Tests.{cond_true_first}}
 
 pub returns : goal.returns
 returns c = elim c.match-self.branch [

@@ -1,5 +1,5 @@
-use Rattle.rule_eval.proofs.{Common.{◌∙◌, sym, ap, nat_lt, lent, is_behind}, Counted.{count_lent}}
-use Rattle.rule_model.specs.{declared.condition.WindowTag.{WindowTag}, Candidates.{is_inside as is_inside_of}}
+use Rattle.{rule_eval.proofs.{Common.{◌∙◌, sym, ap, nat_lt, lent, is_behind}, Counted.{count_lent}}, rule_model.specs.declared.condition.WindowTag.{WindowTag}}
+use Rattle.rule_model.specs.Candidates.{is_inside as is_inside_of}
 use Rattle.rule_eval.proofs.finder.Finder.is_inside.Goals as goal
 
 pub returns-in-Length : goal.returns-in-Length

@@ -1,5 +1,4 @@
-use Rattle.rule_eval.proofs.Common.{◌≡◌, ◌-ℤ◌, to_z, of_z, ◌∙◌, ap, arith, w128, ints}
-use Rattle.std.specs.Prelude.{int_lt}
+use Rattle.{rule_eval.proofs.Common.{◌≡◌, ◌-ℤ◌, to_z, of_z, ◌∙◌, ap, arith, w128, ints}, std.specs.Prelude.{int_lt}}
 use Rattle.rule_eval.proofs.finder.Finder.is_young.Goals as goal
 
 pub returns : goal.returns

@@ -1,5 +1,4 @@
-use Rattle.session.{proofs.Common.{◌∙◌, ap, subst, gives_in}, specs.Sessions.{SessionStands}}
-use Rattle.answer_lines.specs.declared.lines.Detail.{Detail}
+use Rattle.{session.{proofs.Common.{◌∙◌, ap, subst, gives_in}, specs.Sessions.{SessionStands}}, answer_lines.specs.declared.lines.Detail.{Detail}}
 use Rattle.session.proofs.detailed.DetailedSessionEngine.apply.Goals as goal
 
 pub returns-clause-lines : goal.returns-clause-lines

@@ -1,6 +1,5 @@
 use Rattle.session.{proofs.{Common.{◌≡◌, ◌∙◌, subst, fires_in}, Answering.{answers_for}}, specs.Sessions.{SessionStands}}
-use Rattle.engine.specs.Answers.{FiringAnswers}
-use Rattle.answer_lines.specs.declared.lines.Detail.{Detail, TheVariants.{Full}}
+use Rattle.{engine.specs.Answers.{FiringAnswers}, answer_lines.specs.declared.lines.Detail.{Detail, TheVariants.{Full}}}
 use Rattle.session.proofs.detailed.DetailedSessionEngine.fire_one.Goals as goal
 
 pub returns-clause-answers : goal.returns-clause-answers

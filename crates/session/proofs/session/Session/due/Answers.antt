@@ -1,6 +1,5 @@
-use Rattle.session.proofs.Common.{◌∙◌, ap, is_some, is_due, Contents}
-use Rattle.fx_base.proofs.Sequences.{is_some-map}
-use Rattle.rule_model.specs.{Matches.{fire_cmp}, First.{first}}
+use Rattle.{session.proofs.Common.{◌∙◌, ap, is_some, is_due, Contents}, fx_base.proofs.Sequences.{is_some-map}, rule_model.specs.Matches.{fire_cmp}}
+use Rattle.rule_model.specs.First.{first}
 use Rattle.session.proofs.session.Session.due.Goals as goal
 
 pub returns : goal.returns

@@ -1,7 +1,5 @@
 use Rattle.session.proofs.Common.{◌≡◌, true, sym, ap, subst, ∥∥₁_map, are_known, Setting, fires_in, IsSound, Standing, merely_known, line_known, top_known}
-use Rattle.session.proofs.Common.{fires_none, fires_some}
-use Rattle.engine.specs.Answers.{FiringAnswers}
-use Rattle.answer_lines.specs.declared.lines.Fired.TheVariants.{No, Yes}
+use Rattle.{session.proofs.Common.{fires_none, fires_some}, engine.specs.Answers.{FiringAnswers}, answer_lines.specs.declared.lines.Fired.TheVariants.{No, Yes}}
 use Rattle.session.proofs.session.Session.fire_one.Goals as goal
 
 pub returns-in-None-clause-answers : goal.returns-in-None-clause-answers

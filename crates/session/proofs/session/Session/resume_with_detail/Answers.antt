@@ -1,7 +1,5 @@
 use Rattle.session.proofs.Common.{◌≡◌, ◌∙◌, true, false, Err, ap, sym, subst, rules, merely, IsImageOf, FitsByRows, Contents, Memory, Setting, IsRestored}
-use Rattle.session.proofs.Common.{residual_unfit}
-use Rattle.rule_world.specs.Lawful.{IsLawful}
-use Rattle.laden_rows.specs.Laden.{AreOwners}
+use Rattle.{session.proofs.Common.{residual_unfit}, rule_world.specs.Lawful.{IsLawful}, laden_rows.specs.Laden.{AreOwners}}
 use Rattle.session.proofs.session.Session.resume_with_detail.Goals as goal
 
 pub returns-then-not-plain-clause-unfit : goal.returns-then-not-plain-clause-unfit

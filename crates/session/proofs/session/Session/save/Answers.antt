@@ -1,6 +1,5 @@
 use Rattle.session.proofs.Common.{◌≡◌, ◌∙◌, List, length, ap, subst, IfOk-weaker, Memory, Contents, Setting, IsSessionSaved, Runs, merely_no_more}
-use Rattle.rule_model.specs.declared.program.EntryInfo.{EntryInfo}
-use Rattle.session_model.proofs.Saved.{saved_image}
+use Rattle.{rule_model.specs.declared.program.EntryInfo.{EntryInfo}, session_model.proofs.Saved.{saved_image}}
 use Rattle.session.proofs.session.Session.save.Goals as goal
 
 pub returns-clause-image : goal.returns-clause-image

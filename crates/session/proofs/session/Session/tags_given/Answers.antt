@@ -1,5 +1,4 @@
-use Rattle.session.proofs.Common.{◌∙◌, ap, Contents}
-use Rattle.std.proofs.Common.{◌-◌}
+use Rattle.{session.proofs.Common.{◌∙◌, ap, Contents}, std.proofs.Common.{◌-◌}}
 use Rattle.session.proofs.session.Session.tags_given.Goals as goal
 
 pub returns : goal.returns

@@ -1,5 +1,4 @@
-use Rattle.session.proofs.Common.{◌∙◌, ap, is_some, fires_in}
-use Rattle.answer_lines.specs.declared.lines.Detail.{Detail}
+use Rattle.{session.proofs.Common.{◌∙◌, ap, is_some, fires_in}, answer_lines.specs.declared.lines.Detail.{Detail}}
 use Rattle.session.proofs.session.SessionEngine.due.Goals as goal
 
 pub returns : goal.returns

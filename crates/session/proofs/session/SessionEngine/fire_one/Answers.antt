@@ -1,6 +1,5 @@
 use Rattle.session.{proofs.{Common.{◌∙◌, subst, IfOk-weaker, fires_in}, Answering.{answers_for, both_ok}}, specs.Sessions.{SessionStands, StandsInBrief}}
-use Rattle.engine.specs.Answers.{FiringAnswers}
-use Rattle.answer_lines.specs.declared.lines.Detail.{Detail}
+use Rattle.{engine.specs.Answers.{FiringAnswers}, answer_lines.specs.declared.lines.Detail.{Detail}}
 use Rattle.session.proofs.session.SessionEngine.fire_one.Goals as goal
 
 pub returns-clause-answers : goal.returns-clause-answers

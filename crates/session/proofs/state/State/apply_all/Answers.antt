@@ -1,7 +1,5 @@
 use Rattle.session.proofs.Common.{◌≡◌, [], ◌∷◌, inl, inr, List, Result, Ok, ap, length, sym, subst, arith, In, AllWantKnown, Code, SoFar, none_done, one_done}
-use Rattle.session.proofs.Common.{all_done_stands, all_done_lines}
-use Rattle.rule_model.specs.declared.step.Step.{Step}
-use Rattle.fx_base.proofs.Sequences.{empty_from_length}
+use Rattle.{session.proofs.Common.{all_done_stands, all_done_lines}, rule_model.specs.declared.step.Step.{Step}, fx_base.proofs.Sequences.{empty_from_length}}
 use Rattle.session.proofs.state.State.apply_all.Goals as goal
 
 pub loop-wanted-init : goal.loop-wanted-init

@@ -1,6 +1,5 @@
 use Rattle.session.proofs.Common.{◌≡◌, ◌∙◌, ◌∷◌, ◌++◌, [], List, ℤ, ap, sym, arith, rules, of_z, to_z, w64}
-use Rattle.std.proofs.lemmas.List.FromFn.{map-range_with_len_more}
-use Rattle.session_model.specs.Places.{floor_in}
+use Rattle.{std.proofs.lemmas.List.FromFn.{map-range_with_len_more}, session_model.specs.Places.{floor_in}}
 use Rattle.session.proofs.state.State.floors.Goals as goal
 
 pub loop-place-preserved : goal.loop-place-preserved

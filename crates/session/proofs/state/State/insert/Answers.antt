@@ -1,8 +1,7 @@
 use Rattle.session.proofs.Common.{◌≡◌, ◌∙◌, List, ap, nat_lt, length, Some, None, [], ◌∷◌, ◌++◌, subst, sym, Fact, Insert, Contents, insert_fault, insert_line}
 use Rattle.session.proofs.Common.{done_lines, on_ok, on_ok_weaker, refused_lines, refused_tries, tried_done, StayKnown, new_known, one_more_known, refl}
-use Rattle.std.proofs.lemmas.Bool.{and_parts}
-use Rattle.answer_lines.specs.declared.lines.OutLine.{OutLine}
-use Rattle.session_model.{specs.Gives.{new_line}, proofs.Faults.{numbered}}
+use Rattle.{std.proofs.lemmas.Bool.{and_parts}, answer_lines.specs.declared.lines.OutLine.{OutLine}, session_model.specs.Gives.{new_line}}
+use Rattle.session_model.proofs.Faults.{numbered}
 use Rattle.session.proofs.state.State.insert.Goals as goal
 
 pub returns-in_ok-push-in-Ok-clause-stands : goal.returns-in_ok-push-in-Ok-clause-stands

@@ -1,8 +1,6 @@
 use Rattle.session.proofs.Common.{◌≡◌, ◌∙◌, ◌==◌, ℕ, true, sym, subst, ap, not, list_any, Named, marked, names_tag, is_tag_among, Contents, Standing, IsSound}
-use Rattle.session.proofs.Common.{contents, eq_by_cmp, has_match, match_cmp, on_ok_weaker, Match, Option, Some}
-use Rattle.rule_model.specs.{First.{first}, Matches.{fire_cmp}}
-use Rattle.std.proofs.lemmas.Bool.{and_parts, or_right}
-use Rattle.session_model.proofs.Marking.{marked_awaits}
+use Rattle.{session.proofs.Common.{contents, eq_by_cmp, has_match, match_cmp, on_ok_weaker, Match, Option, Some}, rule_model.specs.First.{first}}
+use Rattle.{rule_model.specs.Matches.{fire_cmp}, std.proofs.lemmas.Bool.{and_parts, or_right}, session_model.proofs.Marking.{marked_awaits}}
 use Rattle.session.proofs.state.State.mark.Goals as goal
 
 -- what is in place is one match

@@ -1,6 +1,5 @@
 use Rattle.session.proofs.Common.{Some, None, refl, sym, subst, Modify, StayKnown, modify_fault_is, revision_known, done_lines, on_ok, on_ok_weaker}
-use Rattle.session.proofs.Common.{refused_lines, refused_tries, tried_done}
-use Rattle.session_model.proofs.Telling.{modify_line}
+use Rattle.{session.proofs.Common.{refused_lines, refused_tries, tried_done}, session_model.proofs.Telling.{modify_line}}
 use Rattle.session.proofs.state.State.modify.Goals as goal
 
 pub returns-in-Ok-clause-stands : goal.returns-in-Ok-clause-stands

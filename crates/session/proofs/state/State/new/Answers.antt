@@ -1,5 +1,4 @@
-use Rattle.session.proofs.Common.{◌∙◌, ap, arith, nat_cmp, zero_clock}
-use Rattle.std.specs.FinMap.{get-empty}
+use Rattle.{session.proofs.Common.{◌∙◌, ap, arith, nat_cmp, zero_clock}, std.specs.FinMap.{get-empty}}
 use Rattle.std.specs.FinMap as map
 use Rattle.session.proofs.state.State.new.Goals as goal
 

@@ -1,7 +1,5 @@
 use Rattle.session.proofs.Common.{◌∙◌, List, refl, sym, ap, subst, to_z, of_z, w64, IsStrictlySortedBy, FiredMatch, Image, match_cmp, match_fired, ArePadded}
-use Rattle.session.proofs.Common.{IsSessionSaved, Contents, clock_same, facts_of}
-use Rattle.std.proofs.Common.{map as list_map}
-use Rattle.laden_rows.specs.Extras.{AreExtras}
+use Rattle.{session.proofs.Common.{IsSessionSaved, Contents, clock_same, facts_of}, std.proofs.Common.{map as list_map}, laden_rows.specs.Extras.{AreExtras}}
 use Rattle.session.proofs.state.State.saved_apart.Goals as goal
 
 pub returns-clause-saved : goal.returns-clause-saved

@@ -1,7 +1,7 @@
 use Rattle.session.proofs.Common.{◌≡◌, ◌∙◌, ◌<◌, ◌^◌, true, List, ap, sym, subst, filter_map, length, FitsSigned, to_z, of_z, to_z-of_z, w64, rules, arith}
 use Rattle.session.proofs.Common.{Match, has_match, has_listed_tag, is_tag_among, is_named, PassesLives, Awaits, Contents, ReachesNoMore, reached_of, no_keys}
-use Rattle.session.proofs.Common.{safe_fewer, stands_less, stands_same, named_at, contents, facts_of, over}
-use Rattle.rete_net.{proofs.Networks.{network_of, rules_counted}, specs.Doors.{rule_count}}
+use Rattle.{session.proofs.Common.{safe_fewer, stands_less, stands_same, named_at, contents, facts_of, over}, rete_net.proofs.Networks.{network_of}}
+use Rattle.rete_net.{proofs.Networks.{rules_counted}, specs.Doors.{rule_count}}
 use Rattle.session.proofs.state.State.settle.Goals as goal
 
 pub invariant_of-self : goal.invariant_of-self

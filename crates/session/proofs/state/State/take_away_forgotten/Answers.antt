@@ -1,5 +1,4 @@
-use Rattle.session.proofs.Common.{on_ok_weaker, Retract, stepped}
-use Rattle.session_model.proofs.Retracting.{retracts_forgotten}
+use Rattle.{session.proofs.Common.{on_ok_weaker, Retract, stepped}, session_model.proofs.Retracting.{retracts_forgotten}}
 use Rattle.session.proofs.state.State.take_away_forgotten.Goals as goal
 
 pub returns-clause-stands : goal.returns-clause-stands

@@ -2,10 +2,7 @@ use Rattle.session.proofs.Common.{◌≡◌, ◌≤ℤ◌, ◌∙◌, ℕ, ℤ, 
 use Rattle.session.proofs.Common.{cleaned, NetStands, Rule, HeldFacts, facts_of, At, stepped, is_tag_among, HasLeft, over, Awaits, Contents, Standing, IsSound}
 use Rattle.session.proofs.Common.{reached_of, clock_same, safe_left, none_gone, no_tags, later_awaits, later_leads, later_leads_on, none_left, quiet_refreshed}
 use Rattle.session.proofs.Common.{remaining, remaining_is, contents, followed_sound, instant_of, facts_at_clock, Reached, Program, IsOrderly}
-use Rattle.session.proofs.Stops.{safe_due}
-use Rattle.condition_rows.specs.Sets.{rows_of}
-use Rattle.due_queue.specs.Timers.{Timers}
-use Rattle.session_model.specs.Places.{IsSafe}
+use Rattle.{session.proofs.Stops.{safe_due}, condition_rows.specs.Sets.{rows_of}, due_queue.specs.Timers.{Timers}, session_model.specs.Places.{IsSafe}}
 use Rattle.session.proofs.state.State.take_clock.Goals as goal
 
 -- facts in order at a clock are so whatever entry points have reached

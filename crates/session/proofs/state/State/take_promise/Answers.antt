@@ -1,6 +1,6 @@
 use Rattle.session.proofs.Common.{◌≡◌, refl, sym, subst, to_z, of_z, to_z-of_z, w64, on_ok_weaker, Promise, stepped, is_tag_among, Memory, MovesSession}
-use Rattle.session.proofs.Common.{Contents, IsSound, clock_same, followed_sound, promise_no_more, contents}
-use Rattle.session_model.proofs.Promising.{has_promise, promise_awaits}
+use Rattle.{session.proofs.Common.{Contents, IsSound, clock_same, followed_sound, promise_no_more, contents}, session_model.proofs.Promising.{has_promise}}
+use Rattle.session_model.proofs.Promising.{promise_awaits}
 use Rattle.session.proofs.state.State.take_promise.Goals as goal
 
 pub returns-clause-stands : goal.returns-clause-stands

@@ -1,7 +1,7 @@
 use Rattle.session.proofs.Common.{◌≡◌, ◌∙◌, ◌+◌, Some, None, option_map, sym, subst, ap, to_z, of_z, w64, arith, on_ok_weaker, Fact, Modify, modify_fault}
 use Rattle.session.proofs.Common.{stepped, is_tag_among, HasLeft, IsNewestTag, newest, Contents, Standing, IsSound, clock_same, fresh_less, safe_again, got_new}
-use Rattle.session.proofs.Common.{◌++◌, Option, on_ok, contents, followed_sound, instant_of}
-use Rattle.session_model.{specs.Gives.{modified_lines, revision}, proofs.Revising.{modify_awaits, modify_leads_on}}
+use Rattle.{session.proofs.Common.{◌++◌, Option, on_ok, contents, followed_sound, instant_of}, session_model.specs.Gives.{modified_lines, revision}}
+use Rattle.session_model.proofs.Revising.{modify_awaits, modify_leads_on}
 use Rattle.std.specs.FinMap as map
 use Rattle.session.proofs.Stops.{safe_given}
 use Rattle.session.proofs.state.State.take_sets.Goals as goal

@@ -1,8 +1,6 @@
 use Rattle.session.proofs.Common.{◌≡◌, ℤ, pos, ◌≤ℤ◌, ◌+ℤ◌, ◌-ℤ◌, Bool, true, false, List, Option, None, Result, Ok, Err, refl, sym, ◌∙◌, slice_get, subst, to_z}
 use Rattle.session.proofs.Common.{of_z, w64, arith, IfOk, TypeInfo, is_event_type, Code, most_millis, new_fault, times_of, zero_clock}
-use Rattle.std.proofs.lemmas.Int.{ints}
-use Rattle.fx_base.specs.declared.{times.Times.{Times}, value.Value.{Value}}
-use Rattle.rule_world.proofs.Faultless.{not_started, started}
+use Rattle.{std.proofs.lemmas.Int.{ints}, fx_base.specs.declared.{times.Times.{Times}, value.Value.{Value}}, rule_world.proofs.Faultless.{not_started, started}}
 use Rattle.session.proofs.state.State.times_for.Goals as goal
 
 event_low : (m a b : ℤ) → (pos 0 -ℤ m) ≤ℤ a → a ≤ℤ b → (pos 0 -ℤ m) ≤ℤ b
