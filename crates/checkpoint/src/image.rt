@@ -1,5 +1,6 @@
-use fx_base::{Fact, RuleId, Seq};
+use fx_base::{Copies, Fact, NoMemory, RuleId, Seq};
 use row_delta::{Extra, Row};
+use std::alloc::Global;
 
 /// What an image says of the run so far.
 #[derive(Debug, Drop)]
@@ -12,6 +13,17 @@ pub struct RunPart {
     pub firings: u64,
     /// Whether a fault line was given.
     pub faulty: bool,
+}
+
+impl Copies for RunPart {
+    fn copy(&self, alloc: Global) -> Result<RunPart, NoMemory> {
+        Ok(RunPart {
+            rules: self.rules.copy(alloc)?,
+            lines: self.lines,
+            firings: self.firings,
+            faulty: self.faulty,
+        })
+    }
 }
 
 /// A match that was fired: the place of its rule, from 0, and its row.

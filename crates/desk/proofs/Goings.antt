@@ -1,7 +1,8 @@
 -- A run by the lives by which it goes, from what is done by a table.
-use Rattle.{std.{proofs.Common.{◌≡◌, ◌⊎◌, ◌≤◌, ℕ, List, Option, None, Some, sym, subst}, specs.Prelude.{IfSome}}, fx_io.specs.Outside.{append, AppendsFront}}
-use Rattle.{replay.specs.Wanted.{Files}, rule_model.specs.declared.life.LifeTable.{LifeTable}, desk.specs.declared.going.Inferred.{Inferred}}
-use Rattle.desk.specs.{declared.{live.Live.{Live}, wanted.{Begun.{Begun}, Changing.{Changing}}}, Changes.{Changed, begun_over}, Going.{AreInferred, IsBarred}}
+use Rattle.{std.{proofs.Common.{◌≡◌, ◌⊎◌, ◌≤◌, ℕ, List, Option, None, Some, Result, Ok, Err, refl, sym, subst}, specs.Prelude.{IfErr, IfSome}}, fx_io.specs.Outside.{append, AppendsFront}}
+use Rattle.{replay.specs.{declared.beginning.Beginning.{Beginning}, Wanted.{Files}}, rule_model.specs.declared.{life.LifeTable.{LifeTable}, program.Program.{Program}}}
+use Rattle.desk.specs.{declared.going.{Bar.{Bar, TheVariants.{Line, NoMemory}}, Found.{Found}, Inferred.{Inferred}}, Bars.{IsBarOf, IsBarWith, IsFoundOf}}
+use Rattle.desk.specs.{declared.{live.Live.{Live}, wanted.{Begun.{Begun}, Changing.{Changing}}}, Changes.{Changed, begun_over}, Going.{AreInferred, IsBarred, IsTold, MayGoBy}}
 use Rattle.desk.specs.{Meanings.{Meanings}, Report.{GoesBy, IsGoing, IsKeptOut, IsPromptBy, IsPromptRun, IsSaid, IsStoppedBy, IsStoppedRun, LivesBy, live_in}}
 use Rattle.desk.specs.Report.{table_by}
 
@@ -15,9 +16,29 @@ pub kept_out : (b : Begun) (text : List ℕ) (before after : Option (List ℕ)) 
     → IsSaid text 9 before after files files' status → IsKeptOut b before after files files' status
 kept_out b text before after files files' status bar said = (bar.0, bar.1, text, bar.2, said)
 
+-- of the lives that were inferred
+pub barred_of : (p : Program) (later : Option Program) (beginning : Beginning) (lives : Option LifeTable) (inferred : Inferred) → AreInferred p later inferred
+    → (r : Result Found Bar) → IfErr r (IsBarWith p inferred beginning lives) → IfErr r (IsBarOf p later beginning lives)
+barred_of p later beginning lives inferred are (Ok found) bar = tt
+barred_of p later beginning lives inferred are (Err (Line text)) bar = (inferred, are, bar)
+barred_of p later beginning lives inferred are (Err NoMemory) bar = tt
+
 -- the run and the table are those of some lives by which it goes
 abbrev pub GoesOn : Begun → Live → LifeTable → Type 0
 GoesOn b live table = (inferred : Inferred) × (told : Option LifeTable) × GoesBy b inferred told × (live ≡ live_in b told) × (table ≡ table_by b inferred)
+
+pub goes_on_by : (b : Begun) (found : Found) → IsFoundOf b.setting.program b.setting.later b.beginning b.lives found → GoesOn b (live_in b found.told) found.table
+goes_on_by b found on = (
+  on.0,
+  found.told,
+  record {
+    inferred_so = on.1;
+    told_so = subst (λ (t : LifeTable). IsTold on.0.own t found.told) on.2 on.3;
+    may_go = subst (MayGoBy b.setting.program on.0) on.2 on.4;
+  },
+  refl,
+  on.2,
+)
 
 module _ (m : Meanings) (b : Begun) (live : Live) (table : LifeTable) (on : GoesOn b live table) where
   by_both : (P : Live → LifeTable → Type 0) → P live table → P (live_in b on.1) (table_by b on.0)

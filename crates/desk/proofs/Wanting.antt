@@ -4,10 +4,10 @@ use Rattle.{command_words.specs.declared.desk.{DeskAsked.{DeskAsked}, DeskWords.
 use Rattle.{drl_parse.specs.Parsed.{file_limit}, fx_io.specs.Outside.{IsMissing, IsOnShelf, file_told}, replay.specs.declared.refusal.Refusal.{Refusal}}
 use Rattle.replay.specs.{declared.{refusal.RefusalCode.TheVariants.{Missing}, refused_checkpoint.CheckpointCode.{CheckpointCode}}, Checkpoints.{rules_shown}}
 use Rattle.replay.{specs.{Names.{names_read}, Refusals.{reading, whole_file}, Wanted.{Files}}, proofs.Reports.{names_taken, rules_in_read, within_taken}}
-use Rattle.{rule_model.specs.declared.program.Program.{Program}, script_run.specs.declared.form.Form.{Form, TheVariants.{Objects}}}
+use Rattle.{rule_model.specs.declared.program.Program.{Program}, script_run.specs.{Forms.{form_for}, declared.form.Form.{Form, TheVariants.{Objects}}}}
 use Rattle.desk.specs.declared.{reading.Rules.{Rules}, start.Start.{Start as StartData, TheVariants.{Begins, Changes}}, wanted.Setting.{Setting}}
 use Rattle.desk.specs.{Rules.{AreAccepted, AreRefused, AreRefusedIn, coming_as}, Starts.{HasText, start_as, wanted_as}, Wanted.{cannot_begin, cannot_come}}
-use Rattle.desk.specs.Wanted.{come, coming, coming_in, form_of, over_old, refuses, refuses_image, setting_of, start, to_come, wanted_by, wanted_by_file}
+use Rattle.desk.specs.Wanted.{come, coming, coming_in, over_old, refuses, refuses_image, setting_of, start, to_come, wanted_by, wanted_by_file}
 use Rattle.desk.specs.Wanted.{wanted_by_reading, wanted_from, wanted_with}
 
 -- ---- a rule file
@@ -100,7 +100,7 @@ module _ (asked : DeskAsked) (files : Files) (rules : Rules) (has : HasRules ask
   image_refused later code is from = with_later later is ∙ ap (wanted_from (setting_of asked has.names rules.program later) rules.text.items) from
 
 -- names are made where the answers have them
-form_alike : (text : Bool) (named names : List RuleNames) → (not text ≡ true → named ≡ names) → form_of text names ≡ form_of text named
+form_alike : (text : Bool) (named names : List RuleNames) → (not text ≡ true → named ≡ names) → form_for text names ≡ form_for text named
 form_alike true named names h = refl
 form_alike false named names h = ap Objects (sym (h refl))
 
@@ -112,7 +112,7 @@ started setting rules (Begins beginning lives) text = refl
 started setting rules (Changes shown lives image) text = ap (λ (rules : List ℕ). over_old setting rules lives image (reading image.run.rules)) (sym text)
 
 pub begun : (asked : DeskAsked) (files : Files) (rules : Rules) (has : HasRules asked files rules) (later : Option Program) (from : StartData) (form : Form)
-    → to_come asked.keep files ≡ coming_as later → start rules.text.items asked.image files ≡ start_as from → HasText rules.text.items from → form ≡ form_of asked.text rules.names
+    → to_come asked.keep files ≡ coming_as later → start rules.text.items asked.image files ≡ start_as from → HasText rules.text.items from → form ≡ form_for asked.text rules.names
     → wanted_by (Some (Run asked)) files ≡ wanted_as (record { program = rules.program; each = asked.each; form = form; image = asked.image; later = later }) from
 begun asked files rules has later from form is begins text made =
     with_later asked files rules has later is

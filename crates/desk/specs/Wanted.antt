@@ -7,7 +7,7 @@ use Rattle.checkpoint.specs.declared.image.Image.{Image}
 use Rattle.desk.specs.declared.wanted.{Begun.{Begun}, Changing.{Changing}, Setting.{Setting}}
 use Rattle.desk_image.specs.Reading.{desk_decoded}
 use Rattle.rule_model.specs.declared.{life.LifeTable.{LifeTable}, program.Program.{Program}}
-use Rattle.script_run.specs.declared.form.Form.{Form, TheVariants.{Text, Objects}}
+use Rattle.script_run.specs.Forms.{form_for}
 use Rattle.replay.specs.declared.{beginning.Beginning.{Beginning, TheVariants.{First, Behind}}, refusal.{Refusal.{Refusal}, RefusalCode.TheVariants.{Missing}}}
 use Rattle.replay.specs.declared.{refused_checkpoint.CheckpointCode.{CheckpointCode, TheVariants.{TooLong, BadImage, Unfit}}, rule_file.Reading.{Reading}}
 use Rattle.replay.specs.{declared.rule_file.Reading.TheVariants.{Accepted, Refused}, Checkpoints.{image_limit, rules_shown}, Names.{names_read}}
@@ -101,11 +101,6 @@ pub data Wanted : Type 0 where
   -- a live run behind an image of other rules
   runs_over : Changing → Wanted
 
--- lines of text, or objects with the names of the variables in a rule file
-abbrev pub form_of : Bool → List RuleNames → Form
-form_of true names = Text
-form_of false names = Objects names
-
 abbrev pub over_old : Setting → List ℕ → Option LifeTable → Image → Reading → Wanted
 over_old setting rules lives image (Accepted old) = runs_over (record { setting = setting; rules = rules; old = old; lives = lives; image = image })
 over_old setting rules lives image (Refused refusal) = refuses_image Unfit
@@ -116,7 +111,7 @@ wanted_from setting rules (changes lives image) = over_old setting rules lives i
 wanted_from setting rules (cannot_begin code) = refuses_image code
 
 abbrev pub setting_of : DeskAsked → List RuleNames → Program → Option Program → Setting
-setting_of asked names p later = record { form = form_of asked.text names; each = asked.each; image = asked.image; program = p; later = later }
+setting_of asked names p later = record { form = form_for asked.text names; each = asked.each; image = asked.image; program = p; later = later }
 
 abbrev pub wanted_with : DeskAsked → Files → List RuleNames → List ℕ → Program → ToCome → Wanted
 wanted_with asked files names rules p none_come = wanted_from (setting_of asked names p None) rules (start rules asked.image files)

@@ -5,14 +5,14 @@ ghost use Rattle.rule_change.specs.Told.{rules_told};
 ghost use Rattle.rule_lines.specs.Told.{told_lines};
 ghost use Rattle.life_meaning.specs.Tables.{AreLives};
 ghost use Rattle.rule_world.specs.Programs.{IsRunnable};
-ghost use Rattle.desk.specs.Bars.{IsOutcome};
+ghost use Rattle.desk.specs.Bars.{IsAsked, IsOutcome};
 ghost use Rattle.desk.specs.Changes.{HasGround, HasNoGround, kept_by};
 ghost use Rattle.desk.specs.Going.{behind_table};
 ghost use Rattle.desk.specs.Meanings.{is_text as is_text_form};
 
 use crate::going::{change_text, copied};
 use crate::start::is_text;
-use crate::wanted::{Begun, Changing};
+use crate::wanted::{Begun, Changing, Setting};
 use change_rules::{have_names, have_places, is_as_long, staying_rules, told_rules};
 use checkpoint::Image;
 use expiry_infer::lives;
@@ -87,6 +87,29 @@ fn told_text(
     Ok(text)
 }
 
+// What is asked of other rules: the lives that they need, which of the old rules stay, and the lines that tell it.
+#[derive(Drop)]
+pub(crate) struct Asked {
+    pub(crate) needs: LifeTable,
+    pub(crate) places: Vec<Option<usize>>,
+    pub(crate) told: Vec<u8>,
+}
+
+fn find_asked(alloc: Global, setting: &Setting, old: &Program) -> Result<Asked, NoMemory>
+    requires runnable { IsRunnable setting.now.program }
+    requires old { IsRunnable old.now }
+    ensures { IfOk result (IsAsked setting.now old.now) }
+{
+    let needs = lives(alloc, &setting.program)?;
+    let places = staying_rules(alloc, old, &setting.program)?;
+    let told = told_text(alloc, &setting.form, old, &setting.program, &places)?;
+    Ok(Asked {
+        needs,
+        places,
+        told,
+    })
+}
+
 // What becomes of the run, where other rules can be asked for.
 fn over(
     alloc: Global,
@@ -101,6 +124,7 @@ fn over(
     requires ground { HasGround changing kept.now }
     ensures { IfOk result (IsOutcome changing) }
 {
+    let asked = find_asked(alloc, &changing.setting, &changing.old)?;
     let Changing {
         setting,
         rules,
@@ -108,18 +132,26 @@ fn over(
         lives: _,
         image,
     } = changing;
-    let needs = lives(alloc, &setting.program)?;
-    let places = staying_rules(alloc, &old, &setting.program)?;
-    let told = told_text(alloc, &setting.form, &old, &setting.program, &places)?;
-    let by = Lives { kept, own: &needs };
-    match change(alloc, &old, &setting.program, &places, &by, rules, image) {
+    let by = Lives {
+        kept,
+        own: &asked.needs,
+    };
+    match change(
+        alloc,
+        &old,
+        &setting.program,
+        &asked.places,
+        &by,
+        rules,
+        image,
+    ) {
         Ok(Ok((made, carried))) => {
             let begun = Begun {
                 setting,
                 beginning: Beginning::Behind(made),
                 lives: Some(carried),
             };
-            Ok(Outcome::Taken(begun, told))
+            Ok(Outcome::Taken(begun, asked.told))
         }
         Ok(Err(code)) => {
             let line = change_text(alloc, &setting.program, code)?;

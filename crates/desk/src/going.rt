@@ -9,7 +9,7 @@ ghost use Rattle.desk.specs.declared.going.Inferred.{Inferred as InferredLives};
 ghost use Rattle.desk.specs.Going.{AreInferred, AreLater, HaveFewTypes, IsBarred, IsTold, IsTooShort, Lasts, MayGoBy, change_code_text};
 ghost use Rattle.desk.specs.Going.{change_text as text_of_change, table_in, type_name};
 ghost use Rattle.desk.specs.declared.going.Bar.TheVariants.{NoMemory as NoRoom};
-ghost use Rattle.desk.specs.Bars.{IsBar};
+ghost use Rattle.desk.specs.Bars.{IsBar, IsBarOf, IsBarWith, IsFoundOf, IsFoundWith};
 ghost use Rattle.desk.specs.Report.{GoesBy, live_in, table_by};
 
 use crate::live::Live;
@@ -236,6 +236,53 @@ fn bar_text(
     }
 }
 
+// The table by which a run goes, and what its images say of it, if they say some.
+#[derive(Drop)]
+pub(crate) struct Found {
+    pub(crate) table: LifeTable,
+    pub(crate) told: Option<LifeTable>,
+}
+
+// With these lives that are inferred.
+fn find_with(
+    alloc: Global,
+    program: &Program,
+    inferred: &Inferred,
+    beginning: &Beginning,
+    lives: Option<LifeTable>,
+) -> Result<Found, Bar>
+    requires types { length program.now.types ≤ 2 ^ 16 }
+    requires later { HaveFewTypes inferred.now.later }
+    ensures found { IfOk result (IsFoundWith program.now inferred.now beginning.now lives) }
+    ensures barred { IfErr result (IsBarWith program.now inferred.now beginning.now lives) }
+{
+    let table = table_of(alloc, program, inferred, beginning, lives)?;
+    if let Some(line) = bar_text(alloc, program, inferred, &table)? {
+        return Err(Bar::Line(line));
+    }
+    let told = told(alloc, &inferred.own, &table)?;
+    Ok(Found { table, told })
+}
+
+// The table by which a run of a program goes from its beginning, with the lives that its image says, where these rules are to come.
+fn find_table(
+    alloc: Global,
+    program: &Program,
+    later: Option<Program>,
+    beginning: &Beginning,
+    lives: Option<LifeTable>,
+) -> Result<Found, Bar>
+    requires runnable { IsRunnable program.now }
+    requires later { IfSome later IsRunnable }
+    ensures found { IfOk result (IsFoundOf program.now later beginning.now lives) }
+    ensures safe { IfOk result (λ it. IsSafeTable program.now it.table) }
+    ensures barred { IfErr result (IsBarOf program.now later beginning.now lives) }
+{
+    as_long_lives_are_safe();
+    let inferred = infer_lives(alloc, program, later)?;
+    find_with(alloc, program, &inferred, beginning, lives)
+}
+
 /// A live run with the table by which it goes, or why it does not go.
 pub(crate) fn find_going(alloc: Global, begun: Begun) -> Result<Going, Bar>
     requires runnable { IsRunnable begun.setting.program }
@@ -256,20 +303,21 @@ pub(crate) fn find_going(alloc: Global, begun: Begun) -> Result<Going, Bar>
         image,
         later,
     } = setting;
-    as_long_lives_are_safe();
-    let inferred = infer_lives(alloc, &program, later)?;
-    let table = table_of(alloc, &program, &inferred, &beginning, lives)?;
-    if let Some(line) = bar_text(alloc, &program, &inferred, &table)? {
-        return Err(Bar::Line(line));
+    match find_table(alloc, &program, later, &beginning, lives) {
+        Ok(found) => {
+            let live = Live {
+                program,
+                beginning,
+                each,
+                form,
+                image,
+                told: found.told,
+            };
+            Ok(Going {
+                live,
+                table: found.table,
+            })
+        }
+        Err(bar) => Err(bar),
     }
-    let told = told(alloc, &inferred.own, &table)?;
-    let live = Live {
-        program,
-        beginning,
-        each,
-        form,
-        image,
-        told,
-    };
-    Ok(Going { live, table })
 }

@@ -9,7 +9,7 @@ ghost use Rattle.desk.specs.Report.{IsPrompt, IsSaid, IsServed, IsStopped, usage
 ghost use Rattle.desk.specs.Starts.{wanted_as};
 ghost use Rattle.script_run.specs.Live.{most_firings};
 ghost use Rattle.desk.specs.Meanings.{both};
-ghost use Rattle.desk.specs.Wanted.{form_of, over_old, runs, runs_over, wanted, wanted_by};
+ghost use Rattle.desk.specs.Wanted.{over_old, runs, runs_over, wanted, wanted_by};
 ghost use Rattle.replay.specs.declared.refusal.Refusal.{Refusal as RefusalData};
 ghost use Rattle.replay.specs.Refusals.{reading, refusal_text};
 ghost use Rattle.fx_io.specs.Outside.{Rose};
@@ -21,7 +21,6 @@ use crate::start::{Start, find_start};
 use crate::wanted::{Begun, Changing, Setting};
 use checkpoint::Image;
 use command_words::{DeskAsked, DeskWords, desk_asked};
-use drl_names::RuleNames;
 use engine::Inspect;
 use fx_base::{Seq, Text};
 use fx_io::{Shelf, Source};
@@ -55,16 +54,6 @@ fn lent(name: &Option<Text>) -> Option<&str>
     match name {
         Some(name) => Some(name.as_str()),
         None => None,
-    }
-}
-
-fn form_of(text: bool, names: Seq<RuleNames>) -> Form
-    ensures { result ≡ form_of text names }
-{
-    if text {
-        Form::Text
-    } else {
-        Form::Objects(names)
     }
 }
 
@@ -250,7 +239,7 @@ fn serve<E: Inspect, D: Inspect, F: Shelf, S: Source<K>, K: FileSink>(
     let setting = Setting {
         program: rules.program,
         each: asked.each,
-        form: form_of(asked.text, rules.names),
+        form: Form::for_answers(asked.text, rules.names),
         image: asked.image,
         later,
     };

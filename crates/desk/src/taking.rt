@@ -9,7 +9,7 @@ use crate::ending::keep;
 use crate::going::copied;
 use checkpoint::RunPart;
 use engine::{Engine, Inspect};
-use fx_base::{NoMemory, Seq, Text};
+use fx_base::{Copies, NoMemory, Text};
 use fx_io::Line;
 use fx_store::FileSink;
 use line_run::{KeepFault, LineTaker, Progress, Turn};
@@ -25,17 +25,6 @@ pub(crate) struct Keeping<E: Inspect> {
     pub(crate) first: RunPart,
     pub(crate) image: Option<Text>,
     pub(crate) told: Option<LifeTable>,
-}
-
-fn part_copy(alloc: Global, part: &RunPart) -> Result<RunPart, NoMemory>
-    ensures { IfOk result (λ copy. copy ≡ part.now) }
-{
-    Ok(RunPart {
-        rules: Seq::from_vec(part.rules.as_slice().to_vec(alloc)?),
-        lines: part.lines,
-        firings: part.firings,
-        faulty: part.faulty,
-    })
 }
 
 fn name_copy(alloc: Global, name: &Option<Text>) -> Result<Option<Text>, NoMemory>
@@ -78,7 +67,7 @@ impl<E: Inspect> Keeping<E> {
         ensures told { IfOk result (λ it. it.told ≡ told.now) }
     {
         let lines = LiveLines::new(alloc, engine, each, form, image.is_some())?;
-        let first = part_copy(alloc, first)?;
+        let first = first.copy(alloc)?;
         let image = name_copy(alloc, image)?;
         let told = told_copy(alloc, told)?;
         Ok(Keeping {
@@ -133,7 +122,7 @@ impl<E: Inspect, K: FileSink> LineTaker<K> for Keeping<E> {
     fn keep(&self, alloc: Global, at: Progress, out: &mut K) -> Result<(), KeepFault> {
         match &self.image {
             Some(name) => {
-                let run = at.part(part_copy(alloc, &self.first)?, LIVE_MAX);
+                let run = at.part(self.first.copy(alloc)?, LIVE_MAX);
                 keep::<E, K>(
                     alloc,
                     self.lines.engine(),

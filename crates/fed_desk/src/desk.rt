@@ -4,7 +4,7 @@ ghost use Rattle.line_feed.specs.Fed.{Feeds};
 ghost use Rattle.script_run.specs.Doors.{engine_of};
 ghost use Rattle.script_run.specs.Live.{live_step};
 ghost use Rattle.line_run.specs.Run.{RunState};
-ghost use Rattle.fed_desk.specs.Runs.{ComesTo, Course, HasCome, Tells, setting_of, stands_in};
+ghost use Rattle.fed_desk.specs.Runs.{ComesTo, FedCourse, HasCome, Tells, fed_setting, fed_stands};
 
 use crate::lines::Lines;
 use crate::running::Running;
@@ -40,11 +40,11 @@ fn go_on<E: Inspect>(
     news: &mut Vec<u8>,
 ) -> Result<Option<Running<E>>, NoMemory>
     requires { length bytes.now ≤ running.fed.room }
-    ensures fed { IfOk result (λ after. Feeds (stands_in E.stands) (live_step (setting_of E.gives E.fires E.counts E.made_with E.table running.fed.taker)) bytes.now
+    ensures fed { IfOk result (λ after. Feeds (fed_stands E.stands) (live_step (fed_setting E.gives E.fires E.counts E.made_with E.table running.fed.taker)) bytes.now
         running.fed (option_map (λ it. it.fed) after) news.old.items news.new.items) }
     ensures room { IfOk result (λ after. IfSome after (λ it. it.fed.room + length bytes.now ≡ running.fed.room)) }
-    ensures steps { IfOk result (λ after. IfSome after (λ it. live_step (setting_of E.gives E.fires E.counts E.made_with E.table it.fed.taker)
-        ≡ live_step (setting_of E.gives E.fires E.counts E.made_with E.table running.fed.taker))) }
+    ensures steps { IfOk result (λ after. IfSome after (λ it. live_step (fed_setting E.gives E.fires E.counts E.made_with E.table it.fed.taker)
+        ≡ live_step (fed_setting E.gives E.fires E.counts E.made_with E.table running.fed.taker))) }
     ensures program { IfOk result (λ after. IfSome after (λ it. E.made_with (engine_of it.fed.taker.lines) ≡ E.made_with (engine_of running.fed.taker.lines))) }
     ensures table { IfOk result (λ after. IfSome after (λ it. E.table (engine_of it.fed.taker.lines) ≡ E.table (engine_of running.fed.taker.lines))) }
     ensures first { IfOk result (λ after. IfSome after (λ it. it.first ≡ running.first)) }
@@ -59,11 +59,13 @@ fn go_on<E: Inspect>(
 /// Feeds a desk with bytes, and answers whether its run goes on: it ends where the limit of firings is met. Each line whose end is among them is done, and
 /// what it prints waits to be put out; the front of the next is kept.
 pub fn feed<E: Inspect>(alloc: Global, desk: &mut Desk<E>, bytes: &[u8]) -> Result<bool, FeedFault>
-    ensures fed { IfOk result (λ on. (course : Course) (fed out : List ℕ)
-        → HasCome E.stands (setting_of E.gives E.fires E.counts E.made_with E.table) course fed out desk.old
-        → HasCome E.stands (setting_of E.gives E.fires E.counts E.made_with E.table) course (fed ++ bytes.now) out desk.new) }
+    ensures fed { IfOk result (λ on. (course : FedCourse) (fed out : List ℕ)
+        → HasCome E.stands (fed_setting E.gives E.fires E.counts E.made_with E.table) course fed out desk.old
+        → HasCome E.stands (fed_setting E.gives E.fires E.counts E.made_with E.table) course (fed ++ bytes.now) out desk.new) }
     ensures on { IfOk result (λ on. on ≡ is_some desk.new.run) }
     ensures room { IfOk result (λ on. IfSome desk.old.run (λ before. IfSome desk.new.run (λ after. after.fed.room + length bytes.now ≡ before.fed.room))) }
+    ensures was { IfOk result (λ on. is_some desk.old.run ≡ true) }
+    ensures long_goes { IsErrOf result FeedFault.Long → is_some desk.old.run ≡ true }
     ensures long { IsErrOf result FeedFault.Long → IfSome desk.old.run (λ before. before.fed.room < length bytes.now) }
     ensures unchanged { IsErrOf result FeedFault.Long → desk.new ≡ desk.old }
     ensures ended { IsErrOf result FeedFault.Ended → desk.old.run ≡ None }
@@ -89,27 +91,36 @@ pub fn feed<E: Inspect>(alloc: Global, desk: &mut Desk<E>, bytes: &[u8]) -> Resu
     Ok(desk.run.is_some())
 }
 
+/// Takes as many first bytes as there is room for, puts them into the front of `out`, and answers how many.
+pub fn put_front(bytes: &mut Vec<u8>, out: &mut [u8]) -> usize
+    ensures count { result ≡ min (length bytes.old.items) (length out.old) }
+    ensures front { take result out.new ++ bytes.new.items ≡ bytes.old.items }
+    ensures behind { drop result out.new ≡ drop result out.old }
+{
+    let count = bytes.len().min(out.len());
+    out[..count].copy_from_slice(&bytes[..count]);
+    bytes.drain(..count);
+    count
+}
+
 /// Puts what waits to be put out into the front of `out`, as much as there is room for, and answers how much. It takes no memory, and time that grows with
 /// what waits.
 pub fn put_out<E: Inspect>(desk: &mut Desk<E>, out: &mut [u8]) -> usize
-    ensures put { (course : Course) (fed before : List ℕ)
-        → HasCome E.stands (setting_of E.gives E.fires E.counts E.made_with E.table) course fed before desk.old
-        → HasCome E.stands (setting_of E.gives E.fires E.counts E.made_with E.table) course fed (before ++ take result out.new) desk.new }
+    ensures put { (course : FedCourse) (fed before : List ℕ)
+        → HasCome E.stands (fed_setting E.gives E.fires E.counts E.made_with E.table) course fed before desk.old
+        → HasCome E.stands (fed_setting E.gives E.fires E.counts E.made_with E.table) course fed (before ++ take result out.new) desk.new }
     ensures count { result ≡ min (length desk.old.text.items) (length out.old) }
     ensures front { take result out.new ++ desk.new.text.items ≡ desk.old.text.items }
     ensures behind { drop result out.new ≡ drop result out.old }
     ensures run { desk.new.run ≡ desk.old.run }
 {
-    let count = desk.text.len().min(out.len());
-    out[..count].copy_from_slice(&desk.text[..count]);
-    desk.text.drain(..count);
-    count
+    put_front(&mut desk.text, out)
 }
 
 /// How far the run of a desk has come, if it has not ended. Takes no memory.
 pub fn progress<E: Inspect>(desk: &Desk<E>) -> Option<Progress>
-    ensures told { IfSome result (λ at. (course : Course) (fed out : List ℕ)
-        → HasCome E.stands (setting_of E.gives E.fires E.counts E.made_with E.table) course fed out desk.now
+    ensures told { IfSome result (λ at. (course : FedCourse) (fed out : List ℕ)
+        → HasCome E.stands (fed_setting E.gives E.fires E.counts E.made_with E.table) course fed out desk.now
         → (s : RunState) × ComesTo course fed s × (at ≡ s.progress)) }
     ensures goes { is_some result ≡ is_some desk.now.run }
 {
@@ -136,9 +147,10 @@ pub struct Told {
 
 /// How far the run of a desk has come, and the counts of its world, between the lines that were fed and the next. It takes memory for the counts alone.
 pub fn counts<E: Inspect>(alloc: Global, desk: &Desk<E>) -> Result<Told, CountFault>
-    ensures told { IfOk result (λ told. (course : Course) (fed out : List ℕ)
-        → HasCome E.stands (setting_of E.gives E.fires E.counts E.made_with E.table) course fed out desk.now
+    ensures told { IfOk result (λ told. (course : FedCourse) (fed out : List ℕ)
+        → HasCome E.stands (fed_setting E.gives E.fires E.counts E.made_with E.table) course fed out desk.now
         → Tells course fed told.at told.counts) }
+    ensures goes { IfOk result (λ told. is_some desk.now.run ≡ true) }
     ensures ended { IsErrOf result CountFault.Ended → desk.now.run ≡ None }
 {
     let Some(running) = &desk.run else {

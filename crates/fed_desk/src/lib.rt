@@ -7,8 +7,10 @@ mod lines;
 mod opening;
 mod refused;
 mod running;
+mod saving;
 
-pub use desk::{CountFault, Desk, FeedFault, Told, counts, feed, progress, put_out};
+pub use desk::{CountFault, Desk, FeedFault, Told, counts, feed, progress, put_front, put_out};
 pub use lines::Lines;
 pub use opening::{OpenFault, Options, ended, open, opened};
 pub use running::Running;
+pub use saving::{SaveFault, save};

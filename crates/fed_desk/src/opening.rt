@@ -7,16 +7,15 @@ ghost use Rattle.script_run.specs.Live.{live_by, most_firings};
 ghost use Rattle.replay.specs.Beginnings.{BeginsIn, CanBegin};
 ghost use Rattle.replay.specs.declared.beginning.Beginning.TheVariants.{Behind};
 ghost use Rattle.fed_desk.specs.declared.opening.OpenFault.TheVariants.{NoMemory as NoRoom};
-ghost use Rattle.fed_desk.specs.Openings.{AreRefused, IsOpen, IsOpenIn, IsRefused, TellsImageFault, TellsOpenFault, TellsStartFault};
-ghost use Rattle.fed_desk.specs.Openings.{begins, course_in, form_of, live_of, start};
-ghost use Rattle.fed_desk.specs.Runs.{HasCome, setting_of};
+ghost use Rattle.fed_desk.specs.Openings.{RefusesRules, IsOpen, IsOpenIn, RefusesImage, TellsImageFault, TellsOpenFault, TellsNoBeginning};
+ghost use Rattle.fed_desk.specs.Openings.{course_in, fed_start, live_of, opens_from};
+ghost use Rattle.fed_desk.specs.Runs.{HasCome, fed_setting};
 
 use crate::desk::Desk;
 use crate::lines::Lines;
 use crate::refused::{image_line, refusal_line};
 use crate::running::Running;
 use checkpoint::{DecodeFault, Image, decode};
-use drl_names::RuleNames;
 use engine::{Inspect, ResumeFault};
 use expiry_infer::lives;
 use fx_base::{NoMemory, Seq};
@@ -66,8 +65,8 @@ pub(crate) enum StartFault {
 // The image of these bytes, of rules with this text.
 #[tactic(auto, unfolding(replay::specs::Checkpoints::checkpoint_of))]
 fn image_of(alloc: Global, rules: &[u8], bytes: &[u8]) -> Result<Image, StartFault>
-    ensures found { IfOk result (λ image. start rules.now (Some bytes.now) ≡ begins (Behind image)) }
-    ensures refused { IfErr result (TellsStartFault (start rules.now (Some bytes.now))) }
+    ensures found { IfOk result (λ image. fed_start rules.now (Some bytes.now) ≡ opens_from (Behind image)) }
+    ensures refused { IfErr result (TellsNoBeginning (fed_start rules.now (Some bytes.now))) }
 {
     if bytes.len() > IMAGE_MAX {
         return Err(StartFault::Refused(CheckpointCode::TooLong));
@@ -85,14 +84,14 @@ fn image_of(alloc: Global, rules: &[u8], bytes: &[u8]) -> Result<Image, StartFau
     }
 }
 
-// Where a desk begins of rules with this text, with the bytes of an image, where they are given.
+// Where a desk opens_from of rules with this text, with the bytes of an image, where they are given.
 fn beginning_of(
     alloc: Global,
     rules: Vec<u8>,
     image: Option<&[u8]>,
 ) -> Result<Beginning, StartFault>
-    ensures found { IfOk result (λ beginning. start rules.items (option_map (λ it. it.now) image.entry) ≡ begins beginning) }
-    ensures refused { IfErr result (TellsStartFault (start rules.items (option_map (λ it. it.now) image.entry))) }
+    ensures found { IfOk result (λ beginning. fed_start rules.items (option_map (λ it. it.now) image.entry) ≡ opens_from beginning) }
+    ensures refused { IfErr result (TellsNoBeginning (fed_start rules.items (option_map (λ it. it.now) image.entry))) }
 {
     let Some(bytes) = image else {
         return Ok(Beginning::First(Seq::from_vec(rules)));
@@ -100,16 +99,6 @@ fn beginning_of(
     match image_of(alloc, &rules, bytes) {
         Ok(image) => Ok(Beginning::Behind(image)),
         Err(fault) => Err(fault),
-    }
-}
-
-fn form_of(text: bool, names: Seq<RuleNames>) -> Form
-    ensures { result ≡ form_of text names }
-{
-    if text {
-        Form::Text
-    } else {
-        Form::Objects(names)
     }
 }
 
@@ -124,7 +113,7 @@ fn desk_in<E: Inspect>(
 ) -> Result<Desk<E>, ResumeFault>
     requires runnable { IsRunnable program }
     requires safe { IsSafeTable program table }
-    ensures open { IfOk result (λ desk. (w : World) → BeginsIn program table beginning w → HasCome E.stands (setting_of E.gives E.fires E.counts E.made_with E.table)
+    ensures open { IfOk result (λ desk. (w : World) → BeginsIn program table beginning w → HasCome E.stands (fed_setting E.gives E.fires E.counts E.made_with E.table)
         (course_in (live_by (Some each) form E.gives E.fires E.counts most_firings program table false) beginning w) [] [] desk) }
     ensures goes { IfOk result (λ desk. is_some desk.run ≡ true) }
     ensures fits { OnOk result (CanBegin program table beginning) }
@@ -150,9 +139,9 @@ fn open_in<E: Inspect>(
     form: Form,
 ) -> Result<Desk<E>, OpenFault>
     requires { IsRunnable program }
-    ensures open { IfOk result (IsOpenIn E.stands (setting_of E.gives E.fires E.counts E.made_with E.table)
-        (λ table. live_by (Some each) form E.gives E.fires E.counts most_firings program table false) program (start rules.items (option_map (λ it. it.now) image.entry))) }
-    ensures refused { IfErr result (TellsImageFault program (start rules.items (option_map (λ it. it.now) image.entry))) }
+    ensures open { IfOk result (IsOpenIn E.stands (fed_setting E.gives E.fires E.counts E.made_with E.table)
+        (λ table. live_by (Some each) form E.gives E.fires E.counts most_firings program table false) program (fed_start rules.items (option_map (λ it. it.now) image.entry))) }
+    ensures refused { IfErr result (TellsImageFault program (fed_start rules.items (option_map (λ it. it.now) image.entry))) }
 {
     let table = lives(alloc, &program)?;
     match beginning_of(alloc, rules, image) {
@@ -180,7 +169,7 @@ pub fn open<E: Inspect>(
     image: Option<&[u8]>,
     options: Options,
 ) -> Result<Desk<E>, OpenFault>
-    ensures open { IfOk result (IsOpen E.stands (setting_of E.gives E.fires E.counts E.made_with E.table) (live_of E.gives E.fires E.counts options rules.now)
+    ensures open { IfOk result (IsOpen E.stands (fed_setting E.gives E.fires E.counts E.made_with E.table) (live_of E.gives E.fires E.counts options rules.now)
         rules.now (option_map (λ it. it.now) image.entry)) }
     ensures refused { IfErr result (TellsOpenFault rules.now (option_map (λ it. it.now) image.entry)) }
 {
@@ -192,7 +181,7 @@ pub fn open<E: Inspect>(
     } = read;
     match reading {
         Reading::Accepted(program) => {
-            let form = form_of(options.text, names);
+            let form = Form::for_answers(options.text, names);
             open_in::<E>(alloc, program, text, image, options.each, form)
         }
         Reading::Refused(refusal) => {
@@ -210,7 +199,7 @@ pub fn ended<E: Inspect>(text: Vec<u8>) -> Desk<E>
     Desk { run: None, text }
 }
 
-/// Opens a desk, with the status 0; or makes one whose run never begins, and of which the line waits that says why, with the status 3, where the rules are
+/// Opens a desk, with the status 0; or makes one whose run never opens_from, and of which the line waits that says why, with the status 3, where the rules are
 /// refused, or 9, where the image is.
 pub fn opened<E: Inspect>(
     alloc: Global,
@@ -218,10 +207,10 @@ pub fn opened<E: Inspect>(
     image: Option<&[u8]>,
     options: Options,
 ) -> Result<(Desk<E>, u32), NoMemory>
-    ensures open { IfOk result (λ r. r.1 ≡ 0 → IsOpen E.stands (setting_of E.gives E.fires E.counts E.made_with E.table)
+    ensures open { IfOk result (λ r. r.1 ≡ 0 → IsOpen E.stands (fed_setting E.gives E.fires E.counts E.made_with E.table)
         (live_of E.gives E.fires E.counts options rules.now) rules.now (option_map (λ it. it.now) image.entry) r.0) }
-    ensures rules { IfOk result (λ r. r.1 ≡ 3 → AreRefused rules.now r.0.text.items) }
-    ensures image { IfOk result (λ r. r.1 ≡ 9 → IsRefused rules.now (option_map (λ it. it.now) image.entry) r.0.text.items) }
+    ensures rules { IfOk result (λ r. r.1 ≡ 3 → RefusesRules rules.now r.0.text.items) }
+    ensures image { IfOk result (λ r. r.1 ≡ 9 → RefusesImage rules.now (option_map (λ it. it.now) image.entry) r.0.text.items) }
     ensures ended { IfOk result (λ r. (r.1 ≡ 0) ⊎ ((r.1 ≡ 3) ⊎ (r.1 ≡ 9)) × (r.0.run ≡ None)) }
 {
     match open::<E>(alloc, rules, image, options) {

@@ -1,5 +1,6 @@
 pub mod Texts
 pub mod Written
+pub mod Forms
 pub mod Firings
 pub mod Run
 pub mod Parts

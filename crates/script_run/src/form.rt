@@ -1,3 +1,6 @@
+ghost use Rattle.std.specs.Prelude.{◌≡◌};
+ghost use Rattle.script_run.specs.Forms.{form_for};
+
 use drl_names::RuleNames;
 use fx_base::Seq;
 
@@ -8,4 +11,17 @@ pub enum Form {
     Text,
     /// Objects in JSON, one to a line, with the names of each rule's variables.
     Objects(Seq<RuleNames>),
+}
+
+impl Form {
+    /// Lines of text, or objects with these names.
+    pub fn for_answers(text: bool, names: Seq<RuleNames>) -> Form
+        ensures { result ≡ form_for text names }
+    {
+        if text {
+            Form::Text
+        } else {
+            Form::Objects(names)
+        }
+    }
 }

@@ -4,17 +4,21 @@ use Rattle.desk.proofs.changing.over.Goals as goal
 
 pub returns-in-Ok-Ok : goal.returns-in-Ok-Ok
 returns-in-Ok-Ok c =
-    taken_so c.args.changing c.args.own.now c.args.kept.now c.requires.own c.requires.kept c.in_ok-needs.needs c.in_ok-places.places.items
-    c.in_ok-needs.ensures.lives c.in_ok-places.ensures.from c.in-Ok-Ok.made c.in-Ok-Ok.carried c.in_ok-told.told.items
-    (rw (c.in-Ok-Ok.field-0-is, c.deref-2.ensures.value) at c.in-Ok-Ok.ensures.taken) (rw c.in-Ok-Ok.field-0-is at c.in-Ok-Ok.ensures.run)
-    (rw c.deref.ensures.value at c.in_ok-told.ensures)
+    let asked = c.in_ok-asked.asked in
+    let is = c.in_ok-asked.ensures in
+    taken_so c.args.changing c.args.own.now c.args.kept.now c.requires.own c.requires.kept asked.needs asked.places.items
+    is.needs is.from c.in-Ok-Ok.made c.in-Ok-Ok.carried asked.told.items
+    (rw (c.in-Ok-Ok.field-0-is, c.deref.ensures.value) at c.in-Ok-Ok.ensures.taken) (rw c.in-Ok-Ok.field-0-is at c.in-Ok-Ok.ensures.run) is.told
 
 pub returns-in-Ok-Err : goal.returns-in-Ok-Err
 returns-in-Ok-Err c =
     let ch = c.args.changing in
-    let needs = c.in_ok-needs.needs in
+    let asked = c.in_ok-asked.asked in
+    let is = c.in_ok-asked.ensures in
     let code = c.in-Ok-Err.code in
-    let refused = refused_so ch c.args.own.now c.args.kept.now c.requires.own c.requires.kept needs c.in_ok-places.places.items c.in_ok-needs.ensures.lives in
-    let verdict = subst (λ (places : List (Option ℕ)). IsVerdictOf ch.old ch.setting.program (place_in places) c.args.kept.now needs ch.image (Some code))
-    c.deref-2.ensures.value (rw c.in-Ok-Err.field-0-is at c.in-Ok-Err.ensures.refused) in
-    (code, refused c.in_ok-places.ensures.from code verdict, c.in_ok-line-in-Ok-Err.ensures)
+    let verdict = subst (λ (places : List (Option ℕ)). IsVerdictOf ch.old ch.setting.program (place_in places) c.args.kept.now asked.needs ch.image (Some code))
+    c.deref.ensures.value (rw c.in-Ok-Err.field-0-is at c.in-Ok-Err.ensures.refused) in (
+      code,
+      refused_so ch c.args.own.now c.args.kept.now c.requires.own c.requires.kept asked.needs asked.places.items is.needs is.from code verdict,
+      c.in_ok-line-in-Ok-Err.ensures,
+    )

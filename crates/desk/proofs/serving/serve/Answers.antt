@@ -51,8 +51,8 @@ run_from-requires-clause-prompt g c bytes now h = c.requires.prompt bytes now (�
     let comes = c.in-Ok-later_rules.ensures.later files before_later in
     let before_start = c.in-Ok-later_rules.ensures.files ∙ before_later in
     let from = c.in-Ok-find_start.start in
-    let is = begun c.args.asked files rules has later from c.form_of.result comes
-    (rw c.lent.ensures at (c.in-Ok-find_start.ensures.found files before_start)) c.in-Ok-find_start.ensures.text c.form_of.ensures in
+    let is = begun c.args.asked files rules has later from c.for_answers.result comes
+    (rw c.lent.ensures at (c.in-Ok-find_start.ensures.found files before_start)) c.in-Ok-find_start.ensures.text c.for_answers.ensures in
     subst (λ (w : Wanted). IsPrompt (both g.E.Engine.gives g.E.Engine.fires g.E.Engine.counts g.D.Engine.gives g.D.Engine.fires g.D.Engine.counts) w bytes (g.K.Sink.written c.args.out.now) (g.K.Sink.written now)
     (g.K.Sink.files c.args.out.now) (g.K.Sink.files now)) (sym is) h)
 
@@ -66,8 +66,8 @@ returns-clause-served g c files bytes told script =
     let comes = c.in-Ok-later_rules.ensures.later files before_later in
     let before_start = c.in-Ok-later_rules.ensures.files ∙ before_later in
     let from = c.in-Ok-find_start.start in
-    let is = begun c.args.asked files rules has later from c.form_of.result comes
-    (rw c.lent.ensures at (c.in-Ok-find_start.ensures.found files before_start)) c.in-Ok-find_start.ensures.text c.form_of.ensures in
+    let is = begun c.args.asked files rules has later from c.for_answers.result comes
+    (rw c.lent.ensures at (c.in-Ok-find_start.ensures.found files before_start)) c.in-Ok-find_start.ensures.text c.for_answers.ensures in
     subst (λ (w : Wanted). IsServed (both g.E.Engine.gives g.E.Engine.fires g.E.Engine.counts g.D.Engine.gives g.D.Engine.fires g.D.Engine.counts) w bytes (g.K.Sink.written c.args.out.now) (g.K.Sink.written c.run_from.new.out)
     (g.K.Sink.files c.args.out.now) (g.K.Sink.files c.run_from.new.out) c.run_from.result) (sym is) (rw script at c.run_from.ensures.served)
 
@@ -81,8 +81,8 @@ returns-clause-stopped g c files bytes told script five =
     let comes = c.in-Ok-later_rules.ensures.later files before_later in
     let before_start = c.in-Ok-later_rules.ensures.files ∙ before_later in
     let from = c.in-Ok-find_start.start in
-    let is = begun c.args.asked files rules has later from c.form_of.result comes
-    (rw c.lent.ensures at (c.in-Ok-find_start.ensures.found files before_start)) c.in-Ok-find_start.ensures.text c.form_of.ensures in
+    let is = begun c.args.asked files rules has later from c.for_answers.result comes
+    (rw c.lent.ensures at (c.in-Ok-find_start.ensures.found files before_start)) c.in-Ok-find_start.ensures.text c.for_answers.ensures in
     subst (λ (w : Wanted). IsStopped (both g.E.Engine.gives g.E.Engine.fires g.E.Engine.counts g.D.Engine.gives g.D.Engine.fires g.D.Engine.counts) w bytes (g.S.Source.left c.run_from.new.script) (g.K.Sink.written c.args.out.now)
     (g.K.Sink.written c.run_from.new.out) (g.K.Sink.files c.args.out.now) (g.K.Sink.files c.run_from.new.out)) (sym is)
     (rw script at (c.run_from.ensures.stopped five))
