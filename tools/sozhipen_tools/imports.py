@@ -74,6 +74,12 @@ def names_of(module: tuple[str, ...], items: str) -> Iterator[Name]:
             yield Name(module, part)
 
 
+def imported(text: str) -> Iterator[Name]:
+    """The names that the imports of a file bring in."""
+    for found in filter(None, map(LIST.fullmatch, text.split("\n"))):
+        yield from names_of(tuple(found["path"].split(".")), found["items"])
+
+
 def line_of(word: str, names: list[Name]) -> str:
     top = Module()
     for name in names:

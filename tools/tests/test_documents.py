@@ -149,8 +149,8 @@ HOUSES = {
     "crates/lives/src/lib.rt": "//! Lives.\nuse base::Value;\nuse model::Rule;\n",
     "crates/lives/proofs/All.antt": "a\nb\n",
     "crates/lexer/src/lib.rt": "//! Tokens.\nuse base::Value;\n",
-    "crates/checks/src/lib.rt": "//! Tests.\nuse lexer::lex;\nuse lives::life;\n",
-    "crates/checks/proofs/All.antt": "a\n",
+    "crates/checks/src/lib.rt": "//! Tests.\nuse lives::life;\n",
+    "crates/checks/proofs/All.antt": "use Rattle.{std.specs.Bool.{not}, lexer.specs.Tokens.{is_word}}\n",
 }
 
 

@@ -12,6 +12,7 @@ import re
 import sys
 from typing import Iterator
 
+from ..imports import imported
 from ..words import Parser
 from .tree import Tree
 
@@ -71,6 +72,7 @@ def house_faults(tree: Tree) -> Iterator[str]:
                 yield f"crates.txt: {name} ({here}) cites {other} ({there}), which no crate of its house may"
     for name, crate in tree.crates.items():
         words = {word for file in crate.files.values() for pair in NAMED.findall(file) for word in pair if word}
+        words.update(name.module[1] for file in crate.files.values() for name in imported(file) if name.module[1:])
         yield from (f"crates.txt: no file of {name} names {library}" for library in listed.get(name, ())
                     if library not in words)
 
