@@ -1,11 +1,13 @@
 """Holds the library of faces/c, and the class Desk over it, against the program `desk`, on random rule files and scripts.
 
-    tools/run reference.comparers.library PROGRAM [--seeds A B] [--lives | --share]
+    tools/run reference.comparers.library PROGRAM [--handle LIBRARY] [--seeds A B] [--lives | --share]
 
 Files and scripts are those of reference.comparers.desk, with lines that only a desk knows, in parts that go on from the
 image of the one before. The program runs over each part. The library gets it in random pieces, in JSON and in text, and
 the class line by line. Output, status and image have to be the program's, byte for byte. SOZHIPEN_LIBRARY names the
-library. The status is 0 where all was as it has to be, 1 where it was not.
+library. With --handle LIBRARY the calls of crates/desk_c are held against the program in its place, over the same
+scripts without the lines that save, since a handle has no file for an image. The status is 0 where all was as it has
+to be, 1 where it was not.
 """
 
 from __future__ import annotations
@@ -13,6 +15,7 @@ from __future__ import annotations
 import subprocess
 import sys
 import tempfile
+from ctypes import CDLL
 from dataclasses import replace
 from pathlib import Path
 from random import Random
@@ -20,6 +23,7 @@ from typing import Iterator, Optional
 
 from sozhipen.answers import Answer as DeskLine, Ended
 from sozhipen.desk import Desk, DeskAnswer
+from sozhipen.handle import HandleEngine, calls_of
 from sozhipen.library import GOES, Engine
 
 from ...words import Parser
@@ -54,6 +58,28 @@ def by_library(a: Asked, rng: Random) -> Iterator[Answer]:
         image = engine.save() if status <= 1 else image
         engine.close()
         yield Answer(told, status, image)
+
+
+def by_handle(a: Asked, calls: CDLL, rng: Random) -> Iterator[Answer]:
+    """What the calls of crates/desk_c answer to each part, which they get in pieces."""
+    image: Optional[bytes] = None
+    for part in a.parts:
+        engine, at, told = HandleEngine(calls, a.case.rules, a.limit or 0, image, a.as_text), 0, b""
+        while at < len(part) and engine.status == GOES:
+            size = rng.choice(PIECES)
+            engine.feed(part[at:at + size])
+            told, at = told + engine.output(), at + size
+        status = engine.end()
+        told += engine.output()
+        image = engine.save() if status <= 1 else image
+        engine.close()
+        yield Answer(told, status, image)
+
+
+def without_saves(a: Asked) -> Asked:
+    """The same without the lines that save."""
+    return replace(a, parts=[b"".join(line for line in part.splitlines(keepends=True) if b"save" not in line)
+                             for part in a.parts])
 
 
 def raw(answers: list[DeskLine]) -> bytes:
@@ -93,6 +119,7 @@ def differs(a: Asked, wanted: list[Answer], found: list[Answer], who: str) -> bo
 def main() -> int:
     parser = Parser(description="Holds the library and the class Desk against the program desk.")
     parser.add_argument("program", metavar="PROGRAM")
+    parser.add_argument("--handle", metavar="LIBRARY", type=calls_of, help="the shared library of crates/desk_c")
     parser.add_argument("--seeds", nargs=2, type=int, metavar=("A", "B"), default=(0, 100), help="from A, below B")
     parser.add_argument("--lives", action="store_true", help="files whose events have finite lives")
     parser.add_argument("--share", action="store_true", help="files whose rules share conditions")
@@ -103,9 +130,13 @@ def main() -> int:
         case, rng = case_of(seed), Random(f"library/{seed}")
         for as_text in (False, True):
             a = replace(asked_of(case, seed, as_text, False, False), has_image=True)
+            a = without_saves(a) if asked.handle else a
             wanted = list(by_program(a, program))
-            wrong += differs(a, wanted, list(by_library(a, rng)), f"seed {seed}: the library")
-            if not as_text:
+            if asked.handle:
+                wrong += differs(a, wanted, list(by_handle(a, asked.handle, rng)), f"seed {seed}: the handle")
+            else:
+                wrong += differs(a, wanted, list(by_library(a, rng)), f"seed {seed}: the library")
+            if not as_text and not asked.handle:
                 wrong += differs(a, wanted, list(by_class(a)), f"seed {seed}: the class")
             parts += len(a.parts)
     print(f"{asked.seeds[1] - asked.seeds[0]} files and scripts, {parts} runs, of which {wrong} are others")
