@@ -1,8 +1,8 @@
 -- What a desk comes to that is fed with more, or that puts out what waits.
 use Rattle.std.proofs.Common.{◌≡◌, ◌++◌, ℕ, true, false, List, [], Option, Some, None, Result, Ok, Err, sym, ap, subst, ◌∙◌, append_assoc}
 use Rattle.{std.specs.Prelude.{IfSome, if◌then◌else◌, is_err, is_ok, option_map}, rule_world.specs.Worlds.{World}, line_run.specs.Run.{RunState, Steps}}
-use Rattle.{line_feed.specs.{Fed.{Feeds, HasFed}, declared.fed.Fed.{Fed}}, script_run.specs.Live.{LiveSetting, live_step}, fed_desk.specs.Runs.{FedCourse, FollowsCourse}}
-use Rattle.fed_desk.specs.{Runs.{fed_stands}, declared.{lines.Lines.{Lines}, running.Running.{Running}}}
+use Rattle.{line_feed.specs.{Fed.{Feeds, HasFed}, declared.fed.Fed.{Fed}}, script_run.specs.Live.{LiveSetting, live_step}, fed_desk.specs.Runs.{FedCourse}}
+use Rattle.fed_desk.specs.{Runs.{FollowsCourse, fed_stands}, declared.{lines.Lines.{Lines}, running.Running.{Running}}}
 
 -- with more bytes, whose lines print these news behind what waits
 fed_more : {T : Type 0} (stands : T → World → Type 0) (steps steps' : Steps) (more : List ℕ) (before : Fed T) (after : Option (Fed T)) (news text text' : List ℕ)

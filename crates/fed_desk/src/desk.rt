@@ -1,5 +1,5 @@
 //! A desk, and what is fed to it and put out of it.
-ghost use Rattle.std.specs.Prelude.{◌≡◌, ◌+◌, ◌++◌, ◌<◌, ◌≤◌, ℕ, length, take, drop, min, List, None, Some, IfOk, IfSome, IsErrOf, is_some, option_map};
+ghost use Rattle.std.specs.Prelude.{◌≡◌, ◌+◌, ◌++◌, ◌<◌, ◌≤◌, ℕ, true, length, take, drop, min, List, None, Some, IfOk, IfSome, IsErrOf, is_some, option_map};
 ghost use Rattle.line_feed.specs.Fed.{Feeds};
 ghost use Rattle.script_run.specs.Doors.{engine_of};
 ghost use Rattle.script_run.specs.Live.{live_step};
