@@ -1,10 +1,11 @@
 -- A run by the lives by which it goes, from what is done by a table.
-use Rattle.{std.{proofs.Common.{◌≡◌, ◌⊎◌, ◌≤◌, ℕ, List, Option, None, Some, Result, Ok, Err, refl, sym, subst}, specs.Prelude.{IfErr, IfSome}}, fx_io.specs.Outside.{append, AppendsFront}}
-use Rattle.{replay.specs.{declared.beginning.Beginning.{Beginning}, Wanted.{Files}}, rule_model.specs.declared.{life.LifeTable.{LifeTable}, program.Program.{Program}}}
-use Rattle.desk.specs.{declared.going.{Bar.{Bar, TheVariants.{Line, NoMemory}}, Found.{Found}, Inferred.{Inferred}}, Bars.{IsBarOf, IsBarWith, IsFoundOf}}
-use Rattle.desk.specs.{declared.{live.Live.{Live}, wanted.{Begun.{Begun}, Changing.{Changing}}}, Changes.{Changed, begun_over}, Going.{AreInferred, IsBarred, IsTold, MayGoBy}}
-use Rattle.desk.specs.{Meanings.{Meanings}, Report.{GoesBy, IsGoing, IsKeptOut, IsPromptBy, IsPromptRun, IsSaid, IsStoppedBy, IsStoppedRun, LivesBy, live_in}}
-use Rattle.desk.specs.Report.{table_by}
+use Rattle.std.{proofs.Common.{◌≡◌, ◌⊎◌, ◌≤◌, ℕ, List, Option, None, Some, Result, Ok, Err, refl, sym, subst}, specs.Prelude.{IfErr, IfSome}}
+use Rattle.{fx_io.specs.Outside.{append, AppendsFront}, replay.specs.{declared.beginning.Beginning.{Beginning}, Wanted.{Files}}}
+use Rattle.{rule_model.specs.declared.{life.LifeTable.{LifeTable}, program.Program.{Program}}, desk.specs.declared.going.Bar.{Bar, TheVariants.{Line}}}
+use Rattle.desk.specs.{declared.going.{Bar.TheVariants.{NoMemory}, Found.{Found}, Inferred.{Inferred}}, Bars.{IsBarOf, IsBarWith, IsFoundOf}}
+use Rattle.desk.specs.{declared.{live.Live.{Live}, wanted.{Begun.{Begun}, Changing.{Changing}}}, Changes.{Changed, begun_over}, Going.{AreInferred, IsBarred}}
+use Rattle.desk.specs.{Going.{IsTold, MayGoBy}, Meanings.{Meanings}, Report.{GoesBy, IsGoing, IsKeptOut, IsPromptBy, IsPromptRun, IsSaid, IsStoppedBy}}
+use Rattle.desk.specs.Report.{IsStoppedRun, LivesBy, live_in, table_by}
 
 pub for_all : {A : Type 0} {P : A → Type 0} (o : Option A) → ((x : A) → P x) → IfSome o P
 for_all None h = tt
@@ -33,11 +34,11 @@ goes_on_by b found on = (
   found.told,
   record {
     inferred_so = on.1;
-    told_so = subst (λ (t : LifeTable). IsTold on.0.own t found.told) on.2 on.3;
-    may_go = subst (MayGoBy b.setting.program on.0) on.2 on.4;
+    told_so = subst (λ (t : LifeTable). IsTold on.0.own t found.told) on.2.0 on.2.1;
+    may_go = subst (MayGoBy b.setting.program on.0) on.2.0 on.2.2;
   },
   refl,
-  on.2,
+  on.2.0,
 )
 
 module _ (m : Meanings) (b : Begun) (live : Live) (table : LifeTable) (on : GoesOn b live table) where

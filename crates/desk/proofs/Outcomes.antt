@@ -22,6 +22,14 @@ module _ (c : Changing) (own kept : LifeTable) (are_old : AreLives c.old own) (i
     inr (subst NoneFits is_kept (λ places names others w of fits. none places names others of.safe fits)),
   )
 
+  -- no network of them has a row that the image names
+  pub rowless : (Fits c.old kept c.image → (w : World) → IsWorldOf c.old kept c.image w → ⊥) → IsUnfit c
+  rowless none = (
+    own,
+    are_old,
+    inr (subst NoneFits is_kept (λ places names others w of fits. none fits w of)),
+  )
+
   module _ (needs : LifeTable) (places : List (Option ℕ)) (are_needs : AreLives c.setting.program needs)
       (are_from : AreFrom c.old c.setting.program (place_in places)) where
     abbrev known : Known c

@@ -2,9 +2,9 @@
 use Rattle.std.specs.Prelude.{◌≡◌, Option}
 use Rattle.change_rules.specs.Staying.{place_in}
 use Rattle.desk.specs.declared.{changing.{Asked.{Asked}, Outcome.{Outcome, TheVariants.{Taken, Refused, Unfit}}}, going.Bar.{Bar, TheVariants.{Line, NoMemory}}}
-use Rattle.desk.specs.declared.{going.{Found.{Found}, Inferred.{Inferred}}, wanted.{Begun.{Begun}, Changing.{Changing}, Setting.{Setting}}}
-use Rattle.desk.specs.{Changes.{Changed, IsRefusedOver, IsUnfit, begun_over}, Going.{AreInferred, IsBarred, IsTold, MayGoBy, change_text, table_in}, Meanings.{is_text}}
-use Rattle.life_meaning.specs.Tables.{AreLives}
+use Rattle.desk.specs.{declared.{going.{Found.{Found}, Inferred.{Inferred}}, wanted.{Begun.{Begun}, Changing.{Changing}, Setting.{Setting}}}, Changes.{Changed}}
+use Rattle.desk.specs.{Changes.{IsRefusedOver, IsUnfit, begun_over}, Going.{AreInferred, IsBarred, IsTold, MayGoBy, change_text, table_in}, Meanings.{is_text}}
+use Rattle.life_meaning.specs.Tables.{AreLives, IsSafeTable}
 use Rattle.replay.specs.declared.beginning.Beginning.{Beginning}
 use Rattle.rule_change.specs.{declared.code.ChangeCode.{ChangeCode}, Changed.{AreFrom}, Told.{rules_told}}
 use Rattle.rule_lines.specs.Told.{told_lines}
@@ -35,6 +35,7 @@ IsBar b bar = IsBarOf b.setting.program b.setting.later b.beginning b.lives bar
 -- what is asked of the rules of a run over the worlds of an image of these old ones
 pub record IsAsked (setting : Setting) (old : Program) (asked : Asked) : Type 0 where
   pub needs : AreLives setting.program asked.needs
+  pub safe : IsSafeTable setting.program asked.needs
   pub from : AreFrom old setting.program (place_in asked.places.items)
   pub told : asked.told.items ≡ told_lines (is_text setting.form) (rules_told old setting.program (place_in asked.places.items))
 

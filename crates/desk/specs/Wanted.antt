@@ -1,6 +1,6 @@
 -- What the words of a desk, its rule file and its image ask for.
-use Rattle.std.specs.{Prelude.{ℕ, ◌++◌, Bool, true, false, List, [], ◌∷◌, length, nat_lt, Option, Some, None, codes, if◌then◌else◌}, Str.{bytes_eq}}
-use Rattle.std.proofs.Common.{String, Global}
+use Rattle.std.{specs.{Prelude.{ℕ, ◌++◌, List, [], ◌∷◌, length, nat_lt, Option, Some, None, codes, if◌then◌else◌}, Str.{bytes_eq}}, proofs.Common.{String}}
+use Rattle.std.proofs.Common.{Global}
 use Rattle.command_words.specs.{declared.desk.{DeskAsked.{DeskAsked}, DeskWords.{DeskWords, TheVariants.{Run, Help, Version}}}, Desk.{desk_by}}
 use Rattle.drl_names.specs.declared.rule_names.RuleNames.{RuleNames}
 use Rattle.checkpoint.specs.declared.image.Image.{Image}

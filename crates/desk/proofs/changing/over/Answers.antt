@@ -1,5 +1,5 @@
-use Rattle.{std.proofs.Common.{ℕ, List, Option, Some, subst}, change_rules.specs.Staying.{place_in}, image_making.specs.Change.{IsVerdictOf}}
-use Rattle.desk.proofs.Outcomes.{refused_so, taken_so}
+use Rattle.{std.proofs.Common.{Err, ℕ, List, Option, Some, ap, subst}, change_rules.specs.Staying.{place_in}, image_making.specs.Change.{IsVerdictOf}}
+use Rattle.desk.proofs.Outcomes.{rowless, refused_so, taken_so}
 use Rattle.desk.proofs.changing.over.Goals as goal
 
 pub returns-in-Ok-Ok : goal.returns-in-Ok-Ok
@@ -22,3 +22,10 @@ returns-in-Ok-Err c =
       refused_so ch c.args.own.now c.args.kept.now c.requires.own c.requires.kept asked.needs asked.places.items is.needs is.from code verdict,
       c.in_ok-line-in-Ok-Err.ensures,
     )
+
+pub returns-in-Err-NoRow : goal.returns-in-Err-NoRow
+returns-in-Err-NoRow c =
+    let ch = c.args.changing in
+    let asked = c.in_ok-asked.ensures in
+    rowless ch c.args.own.now c.args.kept.now c.requires.own c.requires.kept (λ fits w of.
+    c.in-Err-NoRow.ensures.no_row (ap Err c.in-Err-NoRow.field-0-is) fits asked.needs asked.safe.short w of)
