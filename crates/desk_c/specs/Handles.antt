@@ -6,8 +6,8 @@ use Rattle.script_run.specs.Live.{LiveSetting, most_firings}
 use Rattle.answer_lines.specs.declared.lines.Detail.TheVariants.{Full}
 use Rattle.session.specs.{Sessions.{StandsInBrief, StandsInFull}, declared.{session.Session.{Session}, detailed.DetailedSession.{DetailedSession}}}
 use Rattle.session_model.specs.{Counts.{held_counts}, Gives.{fires, fires_in, gives, gives_in}}
-use Rattle.fed_desk.specs.{Openings.{RefusesRules, IsOpen, RefusesImage, live_of}, Runs.{ComesTo, FedCourse, HasCome, Tells, fed_setting}}
-use Rattle.fed_desk.specs.declared.{lines.Lines.{Lines}, opening.Options.{Options}}
+use Rattle.fed_desk.specs.{Openings.{IsOpen, live_of}, Runs.{ComesTo, FedCourse, HasCome, Tells, fed_setting}, declared.lines.Lines.{Lines}}
+use Rattle.fed_desk.specs.declared.opening.Options.{Options}
 use Rattle.desk_c.specs.declared.{counts.Counts.{Counts}, state.AnyDesk.{AnyDesk, TheVariants.{Text, Objects}}}
 
 -- ---- the desk behind a handle, with the engine for the form of its answers

@@ -1,33 +1,17 @@
 -- The pointer goes from the one struct to the other, with what it owns.
-use Rattle.std.proofs.Common.{◌≡◌, List, [], ◌∷◌, ◌++◌, refl, sym, subst}
+use Rattle.std.proofs.{Common.{◌≡◌, List, [], ◌∷◌, ◌++◌, refl, sym, subst}, raw_atomic.Walks.{proved_at, leaves}}
 use mir.Val.{Val}
 use base.Logic.{SProp, ent, emp, id⊢}
-use base.Fml.{ftrue}
 use prog.Wp.{WpFn}
-use types.Kit.{‵, raw, ◌⊛◌, ◌$◌, ◌∵◌, !, qed, by, move, keep, split, fsplit, fjoin, fpack, feq_i, suffices, use0}
-use types.Run.{stop, fld, of_opd, no_more, and_then, returns, enter}
-use types.ByLocal.{alloc_all, pass_all, free_all, look_at, get, get_in, sets}
-use types.Part.{agg, sub, whole}
-use contract.Monad.{fact, fact_i}
-use contract.Running.{tables}
-use denote.Exit.{yes}
-use denote.RattleType.{RattleType, Valss, owns}
-use denote.Builtin.{RawPtr}
-use denote.RawPtr.{ptr_val}
-use denote.Signature.{types_at, plain}
-use denote.Steps.{nothing}
-use denote.Struct.Struct.{within}
-use denote.Struct.Owning.{shape}
-use denote.Triple.Entry.{alive}
-use denote.Triple.Walked.{Stays, stay_dropped, walk_of, Goes-dropped}
-use Rattle.std.proofs.raw_atomic.Walks.{proved_at, leaves}
+use types.{Kit.{‵, raw, ◌⊛◌, ◌$◌, ◌∵◌, !, qed, by, move, keep, split, fsplit, fjoin, fpack, feq_i, suffices, use0}, Run.{stop, fld, of_opd, no_more, and_then}}
+use types.{Run.{returns, enter}, ByLocal.{alloc_all, pass_all, free_all, look_at, get, get_in, sets}, Part.{agg, sub, whole}}
+use contract.{Monad.{fact, fact_i}, Running.{tables}}
+use denote.{Exit.{yes}, RattleType.{RattleType, Valss, owns}, Builtin.{RawPtr}, RawPtr.{ptr_val}, Signature.{types_at, plain}, Steps.{nothing}}
+use denote.{Struct.{Struct.{within}, Owning.{shape}}, Triple.{Entry.{alive}, Walked.{Stays, stay_dropped, walk_of, Goes-dropped}}}
 use Rattle.c_handle.specs.contracts.held.Held as held
-use Rattle.c_handle.proofs.Values.{alone, alone_good, pointer_good, held_out}
-use Rattle.desk_c.specs.contracts.state.State.{the_row as R}
+use Rattle.{c_handle.proofs.Values.{alone, alone_good, pointer_good, held_out}, desk_c.specs.contracts.state.State.{the_row as R}}
 use Rattle.desk_c.specs.contracts.handle.Handle as handle
-use Rattle.desk_c.specs.contracts.handle.hidden.{ended, clauses}
-use Rattle.desk_c.specs.contracts.handle.hidden.Key.{name as #self}
-use Rattle.desk_c.proofs.handle.hidden.Statement.{statement}
+use Rattle.desk_c.{specs.contracts.handle.hidden.{ended, clauses, Key.{name as #self}}, proofs.handle.hidden.Statement.{statement}}
 use Rattle.desk_c.proofs.handle.hidden.Code as code
 
 pub hidden_spec : {M : Type 1} → statement M

@@ -1,33 +1,17 @@
 -- The pointer goes from the one struct to the other, with what it owns.
-use Rattle.std.proofs.Common.{◌≡◌, List, [], ◌∷◌, ◌++◌, refl, sym, subst}
+use Rattle.std.proofs.{Common.{◌≡◌, List, [], ◌∷◌, ◌++◌, refl, sym, subst}, raw_atomic.Walks.{proved_at, leaves}}
 use mir.Val.{Val, vstruct, of_list}
 use base.Logic.{SProp, ent, emp, id⊢}
-use base.Fml.{ftrue}
 use prog.Wp.{WpFn}
-use types.Kit.{‵, raw, ◌⊛◌, ◌$◌, ◌∵◌, !, qed, by, move, keep, drop, split, fsplit, fjoin, fpick, feq_l, suffices, use0}
-use types.Run.{stop, fld, of_opd, no_more, and_then, returns, enter}
-use types.ByLocal.{alloc_all, pass_all, free_all, look_at, get, get_in, sets}
-use types.Part.{agg, sub, whole}
-use contract.Monad.{fact, fact_i}
-use contract.Running.{tables}
-use denote.Exit.{yes}
-use denote.RattleType.{RattleType, Valss, owns}
-use denote.Builtin.{RawPtr}
-use denote.RawPtr.{ptr_val}
-use denote.Signature.{types_at, plain}
-use denote.Steps.{nothing}
-use denote.Struct.Struct.{within}
-use denote.Struct.Owning.{shape}
-use denote.Triple.Entry.{alive}
-use denote.Triple.Walked.{Stays, stay_dropped, walk_of, Goes-dropped}
-use Rattle.std.proofs.raw_atomic.Walks.{proved_at, leaves}
+use types.{Kit.{‵, raw, ◌⊛◌, ◌$◌, ◌∵◌, !, qed, by, move, keep, drop, split, fsplit, fjoin, fpick, feq_l, suffices, use0}, Run.{stop, fld, of_opd, no_more}}
+use types.{Run.{and_then, returns, enter}, ByLocal.{alloc_all, pass_all, free_all, look_at, get, get_in, sets}, Part.{agg, sub, whole}}
+use contract.{Monad.{fact, fact_i}, Running.{tables}}
+use denote.{Exit.{yes}, RattleType.{RattleType, owns}, RawPtr.{ptr_val}, Signature.{types_at, plain}, Steps.{nothing}, Triple.{Entry.{alive}, Walked.{Stays}}}
+use denote.Triple.Walked.{stay_dropped, walk_of, Goes-dropped}
 use Rattle.c_handle.specs.contracts.held.Held as held
-use Rattle.c_handle.proofs.Values.{alone, alone_good, pointer_good, held_in}
-use Rattle.desk_c.specs.contracts.state.State.{the_row as R}
+use Rattle.{c_handle.proofs.Values.{alone, alone_good, pointer_good, held_in}, desk_c.specs.contracts.state.State.{the_row as R}}
 use Rattle.desk_c.specs.contracts.handle.Handle as handle
-use Rattle.desk_c.specs.contracts.handle.shown.{ended, clauses}
-use Rattle.desk_c.specs.contracts.handle.shown.Key.{name as #self}
-use Rattle.desk_c.proofs.handle.shown.Statement.{statement}
+use Rattle.desk_c.{specs.contracts.handle.shown.{ended, clauses, Key.{name as #self}}, proofs.handle.shown.Statement.{statement}}
 use Rattle.desk_c.proofs.handle.shown.Code as code
 
 pub shown_spec : {M : Type 1} → statement M
