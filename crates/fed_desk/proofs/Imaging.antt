@@ -4,7 +4,7 @@ use Rattle.{checkpoint.specs.declared.image.{Image.{Image}, RunPart.{RunPart}}, 
 use Rattle.{rule_model.specs.declared.{life.LifeTable.{LifeTable}, program.Program.{Program}}, line_feed.specs.{Fed.{HasFed, IsAt}, declared.fed.Fed.{Fed}}}
 use Rattle.{line_run.specs.{Parts.{run_part_at}, Run.{RunState}, declared.turn.Progress.{Progress}}, script_run.specs.{Doors.{engine_of}, Firings.{Counts}}}
 use Rattle.{script_run.specs.{Firings.{Fires, Gives}, Live.{live_step, most_firings}}, fed_desk.specs.Runs.{ComesTo, FedCourse, FollowsCourse, fed_setting}}
-use Rattle.fed_desk.specs.{Runs.{fed_stands}, declared.{lines.Lines.{Lines}, running.Running.{Running}}}
+use Rattle.fed_desk.specs.{Runs.{fed_stands}, declared.{running.Running.{Running}}}
 
 -- what is known of an answer, together
 pub all_ok : {T E : Type 0} (r : Result T E) (A B : T → Type 0) (C : Type 0) → IfOk r A → IfOk r B → OnOk r C → IfOk r (λ x. A x × B x × C)

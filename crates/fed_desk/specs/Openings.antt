@@ -1,5 +1,5 @@
 -- How a desk is opened over the bytes of a rule file, and of an image, where one is given.
-use Rattle.std.specs.Prelude.{◌≡◌, ◌⊎◌, ℕ, Bool, true, false, List, [], Option, Some, None, is_some}
+use Rattle.std.specs.Prelude.{◌≡◌, ◌⊎◌, ℕ, true, false, List, [], Option, Some, None, is_some}
 use Rattle.life_meaning.specs.Tables.{AreLives}
 use Rattle.rule_model.specs.declared.{life.LifeTable.{LifeTable}, program.Program.{Program}}
 use Rattle.rule_world.specs.Worlds.{World}
