@@ -4,6 +4,7 @@ use Rattle.engine.specs.declared.world_counts.WorldCounts.{WorldCounts}
 use Rattle.line_run.specs.{Run.{RunState}, declared.turn.Progress.{Progress}}
 use Rattle.script_run.specs.Live.{LiveSetting, most_firings}
 use Rattle.answer_lines.specs.declared.lines.Detail.TheVariants.{Full}
+use Rattle.session.specs.contracts.{session.SessionEngine.TheImpl.{ghosts as brief}, detailed.DetailedSessionEngine.TheImpl.{ghosts as detailed}}
 use Rattle.session.specs.{Sessions.{StandsInBrief, StandsInFull}, declared.{session.Session.{Session}, detailed.DetailedSession.{DetailedSession}}}
 use Rattle.session_model.specs.{Counts.{held_counts}, Gives.{fires, fires_in, gives, gives_in}}
 use Rattle.fed_desk.specs.{Openings.{IsOpen, live_of}, Runs.{ComesTo, FedCourse, HasCome, Tells, fed_setting}, declared.lines.Lines.{Lines}}
@@ -13,10 +14,10 @@ use Rattle.desk_c.specs.declared.{counts.Counts.{Counts}, state.AnyDesk.{AnyDesk
 -- ---- the desk behind a handle, with the engine for the form of its answers
 
 abbrev pub text_setting : Lines Session → LiveSetting
-text_setting = fed_setting gives fires held_counts (λ s. s.setting.program) (λ s. s.setting.lives)
+text_setting = fed_setting gives fires held_counts brief.made_with brief.table
 
 abbrev pub objects_setting : Lines DetailedSession → LiveSetting
-objects_setting = fed_setting (gives_in Full) (fires_in Full) held_counts (λ s. s.inside.setting.program) (λ s. s.inside.setting.lives)
+objects_setting = fed_setting (gives_in Full) (fires_in Full) held_counts detailed.made_with detailed.table
 
 -- These bytes were fed, and these were put out, as `HasCome` of `fed_desk` says it.
 abbrev pub HasComeBy : FedCourse → List ℕ → List ℕ → AnyDesk → Type 0
