@@ -3,11 +3,12 @@
 #
 #     faces/desk_c/test.sh crates/desk_c/out/libdesk_c.a crates/desk_main/out/desk_main
 #
+# It is linked with the kit's three functions over malloc, realloc and free, which stand beside `rt doc` in c/liblibc_c.a.
 # All tests run under valgrind where that is on the machine, but for the one that refuses each call for memory, of which valgrind looks at some.
 set -e
 here=$(cd "$(dirname -- "$0")" && pwd)
 examples=$here/../../examples
-library=$1 program=$2
+library=$1 program=$2 heap=$(dirname "$(rt doc)")/c/liblibc_c.a
 work=$(mktemp -d)
 trap 'rm -rf "$work"' EXIT
 for rules in "$examples"/*.drl; do
@@ -19,8 +20,8 @@ wraps=
 for name in malloc realloc free; do
     wraps="$wraps -Wl,--wrap=$name"
 done
-${CC:-cc} -std=gnu11 -O2 -g -Wall -Wextra -Werror -I"$here" -o "$work/test_desk_c" "$here/tests/test_desk_c.c" "$library" -pthread -lm $wraps
-${CC:-cc} -Wall -Wextra -Werror -I"$here" -o "$work/example" "$here/example.c" "$library" -lm
+${CC:-cc} -std=gnu11 -O2 -g -Wall -Wextra -Werror -I"$here" -o "$work/test_desk_c" "$here/tests/test_desk_c.c" "$library" "$heap" -pthread -lm $wraps
+${CC:-cc} -Wall -Wextra -Werror -I"$here" -o "$work/example" "$here/example.c" "$library" "$heap" -lm
 "$work/example" | cmp - "$here/example.out"
 looks=
 if command -v valgrind > /dev/null; then

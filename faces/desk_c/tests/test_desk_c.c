@@ -124,7 +124,10 @@ static struct example example(const char *name, uint32_t form)
 {
     const char *end = form == SZP_TEXT ? "text" : "objects";
     struct text none = {0};
-    return (struct example){file(examples, name, "drl"), file(examples, name, "jsonl"), file(expected, name, end), none, form};
+    struct example it = {file(examples, name, "drl"), file(examples, name, "jsonl"), file(expected, name, end), none, form};
+    if (it.script.at[it.script.len - 1] != '\n') /* the program takes the last line at the end of its input, a handle with its newline */
+        add(&it.script, "\n", 1);
+    return it;
 }
 
 static void gone_example(struct example *it) { gone(&it->rules), gone(&it->script), gone(&it->wanted), gone(&it->image); }
