@@ -27,7 +27,7 @@ from .tree import Tree
 LIMITS = {"README": 775, "RULES": 5300, "LIVES": 2250, "SCRIPT": 2690, "LIVE": 3810, "OPERATING": 1400,
           "EXAMPLES": 2500, "COMING-FROM": 2840, "TOOLS": 1530, "RECIPES": 700, "PROVED": 6145, "MAP": 4445,
           "DECISIONS": 3420, "PERFORMANCE": 2700, "CHANGING": 2760, "PROOF-NOTES": 3400, "DESK": 1160,
-          "SCALING": 1660, "EMBEDDING": 1290, "CHANGING-RULES": 1400}
+          "SCALING": 1660, "EMBEDDING": 1330, "CHANGING-RULES": 1400}
 ALL_WORDS = 51_900
 LONG = 40
 # Pages that speak of the code alone: a name of code that stands nowhere is a fault there.
